@@ -1,0 +1,1 @@
+// The integers: no code, only definitions (specs/) and laws (proofs/) that other crates cite.

@@ -1,0 +1,5 @@
+pub mod Sigma
+pub mod Order
+pub mod Diagonal
+pub mod Scale
+pub mod Value

@@ -1,0 +1,4 @@
+pub mod Sigma
+pub mod Order
+pub mod Scale
+pub mod Polar
