@@ -1,2 +1,4 @@
 pub mod Form
 pub mod Polar
+pub mod Places
+pub mod Listed

@@ -1,0 +1,72 @@
+-- Demand 3: along the list, the net is always the net over the comparison machine's frame, by the agreement at each single call.
+use Prim.Native.Nat.{ℕ, suc}
+use mathlib.Core.Path.{_≡_, refl, sym, ap, ap₂, _∙_, subst}
+use mathlib.Core.List.{List, [], _∷_, map}
+use lib.IntN.{ℤ}
+use lib.ListN.{length}
+use Rattle.integers.specs.Sum.{upto}
+use Rattle.integers.proofs.Sums.{length-upto}
+use Rattle.machine.specs.Kinds.{further, known, unless, firstOf}
+use Rattle.machine.specs.Nets.{stepOf}
+use Rattle.machine.specs.Comparison.{Polynomials, Frame, machineStep, netOver}
+use Rattle.machine.specs.Lists.{netAfter, netAnswers, frameAfter, machineAnswers}
+use Rattle.machine.specs.First.{frameOf, frameIn, coefficientsIn, netIn, firstRefusal, firstBy, firstOver}
+use Rattle.machine.specs.Demand3.{start, startFrame, EveryList, SameFrame}
+use Rattle.machine.specs.declared.Call.{Call}
+use Rattle.machine.proofs.All.{first-none, unless-none}
+use Rattle.machine.proofs.Over.{Reached, call-agrees}
+
+-- ---- along a list
+
+nets-agree : (f : Polynomials) (frame : Frame) → Reached f frame → (calls : List Call) → netAfter (netOver f frame) calls ≡ netOver f (frameAfter f frame calls)
+unfolding netAfter frameAfter
+nets-agree f frame at [] = refl
+nets-agree f frame at (c ∷ cs) =
+    let a = call-agrees f frame at c in
+    ap (λ n. netAfter n cs) (a .nets) ∙ nets-agree f (machineStep f frame c .frame) (a .reached) cs
+
+answers-agree : (f : Polynomials) (frame : Frame) → Reached f frame → (calls : List Call) → netAnswers (netOver f frame) calls ≡ machineAnswers f frame calls
+unfolding netAnswers machineAnswers
+answers-agree f frame at [] = refl
+answers-agree f frame at (c ∷ cs) =
+    let a = call-agrees f frame at c in
+    ap₂ _∷_ (a .answers) (ap (λ n. netAnswers n cs) (a .nets) ∙ answers-agree f (machineStep f frame c .frame) (a .reached) cs)
+
+-- ---- the start
+
+length-map : {A B : Type 0} (g : A → B) (xs : List A) → length (map g xs) ≡ length xs
+length-map g [] = refl
+length-map g (x ∷ xs) = ap suc (length-map g xs)
+
+module _ (f : Polynomials) (numbers : List ℤ) (ok : firstRefusal f numbers ≡ 0) where
+  start-is : start f numbers ≡ netOver f (startFrame f numbers)
+  unfolding firstOver firstBy
+  start-is = ap (λ k. firstBy k f numbers .net) ok
+
+  start-reached : Reached f (startFrame f numbers)
+  unfolding frameOf firstRefusal
+  start-reached =
+      let d = suc (further (f .kind)) in
+      let one = first-none (unless (known (f .kind) (f .degree)) 4) (firstOf (unless (frameIn d numbers) 5) (firstOf (unless (coefficientsIn f) 6) (unless (netIn (netOver f (frameOf d numbers))) 7))) ok in
+      let two = first-none (unless (frameIn d numbers) 5) (firstOf (unless (coefficientsIn f) 6) (unless (netIn (netOver f (frameOf d numbers))) 7)) (one .1) in
+      let three = first-none (unless (coefficientsIn f) 6) (unless (netIn (netOver f (frameOf d numbers))) 7) (two .1) in
+      record {
+        long = length-map _ (upto d) ∙ length-upto d;
+        right = unless-none (known (f .kind) (f .degree)) 3 (one .0);
+        fits = unless-none (netIn (netOver f (frameOf d numbers))) 6 (three .1);
+      }
+
+-- ---- the theorem
+
+pub every-list : EveryList
+every-list f numbers ok calls = (
+  ap (λ n. netAfter n calls) (start-is f numbers ok) ∙ nets-agree f (startFrame f numbers) (start-reached f numbers ok) calls,
+  ap (λ n. netAnswers n calls) (start-is f numbers ok) ∙ answers-agree f (startFrame f numbers) (start-reached f numbers ok) calls,
+)
+
+pub same-frame : SameFrame
+same-frame f numbers ok one other reached =
+    (equal, λ more. ap (λ n. netAnswers n more) equal)
+  where
+    equal : netAfter (start f numbers) one ≡ netAfter (start f numbers) other
+    equal = every-list f numbers ok one .0 ∙ ap (netOver f) reached ∙ sym (every-list f numbers ok other .0)

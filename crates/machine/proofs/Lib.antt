@@ -1,0 +1,4 @@
+pub mod All
+pub mod Over
+pub mod Demand3
+pub mod Samples

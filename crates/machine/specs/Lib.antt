@@ -1,0 +1,10 @@
+pub mod Kinds
+pub mod Calls
+pub mod Sizes
+pub mod Nets
+pub mod Comparison
+pub mod Lists
+pub mod First
+pub mod Demand3
+pub mod Answers
+pub mod Samples

@@ -1,0 +1,64 @@
+-- `divisor` meets its contract: the greatest common divisor of y and z stands for both (`gcd-cons`), and it is no larger than the numbers, so it fits.
+use mathlib.Core.Path.{_≡_, sym, ap, _∙_, subst}
+use mathlib.Core.List.{[], _∷_}
+use borrow.Author.Needs.{needs}
+use Prim.Native.Nat.{ℕ}
+use lib.IntN.{pos, natAbs}
+use mir.Syntax.{w64}
+use mir.Val.{SFits}
+use Rattle.projection.specs.Gcd.{gcd}
+use Rattle.projection.specs.Projection.{limit, gcdOf}
+use Rattle.projection.proofs.Gcd.{gcd-cons, gcd-up-to}
+use Rattle.projection.proofs.Signed.{read-back, in-range-fits}
+use Rattle.projection.proofs.divisor.Statement.{statement}
+use Rattle.projection.proofs.divisor.Tie as tie
+
+magnitude-requires : tie.Need-magnitude-requires
+magnitude-requires c κs = search needs
+
+magnitude-requires-2 : tie.Need-magnitude-requires-2
+magnitude-requires-2 c κs = search needs
+
+gcd-of-two-requires : tie.Need-gcd-of-two-requires
+gcd-of-two-requires c κs = search needs
+
+magnitude-requires-3 : tie.Need-magnitude-requires-3
+magnitude-requires-3 c κs = search needs
+
+gcd-of-two-requires-2 : tie.Need-gcd-of-two-requires-2
+gcd-of-two-requires-2 c κs = search needs
+
+result-is : (c : tie.After-gcd-of-two2) → let a = c .before .before .before .before .before .args in c .gcd-of-two2 .result ≡ gcdOf (a .x) (a .y) (a .z)
+result-is c =
+    let last = c .before .before in
+    let start = last .before .before .before in
+    let a = start .args in
+    let f = start .fits in
+    let x-is = c .before .magnitude3 .ensures ∙ ap natAbs (read-back (a .x) (f .x)) in
+    let y-is = last .before .before .magnitude .ensures ∙ ap natAbs (read-back (a .y) (f .y)) in
+    let z-is = last .before .magnitude2 .ensures ∙ ap natAbs (read-back (a .z) (f .z)) in
+    let last-is = last .gcd-of-two .ensures ∙ (λ i. gcd (y-is i ∷ z-is i ∷ [])) in
+    c .gcd-of-two2 .ensures ∙ (λ i. gcd (x-is i ∷ last-is i ∷ [])) ∙ gcd-cons (natAbs (a .x)) (natAbs (a .y) ∷ natAbs (a .z) ∷ [])
+
+cast-result : tie.Need-cast-result
+cast-result c =
+    let start = c .before .before .before .before .before in
+    let a = start .args in
+    let p = start .pre in
+    let small = gcd-up-to limit (natAbs (a .x) ∷ natAbs (a .y) ∷ natAbs (a .z) ∷ []) (p .0, (p .1, (p .2, tt))) in
+    subst (λ (n : ℕ). SFits w64 (pos n)) (sym (result-is c)) (in-range-fits (pos (gcdOf (a .x) (a .y) (a .z))) small)
+
+returns : tie.Need-returns
+returns c = read-back (pos (c .gcd-of-two2 .result)) (cast-result c) ∙ ap pos (result-is c)
+
+pub divisor-spec : {M : Type 1} → statement M
+divisor-spec =
+    tie.close
+    (tie.spec
+    magnitude-requires
+    magnitude-requires-2
+    gcd-of-two-requires
+    magnitude-requires-3
+    gcd-of-two-requires-2
+    cast-result
+    returns)

@@ -1,0 +1,129 @@
+-- Document 01's section "Projection": what a found point (x, y, z, w) is projected to, and the document's number and values for each case of the answer.
+use Prim.Native.Nat.{ℕ}
+use mathlib.Core.Bool.{Bool, true, false, _&&_, cond}
+use mathlib.Core.List.{List, [], _∷_}
+use lib.Dec.{leb, eqb}
+use lib.IntN.{ℤ, pos, negsuc, negℤ, natAbs}
+use lib.Signed.{quotZ}
+use lib.Ieee.{Float, fin, binary64, ofInt, div, toBits}
+use Rattle.projection.specs.Gcd.{gcd}
+use Rattle.projection.specs.declared.Coords.{Coords}
+use Rattle.projection.specs.declared.PrimitiveVector.{PrimitiveVector}
+use Rattle.projection.specs.declared.Projection.{Projection}
+use Rattle.projection.specs.declared.Projection.the-variants.{Finite, Direction, Nowhere, OutOfRange}
+
+-- ---- range
+
+-- 2 to the 48th: the largest absolute value of a component in range
+abbrev pub limit : ℕ
+limit = 281474976710656
+
+-- a component is "in range"
+abbrev pub inRange : ℤ → Bool
+inRange v = leb (natAbs v) limit
+
+-- each of the four is
+abbrev pub allInRange : ℤ → ℤ → ℤ → ℤ → Bool
+allInRange x y z w = inRange x && inRange y && inRange z && inRange w
+
+-- ---- zero and sign
+
+abbrev pub isZero : ℤ → Bool
+isZero v = eqb (natAbs v) 0
+
+abbrev pub allZero : ℤ → ℤ → ℤ → Bool
+allZero x y z = isZero x && isZero y && isZero z
+
+abbrev pub isNegative : ℤ → Bool
+isNegative (pos n) = false
+isNegative (negsuc n) = true
+
+-- the "first nonzero one" of three numbers, and the last where all are 0
+abbrev pub firstNonzero : ℤ → ℤ → ℤ → ℤ
+firstNonzero x y z = cond (isZero x) (cond (isZero y) z y) x
+
+-- ---- the finite case
+
+abbrev pub positiveZero : Float
+positiveZero = fin false 0 (pos 0)
+
+-- One of the "three f64 numbers": "one f64 division of the two exactly converted whole numbers; a zero numerator gives positive zero".
+-- Within the range the conversion is exact (proofs/Finite.antt).
+unfoldable pub quotientOf : ℤ → ℤ → Float
+unfolding ofInt div
+quotientOf v w = cond (isZero v) positiveZero (div binary64 (ofInt binary64 v) (ofInt binary64 w))
+
+-- the "finite point"
+unfoldable pub coordsOf : ℤ → ℤ → ℤ → ℤ → Coords
+unfolding quotientOf
+coordsOf x y z w = record { x = quotientOf x w; y = quotientOf y w; z = quotientOf z w }
+
+-- ---- the direction
+
+-- v, or -v where the test passes
+abbrev pub negatedIf : Bool → ℤ → ℤ
+negatedIf true v = negℤ v
+negatedIf false v = v
+
+-- the greatest common divisor of three whole numbers, that of their absolute values
+abbrev pub gcdOf : ℤ → ℤ → ℤ → ℕ
+gcdOf x y z = gcd (natAbs x ∷ natAbs y ∷ natAbs z ∷ [])
+
+-- The "direction": "x, y, z divided by their greatest common divisor, all three negated if the first nonzero one is negative".
+-- Each division is exact: the divisor times the direction's component is the old component, up to the one sign (proofs/Directions.antt).
+unfoldable pub directionOf : ℤ → ℤ → ℤ → PrimitiveVector
+unfolding gcd
+directionOf x y z =
+    let divisor = pos (gcdOf x y z) in
+    let negative = isNegative (firstNonzero x y z) in
+    record {
+      x = negatedIf negative (quotZ x divisor);
+      y = negatedIf negative (quotZ y divisor);
+      z = negatedIf negative (quotZ z divisor);
+    }
+
+-- ---- the four cases
+
+-- by three tests: the four numbers are in range, w is 0, and x, y and z are 0
+unfoldable pub projectionBy : Bool → Bool → Bool → ℤ → ℤ → ℤ → ℤ → Projection
+unfolding coordsOf directionOf
+projectionBy false wZero othersZero x y z w = OutOfRange
+projectionBy true false othersZero x y z w = Finite (coordsOf x y z w)
+projectionBy true true false x y z w = Direction (directionOf x y z)
+projectionBy true true true x y z w = Nowhere
+
+-- Document 01's "projection" of a found point
+unfoldable pub projectionOf : ℤ → ℤ → ℤ → ℤ → Projection
+unfolding projectionBy
+projectionOf x y z w = projectionBy (allInRange x y z w) (isZero w) (allZero x y z) x y z w
+
+-- ---- number and values of each case
+
+-- the document's number: 10 for a component out of range, 0 where nothing is refused
+abbrev pub refusal : Projection → ℕ
+refusal (Finite p) = 0
+refusal (Direction d) = 0
+refusal Nowhere = 0
+refusal OutOfRange = 10
+
+-- the values of a finite point, x, y, z; the other cases have none
+abbrev pub coordinates : Projection → List Float
+coordinates (Finite p) = p .x ∷ p .y ∷ p .z ∷ []
+coordinates (Direction d) = []
+coordinates Nowhere = []
+coordinates OutOfRange = []
+
+-- the same as the bit patterns that are printed after `at`
+unfoldable pub coordinateBits : Projection → List ℕ
+unfolding toBits
+coordinateBits (Finite p) = toBits binary64 (p .x) ∷ toBits binary64 (p .y) ∷ toBits binary64 (p .z) ∷ []
+coordinateBits (Direction d) = []
+coordinateBits Nowhere = []
+coordinateBits OutOfRange = []
+
+-- the values of a direction, x, y, z, as they are printed after `far`; the other cases have none
+abbrev pub directionNumbers : Projection → List ℤ
+directionNumbers (Finite p) = []
+directionNumbers (Direction d) = d .x ∷ d .y ∷ d .z ∷ []
+directionNumbers Nowhere = []
+directionNumbers OutOfRange = []

@@ -1,0 +1,210 @@
+// Document 01's projection of a found point (x, y, z, w): a finite point, a direction, nowhere, or
+// out of range. `project` is the whole of it; what it answers is `projectionOf` of
+// specs/Projection.antt.
+ghost use mathlib.Core.Path.{_≡_};
+ghost use mathlib.Core.Bool.{false};
+ghost use mathlib.Core.List.{[], _∷_};
+ghost use Prim.Native.Nat.{_≤_, _<_};
+ghost use lib.IntN.{pos, natAbs};
+ghost use lib.Signed.{quotZ};
+ghost use Rattle.projection.specs.Gcd.{gcd};
+ghost use Rattle.projection.specs.Projection.{
+  limit,
+  inRange,
+  allInRange,
+  allZero,
+  isNegative,
+  firstNonzero,
+  quotientOf,
+  coordsOf,
+  negatedIf,
+  gcdOf,
+  directionOf,
+  projectionOf,
+};
+
+// The largest absolute value of a component in range, 2 to the 48th.
+const LIMIT: i64 = 281474976710656;
+
+// A finite point.
+pub struct Coords {
+    pub x: f64,
+    pub y: f64,
+    pub z: f64,
+}
+
+// A direction: three whole numbers whose greatest common divisor is 1 and of which the first
+// nonzero one is positive.
+pub struct PrimitiveVector {
+    pub x: i64,
+    pub y: i64,
+    pub z: i64,
+}
+
+// What a point is projected to.
+pub enum Projection {
+    // The weight is not 0.
+    Finite(Coords),
+    // The weight is 0 and another component is not.
+    Direction(PrimitiveVector),
+    // All four components are 0.
+    Nowhere,
+    // A component is out of range: the document's refusal 10.
+    OutOfRange,
+}
+
+// ---- tests
+
+fn in_range(v: i64) -> bool
+    ensures { λ r. ⌜ r ≡ inRange v ⌝ }
+{
+    if v < -LIMIT {
+        return false;
+    }
+    v <= LIMIT
+}
+
+fn all_in_range(x: i64, y: i64, z: i64, w: i64) -> bool
+    ensures { λ r. ⌜ r ≡ allInRange x y z w ⌝ }
+{
+    if !in_range(x) {
+        return false;
+    }
+    if !in_range(y) {
+        return false;
+    }
+    if !in_range(z) {
+        return false;
+    }
+    in_range(w)
+}
+
+fn all_zero(x: i64, y: i64, z: i64) -> bool
+    ensures { λ r. ⌜ r ≡ allZero x y z ⌝ }
+{
+    if x != 0 {
+        return false;
+    }
+    if y != 0 {
+        return false;
+    }
+    z == 0
+}
+
+// Whether the first nonzero one of three numbers is negative.
+fn leads_negative(x: i64, y: i64, z: i64) -> bool
+    ensures { λ r. ⌜ r ≡ isNegative (firstNonzero x y z) ⌝ }
+{
+    if x != 0 {
+        return x < 0;
+    }
+    if y != 0 {
+        return y < 0;
+    }
+    z < 0
+}
+
+// ---- the finite case
+
+// One coordinate. A zero numerator is answered first: divided by a negative weight it would give
+// negative zero. Both numbers are in range, so neither conversion loses anything.
+fn quotient(v: i64, w: i64) -> f64
+    requires { ⌜ (natAbs v ≤ limit) × (natAbs w ≤ limit) ⌝ }
+    ensures { λ r. ⌜ r ≡ quotientOf v w ⌝ }
+{
+    if v == 0 {
+        return 0.0;
+    }
+    v as f64 / w as f64
+}
+
+fn finite_point(x: i64, y: i64, z: i64, w: i64) -> Coords
+    requires { ⌜ (natAbs x ≤ limit) × (natAbs y ≤ limit) × (natAbs z ≤ limit) × (natAbs w ≤ limit) ⌝ }
+    ensures { λ r. ⌜ r ≡ coordsOf x y z w ⌝ }
+{
+    Coords {
+        x: quotient(x, w),
+        y: quotient(y, w),
+        z: quotient(z, w),
+    }
+}
+
+// ---- the direction
+
+// Euclid's algorithm. Each turn leaves the common divisors of the two numbers as they were.
+fn gcd_of_two(a: u64, b: u64) -> u64
+    ensures { λ r. ⌜ r ≡ gcd (a ∷ b ∷ []) ⌝ }
+{
+    let mut m = a;
+    let mut n = b;
+    while n != 0 {
+        let rest = m % n;
+        m = n;
+        n = rest;
+    }
+    m
+}
+
+fn negated_if(negative: bool, v: i64) -> i64
+    requires { ⌜ natAbs v ≤ limit ⌝ }
+    ensures { λ r. ⌜ r ≡ negatedIf negative v ⌝ }
+{
+    if negative {
+        return -v;
+    }
+    v
+}
+
+fn magnitude(v: i64) -> u64
+    requires { ⌜ natAbs v ≤ limit ⌝ }
+    ensures { λ r. ⌜ r ≡ natAbs v ⌝ }
+{
+    negated_if(v < 0, v) as u64
+}
+
+// The greatest common divisor of x, y and z: that of the last two stands for both.
+fn divisor(x: i64, y: i64, z: i64) -> i64
+    requires { ⌜ (natAbs x ≤ limit) × (natAbs y ≤ limit) × (natAbs z ≤ limit) ⌝ }
+    ensures { λ r. ⌜ r ≡ pos (gcdOf x y z) ⌝ }
+{
+    let last_two = gcd_of_two(magnitude(y), magnitude(z));
+    gcd_of_two(magnitude(x), last_two) as i64
+}
+
+// One component of the direction. Nothing is left over where d divides v.
+fn reduced(v: i64, d: i64, negative: bool) -> i64
+    requires { ⌜ (natAbs v ≤ limit) × (0 < natAbs d) ⌝ }
+    ensures { λ r. ⌜ r ≡ negatedIf negative (quotZ v d) ⌝ }
+{
+    negated_if(negative, v / d)
+}
+
+fn direction(x: i64, y: i64, z: i64) -> PrimitiveVector
+    requires { ⌜ (natAbs x ≤ limit) × (natAbs y ≤ limit) × (natAbs z ≤ limit) × (allZero x y z ≡ false) ⌝ }
+    ensures { λ r. ⌜ r ≡ directionOf x y z ⌝ }
+{
+    let d = divisor(x, y, z);
+    let negative = leads_negative(x, y, z);
+    PrimitiveVector {
+        x: reduced(x, d, negative),
+        y: reduced(y, d, negative),
+        z: reduced(z, d, negative),
+    }
+}
+
+// ---- the projection
+
+pub fn project(x: i64, y: i64, z: i64, w: i64) -> Projection
+    ensures { λ r. ⌜ r ≡ projectionOf x y z w ⌝ }
+{
+    if !all_in_range(x, y, z, w) {
+        return Projection::OutOfRange;
+    }
+    if w != 0 {
+        return Projection::Finite(finite_point(x, y, z, w));
+    }
+    if all_zero(x, y, z) {
+        return Projection::Nowhere;
+    }
+    Projection::Direction(direction(x, y, z))
+}
