@@ -25,7 +25,7 @@ use Rattle.entries.proofs.Form.{Form, fixes, put, putting, flipping}
 use Rattle.entries.proofs.Polar.{polar-form}
 use Rattle.entries.proofs.Places.{member-counts}
 use Rattle.entries.proofs.Listed.{length-listed, entry-listed, listed-cong}
-use Rattle.machine.specs.Kinds.{further, known, inRange, all, firstOf, unless}
+use Rattle.machine.specs.Kinds.{further, known, all, firstOf, unless}
 use Rattle.machine.specs.Calls.{weightList, weightsIn, operationIn, vertexIn, outside, degenerate, judged}
 use borrow.Author.Tests.{leb-true}
 use Rattle.machine.specs.Sizes.{allNamed}
@@ -36,7 +36,7 @@ use Rattle.machine.specs.declared.Net.{Net}
 use Rattle.machine.specs.declared.Weights.{Weights}
 use Rattle.machine.specs.declared.Call.{Call}
 use Rattle.machine.specs.declared.Call.the-variants as call
-use Rattle.projection.specs.Projection.{projectionOf}
+use Rattle.projection.specs.Projection.{inRange, projectionOf}
 use Rattle.machine.specs.declared.Answer.{Answer}
 use Rattle.machine.specs.declared.Answer.the-variants as answer
 use Rattle.machine.specs.declared.Step.{Step}
@@ -51,7 +51,7 @@ vertex-set (p ∷ frame) zero q h (suc u) = refl
 vertex-set (p ∷ frame) (suc v) q h zero = refl
 vertex-set (p ∷ frame) (suc v) q h (suc u) = vertex-set frame v q (le-of-suc-le-suc h) u
 
-total-set : (e : List ℕ) (v : ℕ) → getD e v 0 + total (set e v 0) ≡ total e
+pub total-set : (e : List ℕ) (v : ℕ) → getD e v 0 + total (set e v 0) ≡ total e
 total-set [] v = refl
 total-set (n ∷ e) zero = omega arith
 total-set (n ∷ e) (suc v) = let r : getD e v 0 + total (set e v 0) ≡ total e = total-set e v in omega arith
@@ -60,11 +60,11 @@ taken-zeros : (fr : ℕ → Point) (k : ℕ) → taken fr (replicate k 0) ≡ []
 taken-zeros fr zero = refl
 taken-zeros fr (suc k) = taken-zeros (λ v. fr (suc v)) k
 
-total-zeros : (k : ℕ) → total (replicate k 0) ≡ 0
+pub total-zeros : (k : ℕ) → total (replicate k 0) ≡ 0
 total-zeros zero = refl
 total-zeros (suc k) = zero-add (total (replicate k 0)) ∙ total-zeros k
 
-length-zeros : (k : ℕ) → length {A = ℕ} (replicate k 0) ≡ k
+pub length-zeros : (k : ℕ) → length {A = ℕ} (replicate k 0) ≡ k
 length-zeros zero = refl
 length-zeros (suc k) = ap suc (length-zeros k)
 
@@ -105,7 +105,7 @@ named-cong n m P Q agree =
     let rest : total e ≡ m - h = r .1 in
     ap inRange (agree c h e (upto-below 4 c k) (r .0) (omega arith)))))
 
-below-upto : (n i : ℕ) → i < n → List·Memᴰ i (upto n)
+pub below-upto : (n i : ℕ) → i < n → List·Memᴰ i (upto n)
 below-upto zero i h = absurd (not-suc-le-zero h)
 below-upto (suc n) zero h = mathlib.Core.List.List·Memᴰ·head refl
 below-upto (suc n) (suc i) h = mathlib.Core.List.List·Memᴰ·tail (mathlib.Core.List.Memᴰ·map suc (below-upto n i (le-of-suc-le-suc h)))

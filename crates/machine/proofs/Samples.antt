@@ -42,7 +42,7 @@ same-lists test sound (x ∷ xs) (y ∷ ys) h =
 abbrev checked : Sample → Bool
 checked s =
     sameBy eqZ (take (length (s .net)) (netOver (s .polynomials) (frameAfter (s .polynomials) (startFrame (s .polynomials) (s .frame)) (s .calls)) .entries)) (s .net)
-      && sameBy (sameBy eqZ) (map told (machineAnswers (s .polynomials) (startFrame (s .polynomials) (s .frame)) (s .calls))) (s .answers)
+    && sameBy (sameBy eqZ) (map told (machineAnswers (s .polynomials) (startFrame (s .polynomials) (s .frame)) (s .calls))) (s .answers)
 
 checked-holds : (s : Sample) → checked s ≡ true → Holds s
 checked-holds s h =

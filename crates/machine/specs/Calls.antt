@@ -3,8 +3,9 @@ use Prim.Native.Nat.{ℕ, zero, suc, pred}
 use mathlib.Core.Bool.{Bool, true, false, _&&_, _||_, not}
 use mathlib.Core.List.{List, [], _∷_}
 use lib.Dec.{leb, eqb}
-use lib.IntN.{ℤ, pos, natAbs}
+use lib.IntN.{ℤ, pos}
 use lib.ListN.{getD, drop}
+use Rattle.projection.specs.Projection.{isZero}
 use Rattle.machine.specs.Kinds.{within, all, unless, firstOf}
 use Rattle.machine.specs.declared.Weights.{Weights}
 use Rattle.machine.specs.declared.Call.{Call}
@@ -13,9 +14,6 @@ use Rattle.machine.specs.declared.Call.the-variants.{Move, Point}
 -- α, β, γ in the order of the vertices
 abbrev pub weightList : Weights → List ℤ
 weightList w = w .r ∷ w .s ∷ w .t ∷ []
-
-abbrev pub isZero : ℤ → Bool
-isZero v = eqb (natAbs v) 0
 
 -- the weight of a vertex, the vertices being counted from 1
 abbrev pub weightOf : ℕ → List ℤ → ℤ

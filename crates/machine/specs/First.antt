@@ -8,8 +8,8 @@ use Rattle.integers.specs.Sum.{sum, upto}
 use Rattle.polar.specs.Sigma.{Point}
 use Rattle.polar.specs.Order.{monomials}
 use Rattle.entries.specs.Entries.{odd}
-use Rattle.machine.specs.Kinds.{further, known, inRange, within, all, firstOf, unless}
-use Rattle.machine.specs.Calls.{isZero}
+use Rattle.projection.specs.Projection.{inRange, isZero}
+use Rattle.machine.specs.Kinds.{further, known, within, all, firstOf, unless}
 use Rattle.machine.specs.Nets.{used}
 use Rattle.machine.specs.Comparison.{Polynomials, Frame, netOver}
 use Rattle.machine.specs.declared.Net.{Net}

@@ -23,10 +23,6 @@ highest (suc (suc (suc k))) = 0
 abbrev pub known : ℕ → ℕ → Bool
 known kind degree = leb 1 degree && leb degree (highest kind)
 
--- 'in range': at most 2 to the 48th in absolute value
-abbrev pub inRange : ℤ → Bool
-inRange v = leb (natAbs v) 281474976710656
-
 -- a number of a frame in a record, a coefficient and a weight: within the limit in absolute value
 abbrev pub within : ℕ → ℤ → Bool
 within limit v = leb (natAbs v) limit

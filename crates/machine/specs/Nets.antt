@@ -7,8 +7,8 @@ use lib.IntN.{ℤ, pos}
 use lib.ListN.{length, take, drop, replicate}
 use Rattle.polar.specs.Order.{counts}
 use Rattle.entries.specs.Entries.{entryAt, listed, fixed, replaced, flipped}
-use Rattle.projection.specs.Projection.{projectionOf}
-use Rattle.machine.specs.Kinds.{further, known, inRange, all, firstOf, unless}
+use Rattle.projection.specs.Projection.{inRange, projectionOf}
+use Rattle.machine.specs.Kinds.{further, known, all, firstOf, unless}
 use Rattle.machine.specs.Calls.{weightList, judged}
 use Rattle.machine.specs.Sizes.{allNamed}
 use Rattle.machine.specs.declared.Weights.{Weights}

@@ -24,7 +24,7 @@ pub record Sample : Type 0 where
 abbrev pub Holds : Sample → Type 0
 Holds s =
     (take (length (s .net)) (netOver (s .polynomials) (frameAfter (s .polynomials) (startFrame (s .polynomials) (s .frame)) (s .calls)) .entries) ≡ s .net)
-      × (map told (machineAnswers (s .polynomials) (startFrame (s .polynomials) (s .frame)) (s .calls)) ≡ s .answers)
+    × (map told (machineAnswers (s .polynomials) (startFrame (s .polynomials) (s .frame)) (s .calls)) ≡ s .answers)
 
 abbrev replace : ℕ → ℤ → ℤ → Call
 replace vertex r s = Move 1 vertex (record { r = r; s = s; t = pos 0 })
@@ -48,7 +48,7 @@ circle =
     record {
       kind = 1;
       degree = 2;
-      coefficients = four (pos 1) (pos 0) (pos 0) (pos 1) (four (pos 0) (pos 2) (pos 0) (pos 0) (four (minus 1) (pos 0) (pos 0) (pos 1) []))
+      coefficients = four (pos 1) (pos 0) (pos 0) (pos 1) (four (pos 0) (pos 2) (pos 0) (pos 0) (four (minus 1) (pos 0) (pos 0) (pos 1) []));
     }
 
 abbrev unitStretch : List ℤ
@@ -61,8 +61,8 @@ folium =
       kind = 1;
       degree = 3;
       coefficients =
-        four (pos 0) (pos 0) (pos 0) (pos 1)
-          (four (pos 3) (pos 0) (pos 0) (pos 0) (four (pos 0) (pos 3) (pos 0) (pos 0) (four (pos 0) (pos 0) (pos 0) (pos 1) [])))
+          four (pos 0) (pos 0) (pos 0) (pos 1)
+          (four (pos 3) (pos 0) (pos 0) (pos 0) (four (pos 0) (pos 3) (pos 0) (pos 0) (four (pos 0) (pos 0) (pos 0) (pos 1) [])));
     }
 
 -- x = UZ, y = VZ, z = UV, w = Z²
@@ -72,10 +72,10 @@ saddle =
       kind = 2;
       degree = 2;
       coefficients =
-        four (pos 0) (pos 0) (pos 0) (pos 1)
+          four (pos 0) (pos 0) (pos 0) (pos 1)
           (four (pos 0) (pos 1) (pos 0) (pos 0)
-            (four (pos 0) (pos 0) (pos 0) (pos 0)
-              (four (pos 1) (pos 0) (pos 0) (pos 0) (four (pos 0) (pos 0) (pos 1) (pos 0) (four (pos 0) (pos 0) (pos 0) (pos 0) [])))))
+          (four (pos 0) (pos 0) (pos 0) (pos 0)
+          (four (pos 1) (pos 0) (pos 0) (pos 0) (four (pos 0) (pos 0) (pos 1) (pos 0) (four (pos 0) (pos 0) (pos 0) (pos 0) [])))));
     }
 
 abbrev corner : List ℤ
@@ -94,53 +94,53 @@ samples =
       frame = unitStretch;
       calls = point (pos 1) (pos 1) (pos 0) ∷ [];
       net = four (pos 2) (pos 0) (pos 0) (pos 2) (four (pos 2) (pos 2) (pos 0) (pos 2) (four (pos 0) (pos 4) (pos 0) (pos 4) []));
-      answers = (pos 0 ∷ four (pos 6) (pos 8) (pos 0) (pos 10) []) ∷ []
+      answers = (pos 0 ∷ four (pos 6) (pos 8) (pos 0) (pos 10) []) ∷ [];
     }
-    ∷ -- B3
+    ∷  -- B3
     record {
       polynomials = circle;
       frame = unitStretch;
       calls = replace 2 (pos 1) (pos 1) ∷ [];
       net = four (pos 2) (pos 0) (pos 0) (pos 2) (four (pos 4) (pos 2) (pos 0) (pos 4) (four (pos 6) (pos 8) (pos 0) (pos 10) []));
-      answers = (pos 0 ∷ []) ∷ []
+      answers = (pos 0 ∷ []) ∷ [];
     }
-    ∷ -- B4 and B5
+    ∷  -- B4 and B5
     record {
       polynomials = circle;
       frame = unitStretch;
       calls = flip 1 ∷ point (pos 1) (pos 1) (pos 0) ∷ [];
       net = four (pos 2) (pos 0) (pos 0) (pos 2) (four (minus 2) (minus 2) (pos 0) (minus 2) (four (pos 0) (pos 4) (pos 0) (pos 4) []));
-      answers = (pos 0 ∷ []) ∷ (pos 0 ∷ four (minus 2) (pos 0) (pos 0) (pos 2) []) ∷ []
+      answers = (pos 0 ∷ []) ∷ (pos 0 ∷ four (minus 2) (pos 0) (pos 0) (pos 2) []) ∷ [];
     }
-    ∷ -- B6 and B7
+    ∷  -- B6 and B7
     record {
       polynomials = folium;
       frame = unitStretch;
       calls = point (pos 2) (minus 1) (pos 0) ∷ [];
       net =
-        four (pos 0) (pos 0) (pos 0) (pos 3)
+          four (pos 0) (pos 0) (pos 0) (pos 3)
           (four (pos 3) (pos 0) (pos 0) (pos 3) (four (pos 6) (pos 3) (pos 0) (pos 3) (four (pos 9) (pos 9) (pos 0) (pos 6) [])));
-      answers = (pos 0 ∷ four (minus 9) (pos 9) (pos 0) (pos 0) (pos 1 ∷ minus 1 ∷ pos 0 ∷ [])) ∷ []
+      answers = (pos 0 ∷ four (minus 9) (pos 9) (pos 0) (pos 0) (pos 1 ∷ minus 1 ∷ pos 0 ∷ [])) ∷ [];
     }
-    ∷ -- B8 and B9
+    ∷  -- B8 and B9
     record {
       polynomials = saddle;
       frame = corner;
       calls = point (pos 1) (pos 1) (pos 1) ∷ [];
       net =
-        four (pos 2) (pos 0) (pos 0) (pos 2)
+          four (pos 2) (pos 0) (pos 0) (pos 2)
           (four (pos 1) (pos 1) (pos 1) (pos 2)
-            (four (pos 1) (pos 0) (pos 0) (pos 2)
-              (four (pos 0) (pos 2) (pos 0) (pos 2) (four (pos 0) (pos 1) (pos 0) (pos 2) (four (pos 0) (pos 0) (pos 0) (pos 2) [])))));
-      answers = (pos 0 ∷ four (pos 6) (pos 6) (pos 2) (pos 18) []) ∷ []
+          (four (pos 1) (pos 0) (pos 0) (pos 2)
+          (four (pos 0) (pos 2) (pos 0) (pos 2) (four (pos 0) (pos 1) (pos 0) (pos 2) (four (pos 0) (pos 0) (pos 0) (pos 2) [])))));
+      answers = (pos 0 ∷ four (pos 6) (pos 6) (pos 2) (pos 18) []) ∷ [];
     }
-    ∷ -- B10, taken with 16 and refused with 17
+    ∷  -- B10, taken with 16 and refused with 17
     record {
       polynomials = line;
       frame = pos 0 ∷ pos 1 ∷ pos 1 ∷ pos 0 ∷ [];
       calls = replace 1 (pos 4096) (pos 1) ∷ replace 1 (pos 4096) (pos 1) ∷ replace 1 (pos 16) (pos 1) ∷ [];
       net = pos 281474976710656 ∷ [];
-      answers = (pos 0 ∷ []) ∷ (pos 0 ∷ []) ∷ (pos 0 ∷ []) ∷ []
+      answers = (pos 0 ∷ []) ∷ (pos 0 ∷ []) ∷ (pos 0 ∷ []) ∷ [];
     }
     ∷
     record {
@@ -148,6 +148,6 @@ samples =
       frame = pos 0 ∷ pos 1 ∷ pos 1 ∷ pos 0 ∷ [];
       calls = replace 1 (pos 4096) (pos 1) ∷ replace 1 (pos 4096) (pos 1) ∷ replace 1 (pos 17) (pos 1) ∷ [];
       net = pos 17592186044416 ∷ [];
-      answers = (pos 0 ∷ []) ∷ (pos 0 ∷ []) ∷ (pos 10 ∷ []) ∷ []
+      answers = (pos 0 ∷ []) ∷ (pos 0 ∷ []) ∷ (pos 10 ∷ []) ∷ [];
     }
     ∷ []

@@ -5,7 +5,8 @@ use mathlib.Core.List.{List}
 use lib.IntN.{ℤ}
 use Rattle.integers.specs.Sum.{upto}
 use Rattle.polar.specs.Order.{counts}
-use Rattle.machine.specs.Kinds.{all, inRange}
+use Rattle.projection.specs.Projection.{inRange}
+use Rattle.machine.specs.Kinds.{all}
 
 -- Whether all named polar values are in range: P c h e is component c of the one with h copies of q and e of the vertices, of which there are 1 + n.
 unfoldable pub allNamed : ℕ → ℕ → (ℕ → ℕ → List ℕ → ℤ) → Bool

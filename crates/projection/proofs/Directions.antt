@@ -11,7 +11,7 @@ use lib.IntN.{ℤ, pos, negsuc, negℤ, natAbs, _*ℤ_, negℤ-negℤ}
 use lib.Signed.{quotZ}
 use Rattle.projection.specs.Gcd.{gcd}
 use Rattle.projection.specs.Projection.{isZero, allZero, isNegative, firstNonzero, negatedIf, gcdOf, directionOf}
-use Rattle.projection.proofs.Gcd.{Each, gcd-divides, gcd-reduced}
+use Rattle.projection.proofs.Gcd.{gcd-divides, gcd-positive, gcd-reduced}
 use Rattle.projection.proofs.Signed.{apart, natAbs-negated}
 
 -- ---- the divisor
@@ -24,11 +24,9 @@ zeros x y z p q r =
 
 -- it is not 0 where one of the three is not
 pub divisor-positive : (x y z : ℤ) → allZero x y z ≡ false → 0 < gcdOf x y z
-divisor-positive x y z h = go (gcdOf x y z) (gcd-divides (natAbs x ∷ natAbs y ∷ natAbs z ∷ []))
-  where
-    go : (n : ℕ) → Each n (natAbs x ∷ natAbs y ∷ natAbs z ∷ []) → 0 < n
-    go (suc n) e = NatL.zero-lt-suc n
-    go zero e = absurd (apart (sym (zeros x y z (NatL.eq-zero-of-zero-dvd (e .0)) (NatL.eq-zero-of-zero-dvd (e .1 .0)) (NatL.eq-zero-of-zero-dvd (e .1 .1 .0))) ∙ h))
+divisor-positive x y z h =
+    gcd-positive (natAbs x ∷ natAbs y ∷ natAbs z ∷ [])
+    (λ e. apart (sym (zeros x y z (NatL.eq-zero-of-zero-dvd (e .0)) (NatL.eq-zero-of-zero-dvd (e .1 .0)) (NatL.eq-zero-of-zero-dvd (e .1 .1 .0))) ∙ h))
 
 -- ---- products
 

@@ -1,12 +1,12 @@
 -- A finite point's coordinates. Every whole number up to 2 to the 53rd is an f64, so within the range both conversions are exact; the one division is then
 -- the exact quotient v / w, rounded once, and what is rounded is no NaN.
 use mathlib.Core.Path.{_≡_, refl, sym, ap, ap₂, _∙_, subst}
-use mathlib.Core.Bool.{Bool, true, false, cond}
+use mathlib.Core.Bool.{Bool, true, false, not, cond}
 use Prim.Native.Nat.{ℕ, zero, suc, _+_, _-_, _*_, _/_, _%_, _^_, _≤_, _<_, compare}
 use native.Mathlib.Nat as NatL
 use native.Mathlib.Omega.{arith}
 use borrow.Author.Tests.{ne-eqb, eqb-false}
-use lib.Dec.{eqb, ltb}
+use lib.Dec.{T, eqb, ltb}
 use lib.IntN.{ℤ, pos, negsuc, natAbs}
 use lib.Ieee.{Float, nan, inf, fin, Format, binary64, prec, emax, low, unlike, up, down, size, nearest, odd, units, round, div, ofInt, isNan}
 use lib.Ieee.Exact.{HasValue}
@@ -92,18 +92,18 @@ round-no-nan f s a c =
     let u = c * 2 ^ k in
     units-no-nan f s (nearest (n / u) (compare (n % u * 2) u)) k
 
-pub quotient-no-nan : (v w : ℤ) → natAbs v ≤ limit → natAbs w ≤ limit → isZero w ≡ false → isNan (quotientOf v w) ≡ false
+pub quotient-no-nan : (v w : ℤ) → natAbs v ≤ limit → natAbs w ≤ limit → isZero w ≡ false → T (not (isNan (quotientOf v w)))
 unfolding isNan
-quotient-no-nan v w h k q = by (isZero v) refl
+quotient-no-nan v w h k q = subst (λ (b : Bool). T (not b)) (sym (by (isZero v) refl)) tt
   where
     by : (b : Bool) → isZero v ≡ b → isNan (quotientOf v w) ≡ false
     by true e = ap isNan (zero-quotient v w e)
     by false e =
         ap isNan (rounded-quotient v w h k e q) ∙ round-no-nan binary64 (unlike (isNegative v) (isNegative w)) (natAbs v) (natAbs w)
 
--- of an answer: where it is finite, none of its three numbers is a NaN
+-- of an answer: where it is finite, none of its three numbers is a NaN, which is what `f64::to_bits` asks
 abbrev pub NoNan : Projection → Type 0
-NoNan (Finite p) = (isNan (p .x) ≡ false) × (isNan (p .y) ≡ false) × (isNan (p .z) ≡ false)
+NoNan (Finite p) = T (not (isNan (p .x))) × T (not (isNan (p .y))) × T (not (isNan (p .z)))
 NoNan (Direction d) = Unit {0}
 NoNan Nowhere = Unit {0}
 NoNan OutOfRange = Unit {0}

@@ -123,6 +123,14 @@ gcd-divides xs = go (leastNonzero xs) refl
         stops xs (leastNonzero xs)
         (passes xs (leastNonzero xs) 1 (each-one xs) (subst (λ (k : ℕ). 1 ≤ k) (sym e) (NatL.zero-lt-suc n)))
 
+-- it is not 0 where one of the numbers is not: 0 divides only 0
+pub gcd-positive : (xs : List ℕ) → (Each 0 xs → ⊥) → 0 < gcd xs
+gcd-positive xs h = go (gcd xs) (gcd-divides xs)
+  where
+    go : (n : ℕ) → Each n xs → 0 < n
+    go zero e = absurd (h e)
+    go (suc n) e = NatL.zero-lt-suc n
+
 -- where it is not 0, no common divisor is larger
 pub gcd-greatest : (d : ℕ) (xs : List ℕ) → 0 < gcd xs → Each d xs → d ≤ gcd xs
 unfolding gcd largestFrom

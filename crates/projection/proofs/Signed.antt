@@ -15,6 +15,7 @@ use mir.Val.{SFits, ofZ, toZ}
 use mir.ValLaws.{toZ-ofZ}
 use Rattle.projection.specs.Projection.{limit, inRange, allInRange, isZero, isNegative, negatedIf}
 
+-- the two truth values differ
 pub apart : true ≡ false → ⊥
 apart e = let z : _≡_ {A = ℕ} 0 1 = cc in omega arith
 
@@ -59,24 +60,25 @@ below-zero (negsuc n) = refl
 pub is-negative : (v : ℤ) → SFits w64 v → ltZ (readBack v) (pos 0) ≡ isNegative v
 is-negative v f = ap (λ (u : ℤ). ltZ u (pos 0)) (read-back v f) ∙ below-zero v
 
--- ---- range
+-- ---- range: below -limit, or not below it and then up to the limit
 
-below-range : (v : ℤ) → ltZ v (negsuc 281474976710655) ≡ true → false ≡ inRange v
+below-range : (v : ℤ) → ltZ v (negℤ (pos limit)) ≡ true → false ≡ inRange v
 below-range (pos n) e = absurd (apart (sym e))
-below-range (negsuc n) e = let far = ltb-true 281474976710655 n e in sym (lt-leb (suc n) limit (omega arith))
+below-range (negsuc n) e = let far = ltb-true (limit - 1) n e in sym (lt-leb (suc n) limit (omega arith))
 
-not-below-range : (v : ℤ) → ltZ v (negsuc 281474976710655) ≡ false → leZ v (pos limit) ≡ inRange v
+not-below-range : (v : ℤ) → ltZ v (negℤ (pos limit)) ≡ false → leZ v (pos limit) ≡ inRange v
 not-below-range (pos n) e = refl
-not-below-range (negsuc n) e = let near = ltb-false 281474976710655 n e in sym (le-leb (suc n) limit (omega arith))
+not-below-range (negsuc n) e = let near = ltb-false (limit - 1) n e in sym (le-leb (suc n) limit (omega arith))
 
-pub too-low : (v : ℤ) → SFits w64 v → ltZ (readBack v) (negsuc 281474976710655) ≡ true → false ≡ inRange v
-too-low v f e = below-range v (ap (λ (u : ℤ). ltZ u (negsuc 281474976710655)) (sym (read-back v f)) ∙ e)
+pub too-low : (v : ℤ) → SFits w64 v → ltZ (readBack v) (negℤ (pos limit)) ≡ true → false ≡ inRange v
+too-low v f e = below-range v (ap (λ (u : ℤ). ltZ u (negℤ (pos limit))) (sym (read-back v f)) ∙ e)
 
-pub not-too-low : (v : ℤ) → SFits w64 v → ltZ (readBack v) (negsuc 281474976710655) ≡ false → leZ (readBack v) (pos limit) ≡ inRange v
+pub not-too-low : (v : ℤ) → SFits w64 v → ltZ (readBack v) (negℤ (pos limit)) ≡ false → leZ (readBack v) (pos limit) ≡ inRange v
 not-too-low v f e =
     ap (λ (u : ℤ). leZ u (pos limit)) (read-back v f)
-    ∙ not-below-range v (ap (λ (u : ℤ). ltZ u (negsuc 281474976710655)) (sym (read-back v f)) ∙ e)
+    ∙ not-below-range v (ap (λ (u : ℤ). ltZ u (negℤ (pos limit))) (sym (read-back v f)) ∙ e)
 
+-- all four are in range
 all-true : (a b c d : Bool) → a && b && c && d ≡ true → (a ≡ true) × (b ≡ true) × (c ≡ true) × (d ≡ true)
 all-true true true true true e = (refl, refl, refl, refl)
 all-true true true true false e = absurd (apart (sym e))
@@ -174,6 +176,7 @@ pub reduced-is : (b : Bool) (v d r : ℤ) → natAbs v ≤ limit → SFits w64 d
     → r ≡ negatedIf b (readBack (quotZ (readBack v) (readBack d))) → readBack r ≡ negatedIf b (quotZ v d)
 reduced-is b v d r h f e = ap readBack (e ∙ ap (λ (u : ℤ). negatedIf b u) (quot-is v d h f)) ∙ negated-quot-back b v d h
 
+-- a component of a direction, from the divisor's and the sign's values
 module _ (v d : ℤ) (g : ℕ) (h : natAbs v ≤ limit) (k : g ≤ limit) (e : d ≡ pos g) where
   divisor-back : readBack d ≡ pos g
   divisor-back = ap readBack e ∙ read-back (pos g) (in-range-fits (pos g) k)
@@ -189,6 +192,7 @@ module _ (v d : ℤ) (g : ℕ) (h : natAbs v ≤ limit) (k : g ≤ limit) (e : d
       ap readBack (q ∙ (λ i. negatedIf (p i) (quotZ (read-back v (in-range-fits v h) i) (divisor-back i))))
       ∙ negated-quot-back b′ v (pos g) h
 
+-- a divisor that is not 0 has bits that are not 0
 pub divisor-bits : (d : ℤ) → SFits w64 d → 0 < natAbs d → 0 < ofZ w64 d
 divisor-bits (pos n) f h = h
 divisor-bits (negsuc n) f h = let below = f .sfits in omega arith

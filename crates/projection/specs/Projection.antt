@@ -70,7 +70,7 @@ abbrev pub gcdOf : ℤ → ℤ → ℤ → ℕ
 gcdOf x y z = gcd (natAbs x ∷ natAbs y ∷ natAbs z ∷ [])
 
 -- The "direction": "x, y, z divided by their greatest common divisor, all three negated if the first nonzero one is negative".
--- Each division is exact: the divisor times the direction's component is the old component, up to the one sign (proofs/Directions.antt).
+-- `quotZ` is the library's quotient of two integers. Here it is exact: the divisor times the direction's component is the old component, up to the one sign (proofs/Directions.antt).
 unfoldable pub directionOf : ℤ → ℤ → ℤ → PrimitiveVector
 unfolding gcd
 directionOf x y z =

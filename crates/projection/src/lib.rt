@@ -1,6 +1,7 @@
 // Document 01's projection of a found point (x, y, z, w): a finite point, a direction, nowhere, or
-// out of range. `project` is the whole of it; what it answers is `projectionOf` of
-// specs/Projection.antt.
+// out of range. `project` is what callers use, and it answers `projectionOf` of
+// specs/Projection.antt for all numbers. The other functions are its parts: those that require
+// numbers in range are called after the test of the range.
 ghost use mathlib.Core.Path.{_≡_};
 ghost use mathlib.Core.Bool.{false};
 ghost use mathlib.Core.List.{[], _∷_};
@@ -55,7 +56,9 @@ pub enum Projection {
 
 // ---- tests
 
-fn in_range(v: i64) -> bool
+// A component is in range: from -LIMIT to LIMIT.
+// Whether a component is in range.
+pub fn in_range(v: i64) -> bool
     ensures { λ r. ⌜ r ≡ inRange v ⌝ }
 {
     if v < -LIMIT {
@@ -64,6 +67,7 @@ fn in_range(v: i64) -> bool
     v <= LIMIT
 }
 
+// All four are.
 fn all_in_range(x: i64, y: i64, z: i64, w: i64) -> bool
     ensures { λ r. ⌜ r ≡ allInRange x y z w ⌝ }
 {
@@ -79,7 +83,8 @@ fn all_in_range(x: i64, y: i64, z: i64, w: i64) -> bool
     in_range(w)
 }
 
-fn all_zero(x: i64, y: i64, z: i64) -> bool
+// Whether three numbers are all 0.
+pub fn all_zero(x: i64, y: i64, z: i64) -> bool
     ensures { λ r. ⌜ r ≡ allZero x y z ⌝ }
 {
     if x != 0 {
@@ -118,6 +123,7 @@ fn quotient(v: i64, w: i64) -> f64
     v as f64 / w as f64
 }
 
+// The weight divides each of the three.
 fn finite_point(x: i64, y: i64, z: i64, w: i64) -> Coords
     requires { ⌜ (natAbs x ≤ limit) × (natAbs y ≤ limit) × (natAbs z ≤ limit) × (natAbs w ≤ limit) ⌝ }
     ensures { λ r. ⌜ r ≡ coordsOf x y z w ⌝ }
@@ -145,6 +151,7 @@ fn gcd_of_two(a: u64, b: u64) -> u64
     m
 }
 
+// A number in range has a negation in range.
 fn negated_if(negative: bool, v: i64) -> i64
     requires { ⌜ natAbs v ≤ limit ⌝ }
     ensures { λ r. ⌜ r ≡ negatedIf negative v ⌝ }
@@ -155,6 +162,7 @@ fn negated_if(negative: bool, v: i64) -> i64
     v
 }
 
+// The absolute value.
 fn magnitude(v: i64) -> u64
     requires { ⌜ natAbs v ≤ limit ⌝ }
     ensures { λ r. ⌜ r ≡ natAbs v ⌝ }
@@ -179,6 +187,7 @@ fn reduced(v: i64, d: i64, negative: bool) -> i64
     negated_if(negative, v / d)
 }
 
+// One of the three is not 0, so the divisor is not 0.
 fn direction(x: i64, y: i64, z: i64) -> PrimitiveVector
     requires { ⌜ (natAbs x ≤ limit) × (natAbs y ≤ limit) × (natAbs z ≤ limit) × (allZero x y z ≡ false) ⌝ }
     ensures { λ r. ⌜ r ≡ directionOf x y z ⌝ }
@@ -194,6 +203,7 @@ fn direction(x: i64, y: i64, z: i64) -> PrimitiveVector
 
 // ---- the projection
 
+// The tests stand in the document's order: the range, the weight, the other components.
 pub fn project(x: i64, y: i64, z: i64, w: i64) -> Projection
     ensures { λ r. ⌜ r ≡ projectionOf x y z w ⌝ }
 {

@@ -1,0 +1,89 @@
+-- Collecting the polar values of a level: which places are written, and that each entry with h copies of the vertex is written once.
+use Prim.Native.Nat.{ℕ, zero, suc, pred, _+_, _*_, _-_, _≤_, _<_, suc-le-suc, zero-le}
+use native.Mathlib.Nat.{add-zero, zero-add, not-suc-le-zero, le-of-suc-le-suc}
+use native.Mathlib.Omega.{arith}
+use native.Mathlib.Decide.{decLt, ℕ-discrete}
+use mathlib.Core.Path.{_≡_, refl, sym, ap, ap₂, _∙_, subst}
+use mathlib.Core.Logic.{_⊎_, inl, inr, _≢_}
+use mathlib.Core.List.{List, [], _∷_}
+use lib.Dec.{lit≤}
+use lib.IntN.{ℤ, pos}
+use lib.ListN.{length, getD, set, length-set}
+use lib.Seq.{getD-set-same, getD-set-other}
+use Rattle.polar.specs.Order.{total, counts}
+use Rattle.entries.proofs.Places.{rank, offset}
+use Rattle.entries.proofs.Listed.{rank-below}
+use Rattle.machine.specs.Kinds.{further}
+use Rattle.machine.specs.Nets.{used}
+use Rattle.nets.specs.Rows.{Sized, placeAt}
+use Rattle.nets.specs.Levels.{copied, inserted, others, collectedOne, collected}
+use Rattle.nets.proofs.Ranks.{rank-curve, rank-patch, tri-suc, tri-mono, tri-nine, used-curve, used-patch}
+
+-- ---- the two kinds
+
+-- what holds of a curve and of a patch holds of every kind that is sized
+pub by-kind : (P : ℕ → Type 0) (kind degree : ℕ) → Sized kind degree → P 1 → P 2 → P kind
+by-kind P zero degree s one two = absurd (not-suc-le-zero (s .low))
+by-kind P (suc zero) degree s one two = one
+by-kind P (suc (suc zero)) degree s one two = two
+by-kind P (suc (suc (suc k))) degree s one two = absurd (wrong (s .high))
+  where
+    wrong : suc (suc (suc k)) ≤ 2 → ⊥
+    wrong h = omega arith
+
+-- ---- the places of the code
+
+pub place-below : (kind n k : ℕ) → Sized kind n → k ≤ n → 4 * placeAt kind n k + 4 ≤ 180
+place-below kind n k s h =
+    by-kind (λ i. Sized i n → 4 * placeAt i n k + 4 ≤ 180) kind n s (λ t. let z = t .sized in omega arith)
+    (λ t. let z = t .sized in let up = tri-mono (suc n) 9 (omega arith) in omega (arith, up, tri-suc n, tri-nine)) s
+
+-- of the first vertex, any number of copies
+pub place-first : (kind degree h x z : ℕ) → Sized kind degree → h + x ≤ degree → x ≤ (kind - 1) * degree
+    → placeAt kind (degree - h) x ≡ rank (further kind) (inserted 0 z (others kind (degree - h) x))
+place-first kind degree h x z s a =
+    by-kind (λ i. x ≤ (i - 1) * degree → placeAt i (degree - h) x ≡ rank (further i) (inserted 0 z (others i (degree - h) x))) kind degree s
+    (λ b. sym (rank-curve z (degree - h)))
+    (λ b. sym (rank-patch z (degree - h - x) x ∙ ap (λ y. offset (counts 1) y + x) (sum-is a)))
+  where
+    sum-is : h + x ≤ degree → degree - h - x + x ≡ degree - h
+    sum-is q = omega arith
+
+pub place-second : (kind degree h x z : ℕ) → Sized kind degree → h + x ≤ degree → x ≤ (kind - 1) * degree
+    → placeAt kind (z + x) x ≡ rank (further kind) (inserted 1 z (others kind (degree - h) x))
+place-second kind degree h x z s a =
+    by-kind (λ i. x ≤ (i - 1) * degree → placeAt i (z + x) x ≡ rank (further i) (inserted 1 z (others i (degree - h) x))) kind degree s
+    (λ b. let none : x ≡ 0 = omega arith in ap (λ y. z + y) none ∙ add-zero z ∙ sym (rank-curve (degree - h) z))
+    (λ b. sym (rank-patch (degree - h - x) z x))
+
+pub place-third : (kind degree h x z : ℕ) → kind ≡ 2 → placeAt kind (z + x) z ≡ rank (further kind) (inserted 2 z (others kind (degree - h) x))
+place-third kind degree h x z k =
+    subst (λ i. placeAt i (z + x) z ≡ rank (further i) (inserted 2 z (others i (degree - h) x))) (sym k)
+    (ap (λ y. offset (counts 1) y + z) (native.Mathlib.Nat.add-comm z x) ∙ sym (rank-patch (degree - h - x) x z))
+
+pub smaller : {kind degree m : ℕ} → Sized kind degree → m ≤ degree → Sized kind m
+smaller s h = record { low = s .low; high = s .high; sized = let z = s .sized in omega arith }
+
+-- a copy between the places of the code is a copy between the ranks
+pub copy-places : (kind w degree h x : ℕ) (out xs : List ℤ) (to from v : ℕ) → w ≡ v
+    → to ≡ rank (further kind) (inserted v h (others kind (degree - h) x)) → from ≡ rank (further kind) (inserted v 0 (others kind (degree - h) x))
+    → {ys : List ℤ} → ys ≡ copied out to xs from → ys ≡ collectedOne kind w degree h x out xs
+copy-places kind w degree h x out xs to from v e a b is =
+    is ∙ ap₂ (λ p q. copied out p xs q) a b ∙ ap (λ u. collectedOne kind u degree h x out xs) (sym e)
+
+-- what a turn may ask for, from how far x goes
+pub turn-within : (kind degree h x last : ℕ) → Sized kind degree → h ≤ degree → last ≡ (kind - 1) * (degree - h) → x ≤ last → (h + x ≤ degree) × (x ≤ (kind - 1) * degree) × (last ≤ 10)
+turn-within kind degree h x last s a =
+    by-kind (λ i. Sized i degree → last ≡ (i - 1) * (degree - h) → x ≤ last → (h + x ≤ degree) × (x ≤ (i - 1) * degree) × (last ≤ 10)) kind degree s
+    (λ t e b. let z = t .sized in (omega arith, omega arith, omega arith))
+    (λ t e b. let z = t .sized in (omega arith, omega arith, omega arith)) s
+
+-- a net of a known kind and degree fits the array
+pub used-room : (kind degree : ℕ) → Sized kind degree → used kind degree ≤ 180
+used-room kind degree s =
+    by-kind (λ i. Sized i degree → used i degree ≤ 180) kind degree s (λ t. let z = t .sized in omega (arith, used-curve degree))
+    (λ t. let z = t .sized in let up = tri-mono (degree + 1) 9 (omega arith) in omega (arith, used-patch degree, up, tri-nine)) s
+
+-- the third vertex has no more copies than the vertices after the first together
+pub spread-most : (kind degree n : ℕ) → Sized kind degree → (kind - 1) * n ≤ n
+spread-most kind degree n s = by-kind (λ i. (i - 1) * n ≤ n) kind degree s (omega arith) (omega arith)

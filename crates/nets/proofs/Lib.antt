@@ -1,0 +1,12 @@
+pub mod Lists
+pub mod Row
+pub mod Ranks
+pub mod PatchRows
+pub mod Blended
+pub mod Collect
+pub mod Collected
+pub mod LevelValues
+pub mod Descent
+pub mod Signs
+pub mod Judging
+pub mod Steps

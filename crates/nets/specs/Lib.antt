@@ -1,0 +1,4 @@
+pub mod Rows
+pub mod Levels
+pub mod Flips
+pub mod Judged

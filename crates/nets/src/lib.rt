@@ -1,0 +1,82 @@
+// Nets, their moves and points. Every function here takes any numbers whatever; its answer and the
+// net that it hands back are `stepOf` of the crate machine, which the theorem of demand 3 is about.
+mod calls;
+mod flips;
+mod levels;
+mod rows;
+
+ghost use mathlib.Core.Path.{_≡_};
+ghost use lib.IntN.{pos};
+ghost use Rattle.machine.specs.Nets.{stepOf};
+use crate::calls::find_point;
+use crate::calls::handed_refusal;
+use crate::calls::make_move;
+use crate::calls::refuse;
+use machine::Call;
+use machine::Net;
+use machine::Step;
+use machine::Weights;
+
+// Makes a call on a net: a move, a point, or a move of no known operation.
+pub fn perform(net: Net, call: Call) -> Step
+    ensures { λ b. ⌜ b ≡ stepOf net call ⌝ }
+{
+    let number = handed_refusal(net);
+    if number != 0 {
+        return refuse(net, number);
+    }
+    match call {
+        Call::Move {
+            operation,
+            vertex,
+            weights,
+        } => {
+            let r = weights.r;
+            let s = weights.s;
+            let t = weights.t;
+            make_move(net, operation, vertex, r, s, t)
+        }
+        Call::Point(weights) => {
+            let r = weights.r;
+            let s = weights.s;
+            let t = weights.t;
+            find_point(net, r, s, t)
+        }
+    }
+}
+
+// Replaces a vertex by the point that the weights name.
+pub fn replace(net: Net, vertex: u8, weights: Weights) -> Step
+    ensures { λ b. ⌜ b ≡ stepOf net (Call.Move 1 vertex weights) ⌝ }
+{
+    perform(
+        net,
+        Call::Move {
+            operation: 1,
+            vertex,
+            weights,
+        },
+    )
+}
+
+// Flips a vertex: the frame has its negative in its place.
+pub fn flip(net: Net, vertex: u8) -> Step
+    ensures { λ b. ⌜ b ≡ stepOf net (Call.Move 2 vertex (record { r = pos 0; s = pos 0; t = pos 0 })) ⌝ }
+{
+    let weights = Weights { r: 0, s: 0, t: 0 };
+    perform(
+        net,
+        Call::Move {
+            operation: 2,
+            vertex,
+            weights,
+        },
+    )
+}
+
+// Finds the point that the weights name.
+pub fn point(net: Net, weights: Weights) -> Step
+    ensures { λ b. ⌜ b ≡ stepOf net (Call.Point weights) ⌝ }
+{
+    perform(net, Call::Point(weights))
+}
