@@ -61,7 +61,7 @@ length-raise (suc v) [] h = absurd (not-suc-le-zero h)
 length-raise (suc v) (n ∷ e) h = ap suc (length-raise v e (le-of-suc-le-suc h))
 
 -- one blend: if the values with h copies of q are the form's, so are those with one more
-blend : {d : ℕ} {G : List Point → ℤ} → Form d G → (fr : ℕ → Point) (ws : List ℤ) (f : List ℕ → ℤ) (Q : List Point) (e : List ℕ)
+pub blend : {d : ℕ} {G : List Point → ℤ} → Form d G → (fr : ℕ → Point) (ws : List ℤ) (f : List ℕ → ℤ) (Q : List Point) (e : List ℕ)
     → ((v : ℕ) → v < d → f (raise v e) ≡ G (Q ++ taken fr (raise v e)))
     → sum (λ v. getD ws v (pos 0) *ℤ f (raise v e)) (upto d) ≡ G (combination d ws fr ∷ (Q ++ taken fr e))
 blend {d} F fr ws f Q e agrees =

@@ -2,3 +2,4 @@ pub mod Form
 pub mod Polar
 pub mod Places
 pub mod Listed
+pub mod Standard

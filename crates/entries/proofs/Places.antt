@@ -19,14 +19,14 @@ use Rattle.entries.specs.Entries.{same, placeOf}
 
 -- ---- the test of two lists
 
-same-refl : (e : List ℕ) → same e e ≡ true
+pub same-refl : (e : List ℕ) → same e e ≡ true
 same-refl [] = refl
 same-refl (n ∷ e) = ap (λ b. cond b (same e e) false) (eq-eqb n n refl) ∙ same-refl e
 
-clash : {b : Bool} → b ≡ true → b ≡ false → ⊥
+pub clash : {b : Bool} → b ≡ true → b ≡ false → ⊥
 clash p q = let z : _≡_ {A = ℕ} 0 1 = cc in omega arith
 
-same-eq : (e x : List ℕ) → same e x ≡ true → e ≡ x
+pub same-eq : (e x : List ℕ) → same e x ≡ true → e ≡ x
 same-eq [] [] h = refl
 same-eq [] (y ∷ x) h = absurd (clash h refl)
 same-eq (n ∷ e) [] h = absurd (clash h refl)
@@ -66,7 +66,7 @@ place-left e (x ∷ xs) ys m =
     by f rest (inl p) = absurd (clash (subst (λ y. same e y ≡ true) p (same-refl e)) f)
     by f rest (inr k) = ap suc (rest k)
 
-abbrev Absent : List ℕ → List (List ℕ) → Type 0
+abbrev pub Absent : List ℕ → List (List ℕ) → Type 0
 Absent e xs = (x : List ℕ) → List·Memᴰ x xs → same e x ≡ false
 
 place-right : (e : List ℕ) (xs ys : List (List ℕ)) → Absent e xs → placeOf e (xs ++ ys) ≡ length xs + placeOf e ys
@@ -77,13 +77,13 @@ place-right e (x ∷ xs) ys a =
     ∙ omega arith
 
 -- a common first count makes no difference
-place-under : (i : ℕ) (e : List ℕ) (xs : List (List ℕ)) → placeOf (i ∷ e) (map (λ r. i ∷ r) xs) ≡ placeOf e xs
+pub place-under : (i : ℕ) (e : List ℕ) (xs : List (List ℕ)) → placeOf (i ∷ e) (map (λ r. i ∷ r) xs) ≡ placeOf e xs
 place-under i e [] = refl
 place-under i e (x ∷ xs) = ap₂ (λ b k. cond (cond b (same e x) false) 0 (suc k)) (eq-eqb i i refl) (place-under i e xs)
 
 -- ---- rows one after the other
 
-joined-map : {A B C : Type 0} (f : B → List C) (g : A → B) (xs : List A) → joined f (map g xs) ≡ joined (λ x. f (g x)) xs
+pub joined-map : {A B C : Type 0} (f : B → List C) (g : A → B) (xs : List A) → joined f (map g xs) ≡ joined (λ x. f (g x)) xs
 joined-map f g [] = refl
 joined-map f g (x ∷ xs) = ap (λ l. f (g x) ++ l) (joined-map f g xs)
 
@@ -96,19 +96,19 @@ pub offset-snoc : (f : ℕ → List (List ℕ)) (k : ℕ) → offset f (suc k) �
 offset-snoc f zero = omega arith
 offset-snoc f (suc k) = ap (λ x. length (f 0) + x) (offset-snoc (λ j. f (suc j)) k) ∙ sym (add-assoc (length (f 0)) (offset (λ j. f (suc j)) k) (length (f (suc k))))
 
-length-rows : (f : ℕ → List (List ℕ)) (n : ℕ) → length (joined f (upto n)) ≡ offset f n
+pub length-rows : (f : ℕ → List (List ℕ)) (n : ℕ) → length (joined f (upto n)) ≡ offset f n
 length-rows f zero = refl
 length-rows f (suc n) =
     length-append (f 0) (joined f (map suc (upto n)))
     ∙ ap (λ x. length (f 0) + x) (ap length (joined-map f suc (upto n)) ∙ length-rows (λ j. f (suc j)) n)
 
-member-rows : (f : ℕ → List (List ℕ)) (n k : ℕ) (e : List ℕ) → k < n → List·Memᴰ e (f k) → List·Memᴰ e (joined f (upto n))
+pub member-rows : (f : ℕ → List (List ℕ)) (n k : ℕ) (e : List ℕ) → k < n → List·Memᴰ e (f k) → List·Memᴰ e (joined f (upto n))
 member-rows f zero k e h m = absurd (not-suc-le-zero h)
 member-rows f (suc n) zero e h m = Memᴰ·append-left (joined f (map suc (upto n))) m
 member-rows f (suc n) (suc k) e h m =
     Memᴰ·append-right (f 0) (subst (λ l. List·Memᴰ e l) (sym (joined-map f suc (upto n))) (member-rows (λ j. f (suc j)) n k e (le-of-suc-le-suc h) m))
 
-place-rows : (f : ℕ → List (List ℕ)) (n k : ℕ) (e : List ℕ) → k < n → ((j : ℕ) → j < k → Absent e (f j)) → List·Memᴰ e (f k)
+pub place-rows : (f : ℕ → List (List ℕ)) (n k : ℕ) (e : List ℕ) → k < n → ((j : ℕ) → j < k → Absent e (f j)) → List·Memᴰ e (f k)
     → placeOf e (joined f (upto n)) ≡ offset f k + placeOf e (f k)
 place-rows f zero k e h a m = absurd (not-suc-le-zero h)
 place-rows f (suc n) zero e h a m = place-left e (f 0) (joined f (map suc (upto n))) m ∙ sym (zero-add (placeOf e (f 0)))
@@ -170,7 +170,7 @@ length-map : {A B : Type 0} (f : A → B) (xs : List A) → length (map f xs) �
 length-map f [] = refl
 length-map f (x ∷ xs) = ap suc (length-map f xs)
 
-offset-cong : (f g : ℕ → List (List ℕ)) (k : ℕ) → ((j : ℕ) → length (f j) ≡ length (g j)) → offset f k ≡ offset g k
+pub offset-cong : (f g : ℕ → List (List ℕ)) (k : ℕ) → ((j : ℕ) → length (f j) ≡ length (g j)) → offset f k ≡ offset g k
 offset-cong f g zero h = refl
 offset-cong f g (suc k) h = ap₂ _+_ (h 0) (offset-cong (λ j. f (suc j)) (λ j. g (suc j)) k (λ j. h (suc j)))
 

@@ -47,7 +47,7 @@ size-mono (suc n) a b h =
     let m = offset-mono (counts n) (suc a) (suc b) (suc-le-suc h) in
     omega (arith, m, length-counts n a, length-counts n b)
 
-rank-zeros : (n : ℕ) → rank n (replicate (suc n) 0) ≡ 0
+pub rank-zeros : (n : ℕ) → rank n (replicate (suc n) 0) ≡ 0
 rank-zeros zero = refl
 rank-zeros (suc n) = ap₂ (λ k p. offset (counts n) k + p) (total-zeros (suc n)) (rank-zeros n)
 
@@ -80,7 +80,7 @@ all-fails test (y ∷ xs) x m e = by (all-fails test xs x) (List·Memᴰ·cases-
     by rest (inl p) = ap (λ b. b && all test xs) (ap test (sym p) ∙ e)
     by rest (inr k) = ap (λ b. test y && b) (rest k e) ∙ false-right (test y)
 
-entry-blended : (n d : ℕ) (ws ys : List ℤ) (c : ℕ) (e : List ℕ) → c < 4 → length e ≡ suc n → total e ≡ d → entryAt n d (blended n d ws ys) c e ≡ fixed (suc n) ws (entryAt n (suc d) ys c) 1 e
+pub entry-blended : (n d : ℕ) (ws ys : List ℤ) (c : ℕ) (e : List ℕ) → c < 4 → length e ≡ suc n → total e ≡ d → entryAt n d (blended n d ws ys) c e ≡ fixed (suc n) ws (entryAt n (suc d) ys c) 1 e
 unfolding blended
 entry-blended n d ws ys c e k l t = entry-listed n d (λ i. fixed (suc n) ws (entryAt n (suc d) ys i) 1) (drop (size n d) ys) c e k l t
 
@@ -103,7 +103,7 @@ module _ (n : ℕ) where
       ∙ all-cong (λ e. all inRange (map (λ c. entryAt n k ys c e) (upto 4))) (λ e. all (λ c. inRange (entryAt n k ys c e)) (upto 4)) (counts n k)
       (λ e m. all-map inRange (λ c. entryAt n k ys c e) (upto 4))
 
-  length-blended : (k : ℕ) (ws ys : List ℤ) → size n k ≤ length ys → length (blended n k ws ys) ≡ length ys
+  pub length-blended : (k : ℕ) (ws ys : List ℤ) → size n k ≤ length ys → length (blended n k ws ys) ≡ length ys
   unfolding blended
   length-blended k ws ys l =
       length-append (listed n k (λ c. fixed (suc n) ws (entryAt n (suc k) ys c) 1)) (drop (size n k) ys)

@@ -10,3 +10,5 @@ pub mod Descent
 pub mod Signs
 pub mod Judging
 pub mod Steps
+pub mod Tables
+pub mod Through

@@ -2,3 +2,4 @@ pub mod Rows
 pub mod Levels
 pub mod Flips
 pub mod Judged
+pub mod FirstNet

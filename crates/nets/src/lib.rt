@@ -1,6 +1,7 @@
 // Nets, their moves and points. Every function here takes any numbers whatever; its answer and the
 // net that it hands back are `stepOf` of the crate machine, which the theorem of demand 3 is about.
 mod calls;
+mod first;
 mod flips;
 mod levels;
 mod rows;

@@ -72,7 +72,7 @@ exponents-sum [] = refl
 exponents-sum (n ∷ e) = ap (λ z. pos n +ℤ z) (sum-map (λ c. pos (getD (n ∷ e) c 0)) suc (upto (length e)) ∙ exponents-sum e)
 
 -- Z, the coordinate past the exponents, lowers none
-lowered-past : (f : Exponents → ℤ) (e : Exponents) → lowered (length e) f e ≡ f e
+pub lowered-past : (f : Exponents → ℤ) (e : Exponents) → lowered (length e) f e ≡ f e
 lowered-past f [] = refl
 lowered-past f (n ∷ e) = lowered-past (λ r. f (n ∷ r)) e
 

@@ -10,7 +10,7 @@ use Rattle.integers.proofs.Sums.{sum-cong, sum-upto-cong, sum-swap, sum-*l, sum
 use Rattle.integers.proofs.Ring.{ring, ring-rules}
 use Rattle.polar.specs.Sigma.{Point, Exponents, lowered, unit, σ}
 
-lowered-zero : (c : ℕ) (e : Exponents) → lowered c (λ x. pos 0) e ≡ pos 0
+pub lowered-zero : (c : ℕ) (e : Exponents) → lowered c (λ x. pos 0) e ≡ pos 0
 lowered-zero c [] = refl
 lowered-zero zero (zero ∷ e) = refl
 lowered-zero zero (suc n ∷ e) = refl
