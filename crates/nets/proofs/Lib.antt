@@ -12,3 +12,5 @@ pub mod Judging
 pub mod Steps
 pub mod Tables
 pub mod Through
+pub mod Scaled
+pub mod FirstSteps

@@ -33,7 +33,8 @@ use Rattle.machine.proofs.Over.{total-zeros, length-zeros}
 use Rattle.nets.specs.Rows.{Sized, Bounded, blended, written, placeAt}
 use Rattle.nets.specs.Levels.{copied}
 use Rattle.nets.specs.Flips.{countsAt}
-use Rattle.nets.specs.FirstNet.{Coordinates, Small, FrameWithin, vertexWeights, vertexOf, through, firstAt}
+use Rattle.nets.specs.Coordinates.{Coordinates}
+use Rattle.nets.specs.FirstNet.{Small, FrameWithin, vertexWeights, vertexOf, through, firstAt}
 use Rattle.nets.proofs.Lists.{length-written, written-outside, written-at}
 use Rattle.nets.proofs.Collect.{by-kind, smaller, used-room}
 use Rattle.nets.proofs.Blended.{bounded-less}
@@ -155,14 +156,14 @@ blended-small kind m d v B frame ys s w b small i inside =
     let c : i % 4 < 4 = omega arith in
     let i-is : i ≡ 4 * (i / 4) + i % 4 = omega arith in
     let number-is : getD (blended n d ws ys) i (pos 0) ≡ sum (λ u. getD ws u (pos 0) *ℤ entryAt n (suc d) ys (i % 4) (raise u e)) (upto (suc n)) =
-        ap (λ j. getD (blended n d ws ys) j (pos 0)) (i-is ∙ ap (λ j. 4 * j + i % 4) (sym (rank-at n d (i / 4) place)))
-        ∙ sym (entry-rank n d (blended n d ws ys) (i % 4) e (r .0) (r .1))
-        ∙ entry-blended n d ws ys (i % 4) e c (r .0) (r .1) in
+    ap (λ j. getD (blended n d ws ys) j (pos 0)) (i-is ∙ ap (λ j. 4 * j + i % 4) (sym (rank-at n d (i / 4) place)))
+    ∙ sym (entry-rank n d (blended n d ws ys) (i % 4) e (r .0) (r .1))
+    ∙ entry-blended n d ws ys (i % 4) e c (r .0) (r .1) in
     subst (λ z. natAbs z ≤ 4 * suc kind * B) (sym number-is)
     (let bound = abs-sum (λ u. getD ws u (pos 0) *ℤ entryAt n (suc d) ys (i % 4) (raise u e)) (suc n) (4 * B)
-        (λ u p.
-        abs-*-le (getD ws u (pos 0)) (entryAt n (suc d) ys (i % 4) (raise u e)) (weights-within kind m frame v u s w b)
-        (each u e (r .0) (r .1) p (i % 4) c)) in
+    (λ u p.
+    abs-*-le (getD ws u (pos 0)) (entryAt n (suc d) ys (i % 4) (raise u e)) (weights-within kind m frame v u s w b)
+    (each u e (r .0) (r .1) p (i % 4) c)) in
     subst (λ k. natAbs (sum (λ u. getD ws u (pos 0) *ℤ entryAt n (suc d) ys (i % 4) (raise u e)) (upto (suc n))) ≤ k) times bound)
   where
     further-is : further kind ≡ kind

@@ -1,25 +1,14 @@
 -- What the private functions that make a first net do: an entry's points are blended, one after the other, into the net over the frame of the coordinates.
 use Prim.Native.Nat.{ℕ, zero, suc, _+_, _*_, _-_, _/_, _%_, _≤_, _<_}
-use mathlib.Core.Path.{_≡_}
 use mathlib.Core.Bool.{cond}
 use mathlib.Core.List.{List, [], _∷_}
 use lib.Dec.{leb}
 use lib.IntN.{ℤ, pos, natAbs}
-use lib.ListN.{length, getD}
-use Rattle.polar.specs.Order.{total, counts}
-use Rattle.entries.specs.Frame.{taken}
-use Rattle.entries.proofs.Places.{rank}
-use Rattle.entries.proofs.Standard.{units}
+use lib.ListN.{getD}
+use Rattle.polar.specs.Order.{counts}
 use Rattle.machine.specs.Kinds.{further}
 use Rattle.machine.specs.Nets.{used}
-use Rattle.machine.specs.Comparison.{Polynomials, polarOf}
 use Rattle.nets.specs.Rows.{blended}
-
--- the numbers xs are the net over the frame of the coordinates, and small
-pub record Coordinates (kind m : ℕ) (numbers xs : List ℤ) : Type 0 where
-  pub entries : (c : ℕ) (e : List ℕ) → c < 4 → length e ≡ suc (further kind) → total e ≡ m → getD xs (4 * rank (further kind) e + c) (pos 0) ≡ polarOf (record { kind = kind; degree = m; coefficients = numbers }) c (taken (units (further kind)) e)
-  pub small : (i : ℕ) → i < used kind m → natAbs (getD xs i (pos 0)) ≤ 2642411520
-  pub long : length xs ≡ 180
 
 -- every number of the net over the frame of the coordinates is so small that the blends with the frame's vertices fit 64 bits
 abbrev pub Small : ℕ → ℕ → List ℤ → Type 0

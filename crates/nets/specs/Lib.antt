@@ -3,3 +3,4 @@ pub mod Levels
 pub mod Flips
 pub mod Judged
 pub mod FirstNet
+pub mod Coordinates

@@ -11,6 +11,7 @@ use crate::levels::descend;
 use crate::levels::replace_entries;
 use crate::rows::all_in_range;
 use crate::rows::numbers;
+use frames::known_kind;
 use machine::Answer;
 use machine::Call;
 use machine::Found;
@@ -24,21 +25,6 @@ use projection::project;
 const WEIGHT: i64 = 4096;
 
 // ---- refusals
-
-pub(crate) fn known_kind(kind: u8, degree: u8) -> bool
-    ensures { λ r. ⌜ r ≡ known kind degree ⌝ }
-{
-    if degree == 0 {
-        return false;
-    }
-    if kind == 1 {
-        return degree <= 10;
-    }
-    if kind == 2 {
-        return degree <= 8;
-    }
-    false
-}
 
 fn weight_within(w: i64) -> bool
     ensures { λ r. ⌜ r ≡ within 4096 w ⌝ }

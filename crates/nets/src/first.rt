@@ -4,7 +4,10 @@ ghost use mathlib.Core.Path.{_≡_};
 ghost use mathlib.Core.List.{[], _∷_};
 ghost use Prim.Native.Nat.{pred, suc, _+_, _*_, _-_, _<_, _≤_};
 ghost use lib.ListN.{length};
-ghost use Rattle.machine.specs.Kinds.{further};
+ghost use mathlib.Core.Bool.{true};
+ghost use Rattle.machine.specs.Kinds.{further, known};
+ghost use Rattle.machine.specs.Comparison.{netOver};
+ghost use Rattle.machine.specs.First.{frameOf, frameIn, coefficientsIn, netIn, noNet};
 ghost use Rattle.machine.specs.Nets.{used};
 ghost use Rattle.nets.specs.Rows.{Bounded, Sized, blended, written, placeAt};
 ghost use Rattle.nets.specs.Flips.{countsAt};
@@ -16,10 +19,17 @@ ghost use Rattle.nets.specs.FirstNet.{
   through,
   firstAt,
 };
+use crate::coordinates::coordinate_numbers;
 use crate::levels::copy_entry;
 use crate::levels::spread;
+use crate::rows::all_in_range;
 use crate::rows::blend;
+use crate::rows::numbers;
 use crate::rows::place;
+use machine::First;
+use machine::Net;
+
+// ---- one entry
 
 // The vertex at place p of the points of an entry: first the copies of the first vertex, then those
 // of the second, then k of the third.
@@ -114,13 +124,7 @@ pub(crate) fn put_row(
 }
 
 // Makes all entries.
-pub(crate) fn put_entries(
-    out: &mut [i64],
-    xs: [i64; 180],
-    kind: u8,
-    degree: usize,
-    frame: &[i64],
-)
+pub(crate) fn put_entries(out: &mut [i64], xs: [i64; 180], kind: u8, degree: usize, frame: &[i64])
     requires { ⌜ Sized kind degree × (length (now out) ≡ 180) × (length (now frame) ≡ 9) × FrameWithin kind (now frame) × Small kind degree xs ⌝ }
     ensures { λ _. ⌜ now (out .exit) ≡ written (now (out .entry)) 0 (used kind degree) (firstAt kind degree (now (frame .entry)) xs) ⌝ }
 {
@@ -128,5 +132,47 @@ pub(crate) fn put_entries(
     while n <= degree {
         put_row(&mut *out, xs, kind, degree, frame, n);
         n += 1;
+    }
+}
+
+// ---- the net
+
+// The first net of accepted polynomials over an accepted frame.
+pub(crate) fn make_first(kind: u8, degree: u8, frame: [i64; 9], coefficients: [i64; 180]) -> Net
+    requires { ⌜ (known kind degree ≡ true) × (frameIn (suc (further kind)) frame ≡ true) × (coefficientsIn (record { kind = kind; degree = degree; coefficients = coefficients }) ≡ true) ⌝ }
+    ensures { λ r. ⌜ r ≡ netOver (record { kind = kind; degree = degree; coefficients = coefficients }) (frameOf (suc (further kind)) frame) ⌝ }
+{
+    let mut xs = [0; 180];
+    coordinate_numbers(&mut xs, kind, degree as usize, &coefficients);
+    let mut entries = [0; 180];
+    put_entries(&mut entries, xs, kind, degree as usize, &frame);
+    Net {
+        kind,
+        degree,
+        entries,
+    }
+}
+
+// Whether every entry of a net is in range.
+pub(crate) fn net_in_range(net: Net) -> bool
+    requires { ⌜ known (net .kind) (net .degree) ≡ true ⌝ }
+    ensures { λ b. ⌜ b ≡ netIn net ⌝ }
+{
+    let n = numbers(net.kind, net.degree as usize);
+    all_in_range(&net.entries, n)
+}
+
+// A refusal, beside no net.
+pub(crate) fn no_net(number: u8) -> First
+    ensures { λ b. ⌜ b ≡ record { refusal = number; net = noNet } ⌝ }
+{
+    let net = Net {
+        kind: 0,
+        degree: 0,
+        entries: [0; 180],
+    };
+    First {
+        refusal: number,
+        net,
     }
 }

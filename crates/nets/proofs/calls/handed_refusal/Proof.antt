@@ -15,7 +15,6 @@ use Rattle.nets.proofs.calls.handed_refusal.Statement.{statement}
 use Rattle.nets.proofs.calls.handed_refusal.Tie as tie
 use Rattle.nets.proofs.calls.handed_refusal.Reads as reads
 use Rattle.nets.proofs.calls.handed_refusal.Lts as lts
-use Rattle.nets.proofs.calls.known_kind.Reads as known-kind-reads
 use Rattle.nets.proofs.rows.all_in_range.Reads as all-in-range-reads
 use Rattle.nets.proofs.rows.numbers.Reads as numbers-reads
 
@@ -24,9 +23,6 @@ known-seen c b e = sym (sym e ∙ c .known-kind .ensures)
 
 known-ok : (c : tie.Else1) → known (c .before .before .args .net .kind) (c .before .before .args .net .degree) ≡ true
 known-ok c = known-seen (c .before) true (not-false (c .before .known-kind .result) (c .if1 .left))
-
-known-kind-requires : tie.Need-known-kind-requires
-known-kind-requires c κs = search needs
 
 ranged : (c : tie.After-all-in-range) (b : Bool) → c .all-in-range .result ≡ b
     → let n = c .before .before .before .before .before .before .args .net in all inRange (take (used (n .kind) (n .degree)) (n .entries)) ≡ b
@@ -69,6 +65,9 @@ returns-3 c =
     let e = c .before .before .before .before .before in
     let n = e .before .before .args .net in
     sym (ap₂ (λ a b. firstOf (unless a 4) (unless b 10)) (known-ok e) (ranged (c .before) true (not-false (c .before .all-in-range .result) (c .if2 .left))))
+
+known-kind-requires : tie.Need-known-kind-requires
+known-kind-requires c κs = search needs
 
 pub handed-refusal-spec : {M : Type 1} → statement M
 handed-refusal-spec =
