@@ -2,3 +2,4 @@ pub mod All
 pub mod Over
 pub mod Demand3
 pub mod Samples
+pub mod Answers

@@ -10,6 +10,7 @@ mod rows;
 ghost use mathlib.Core.Path.{_≡_};
 ghost use lib.IntN.{pos};
 ghost use Rattle.machine.specs.First.{firstOver};
+ghost use Rattle.machine.specs.Answers.{Numbered};
 ghost use Rattle.machine.specs.Nets.{stepOf};
 use crate::calls::find_point;
 use crate::calls::handed_refusal;
@@ -50,7 +51,7 @@ pub fn first_net(kind: u8, degree: u8, frame: [i64; 9], coefficients: [i64; 180]
 
 // Makes a call on a net: a move, a point, or a move of no known operation.
 pub fn perform(net: Net, call: Call) -> Step
-    ensures { λ b. ⌜ b ≡ stepOf net call ⌝ }
+    ensures { λ b. ⌜ (b ≡ stepOf net call) × Numbered net call (b .answer) ⌝ }
 {
     let number = handed_refusal(net);
     if number != 0 {
@@ -78,7 +79,7 @@ pub fn perform(net: Net, call: Call) -> Step
 
 // Replaces a vertex by the point that the weights name.
 pub fn replace(net: Net, vertex: u8, weights: Weights) -> Step
-    ensures { λ b. ⌜ b ≡ stepOf net (Call.Move 1 vertex weights) ⌝ }
+    ensures { λ b. ⌜ (b ≡ stepOf net (Call.Move 1 vertex weights)) × Numbered net (Call.Move 1 vertex weights) (b .answer) ⌝ }
 {
     perform(
         net,
@@ -92,7 +93,7 @@ pub fn replace(net: Net, vertex: u8, weights: Weights) -> Step
 
 // Flips a vertex: the frame has its negative in its place.
 pub fn flip(net: Net, vertex: u8) -> Step
-    ensures { λ b. ⌜ b ≡ stepOf net (Call.Move 2 vertex (record { r = pos 0; s = pos 0; t = pos 0 })) ⌝ }
+    ensures { λ b. ⌜ (b ≡ stepOf net (Call.Move 2 vertex (record { r = pos 0; s = pos 0; t = pos 0 }))) × Numbered net (Call.Move 2 vertex (record { r = pos 0; s = pos 0; t = pos 0 })) (b .answer) ⌝ }
 {
     let weights = Weights { r: 0, s: 0, t: 0 };
     perform(
@@ -107,7 +108,7 @@ pub fn flip(net: Net, vertex: u8) -> Step
 
 // Finds the point that the weights name.
 pub fn point(net: Net, weights: Weights) -> Step
-    ensures { λ b. ⌜ b ≡ stepOf net (Call.Point weights) ⌝ }
+    ensures { λ b. ⌜ (b ≡ stepOf net (Call.Point weights)) × Numbered net (Call.Point weights) (b .answer) ⌝ }
 {
     perform(net, Call::Point(weights))
 }

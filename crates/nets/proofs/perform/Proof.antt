@@ -9,6 +9,7 @@ use Rattle.machine.specs.declared.Weights.{Weights}
 use Rattle.machine.specs.declared.Call.the-variants as call
 use Rattle.nets.proofs.Row.{seen, element}
 use Rattle.nets.proofs.Steps.{refused-handed}
+use Rattle.machine.proofs.Answers.{numbered}
 use Rattle.nets.proofs.perform.Statement.{statement}
 use Rattle.nets.proofs.perform.Tie as tie
 use Rattle.nets.proofs.perform.Reads as reads
@@ -29,7 +30,10 @@ refuse-requires : tie.Need-refuse-requires
 refuse-requires c κs = search needs
 
 returns : tie.Need-returns
-returns c = let s = c .before .before .before in c .refuse .ensures ∙ refused-handed (s .args .net) (s .args .call) (c .before .before .handed-refusal .result) (c .before .if1 .taken) (c .before .before .handed-refusal .ensures)
+returns c =
+    let s = c .before .before .before in
+    numbered (s .args .net) (s .args .call) (c .refuse .result)
+    (c .refuse .ensures ∙ refused-handed (s .args .net) (s .args .call) (c .before .before .handed-refusal .result) (c .before .if1 .taken) (c .before .before .handed-refusal .ensures))
 
 enum-known-call : tie.Need-enum-known-call
 enum-known-call c = search needs
@@ -48,14 +52,16 @@ returns-2 c =
     let s = c .before .before .before .before .before .before .before .before .before in
     let g = c .before .before .before .before .before .call .given in
     let t = c .before .before .before .struct-told .given in
-    c .make-move .ensures ∙ ap (λ w. stepOf (s .args .net) (call.Move (g .0 .0) (g .0 .1 .0) w)) (weights-back (g .0 .1 .1 .0) (t .0 .1) (t .1 .0 .1) (t .1 .1 .0 .1)) ∙ ap (stepOf (s .args .net)) (sym (g .1))
+    numbered (s .args .net) (s .args .call) (c .make-move .result)
+    (c .make-move .ensures ∙ ap (λ w. stepOf (s .args .net) (call.Move (g .0 .0) (g .0 .1 .0) w)) (weights-back (g .0 .1 .1 .0) (t .0 .1) (t .1 .0 .1) (t .1 .1 .0 .1)) ∙ ap (stepOf (s .args .net)) (sym (g .1)))
 
 returns-3 : tie.Need-returns-3
 returns-3 c =
     let s = c .before .before .before .before .before .before .before .before .before in
     let g = c .before .before .before .before .before .call2 .given in
     let t = c .before .before .before .struct-told4 .given in
-    c .find-point .ensures ∙ ap (λ w. stepOf (s .args .net) (call.Point w)) (weights-back (g .0 .0) (t .0 .1) (t .1 .0 .1) (t .1 .1 .0 .1)) ∙ ap (stepOf (s .args .net)) (sym (g .1))
+    numbered (s .args .net) (s .args .call) (c .find-point .result)
+    (c .find-point .ensures ∙ ap (λ w. stepOf (s .args .net) (call.Point w)) (weights-back (g .0 .0) (t .0 .1) (t .1 .0 .1) (t .1 .1 .0 .1)) ∙ ap (stepOf (s .args .net)) (sym (g .1)))
 
 pub perform-spec : {M : Type 1} → statement M
 perform-spec =

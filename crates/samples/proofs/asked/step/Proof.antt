@@ -33,19 +33,19 @@ returns : tie.Need-returns
 unfolding callOf
 returns c =
     let s = c .before .before .before .before in
-    c .replace .ensures ∙ ap (λ a. stepOf (s .args .net) (callOf a)) (sym (c .before .before .a .given .1))
+    c .replace .ensures .0 ∙ ap (λ a. stepOf (s .args .net) (callOf a)) (sym (c .before .before .a .given .1))
 
 returns-2 : tie.Need-returns-2
 unfolding callOf
 returns-2 c =
     let s = c .before .before .before .before in
-    c .flip .ensures ∙ ap (λ a. stepOf (s .args .net) (callOf a)) (sym (c .before .before .a2 .given .1))
+    c .flip .ensures .0 ∙ ap (λ a. stepOf (s .args .net) (callOf a)) (sym (c .before .before .a2 .given .1))
 
 returns-3 : tie.Need-returns-3
 unfolding callOf
 returns-3 c =
     let s = c .before .before .before .before in
-    c .point .ensures ∙ ap (λ a. stepOf (s .args .net) (callOf a)) (sym (c .before .before .a3 .given .1))
+    c .point .ensures .0 ∙ ap (λ a. stepOf (s .args .net) (callOf a)) (sym (c .before .before .a3 .given .1))
 
 pub step-spec : {M : Type 1} → statement M
 step-spec =
