@@ -8,6 +8,7 @@ pub mod Collected
 pub mod LevelValues
 pub mod Descent
 pub mod Signs
+pub mod Writes
 pub mod Judging
 pub mod Steps
 pub mod Tables

@@ -207,18 +207,6 @@ pub write-more : (xs cur : List ℤ) (from c : ℕ) (v : ℤ) (g : ℕ → ℤ) 
 unfolding written
 write-more xs cur from c v g inv is = ap₂ (λ l y. set l (from + c) y) inv is ∙ ap (λ k. written xs from k g) (sym (add-one c))
 
-pub join : (xs cur ys : List ℤ) (from a p b t : ℕ) (g : ℕ → ℤ) → cur ≡ written xs from a g → ys ≡ written cur p b g → p ≡ from + a → a + b ≡ t → ys ≡ written xs from t g
-join xs cur ys from a p b t g inv is place-is count-is =
-    is ∙ ap₂ (λ l i. written l i b g) inv place-is ∙ written-append xs from a b g ∙ ap (λ k. written xs from k g) count-is
-
--- before the first row nothing is put
-pub put-first : (kind m : ℕ) (numbers xs : List ℤ) → Sized kind m → xs ≡ written xs 0 (4 * placeAt kind 0 0) (coordinateAt kind m numbers)
-unfolding written
-put-first kind m numbers xs s = ap (λ k. written xs 0 k (coordinateAt kind m numbers)) (sym none)
-  where
-    none : 4 * placeAt kind 0 0 ≡ 0
-    none = by-kind (λ i. 4 * placeAt i 0 0 ≡ 0) kind m s refl refl
-
 -- ---- all entries
 
 -- a polar value over the coordinates' frame is small

@@ -164,13 +164,6 @@ row-next kind m n k vertex count xs cur ys s b third counted inv is =
 
 -- ---- rows one after the other
 
-pub rows-first : (kind m v : ℕ) (xs : List ℤ) → Sized kind m → xs ≡ written xs 0 (4 * placeAt kind 0 0) (signedAt (further kind) m v xs)
-unfolding written
-rows-first kind m v xs s = ap (λ k. written xs 0 k (signedAt (further kind) m v xs)) (sym none)
-  where
-    none : 4 * placeAt kind 0 0 ≡ 0
-    none = by-kind (λ i. 4 * placeAt i 0 0 ≡ 0) kind m s refl refl
-
 pub rows-next : (kind m n v : ℕ) (xs cur ys : List ℤ) → Sized kind m → cur ≡ written xs 0 (4 * placeAt kind n 0) (signedAt (further kind) m v xs)
     → ys ≡ written cur (4 * placeAt kind n 0) (4 * suc ((kind - 1) * n)) (signedAt (further kind) m v cur)
     → ys ≡ written xs 0 (4 * placeAt kind (n + 1) 0) (signedAt (further kind) m v xs)

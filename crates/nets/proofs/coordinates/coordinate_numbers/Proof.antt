@@ -8,7 +8,8 @@ use lib.ListN.{length}
 use Rattle.nets.specs.Rows.{written, placeAt}
 use Rattle.nets.specs.Coordinates.{coordinateAt}
 use Rattle.nets.proofs.Signs.{place-row}
-use Rattle.nets.proofs.Scaled.{join, put-first, coordinates-made}
+use Rattle.nets.proofs.Scaled.{coordinates-made}
+use Rattle.nets.proofs.Writes.{rows-none, rows-more}
 use Rattle.nets.proofs.coordinates.coordinate_numbers.Statement.{statement}
 use Rattle.nets.proofs.coordinates.coordinate_numbers.Tie as tie
 
@@ -20,7 +21,7 @@ abbrev μ-loop : tie.MeasureT-loop
 μ-loop out₀ kind degree coefficients n₀ out n = degree + 1 - n
 
 loop-holds : tie.Need-loop-holds Inv-loop μ-loop
-loop-holds c = (search needs, put-first (c .args .kind) (c .args .degree) (c .args .coefficients .now) (c .args .out .now) (c .pre .0), c .pre .2)
+loop-holds c = (search needs, rows-none (c .args .kind) (c .args .degree) (coordinateAt (c .args .kind) (c .args .degree) (c .args .coefficients .now)) (c .args .out .now) (c .pre .0), c .pre .2)
 
 put-row-requires : tie.Need-put-row-requires Inv-loop μ-loop
 put-row-requires c κs =
@@ -37,11 +38,9 @@ loop-less c = omega (arith, c .before .before .before .loop-test .taken)
 loop-again : tie.Need-loop-again Inv-loop μ-loop
 loop-again c =
     let s = c .before .before .before .before .before in
-    let l = c .before .before .before .before .loop in
-    let row = place-row (s .args .kind) (s .args .degree) (l .n) (s .pre .0) in (
+    let l = c .before .before .before .before .loop in (
       omega (arith, c .before .before .before .loop-test .taken),
-      join (s .args .out .now) (l .out) (c .before .put-row .last .0) 0 (4 * placeAt (s .args .kind) (l .n) 0) (4 * placeAt (s .args .kind) (l .n) 0) (4 * suc ((s .args .kind - 1) * l .n)) (4 * placeAt (s .args .kind) (l .n + 1) 0) (coordinateAt (s .args .kind) (s .args .degree) (s .args .coefficients .now)) (l .inv .1)
-          (c .before .put-row .ensures) (sym (zero-add (4 * placeAt (s .args .kind) (l .n) 0))) (omega (arith, row)),
+      rows-more (s .args .kind) (s .args .degree) (l .n) (coordinateAt (s .args .kind) (s .args .degree) (s .args .coefficients .now)) (s .args .out .now) (l .out) (c .before .put-row .last .0) (s .pre .0) (l .inv .1) (c .before .put-row .ensures),
       c .before .put-row .kept .0 ∙ l .inv .2,
     )
 

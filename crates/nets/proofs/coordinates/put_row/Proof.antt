@@ -8,7 +8,7 @@ use Rattle.nets.specs.Rows.{written, placeAt}
 use Rattle.nets.specs.Coordinates.{coordinateAt}
 use Rattle.nets.proofs.Collect.{smaller, spread-most}
 use Rattle.nets.proofs.Signs.{place-step}
-use Rattle.nets.proofs.Scaled.{join}
+use Rattle.nets.proofs.Writes.{row-more}
 use Rattle.nets.proofs.coordinates.put_row.Statement.{statement}
 use Rattle.nets.proofs.coordinates.put_row.Tie as tie
 
@@ -44,11 +44,9 @@ loop-again : tie.Need-loop-again Inv-loop μ-loop
 loop-again c =
     let s = c .before .before .before .before .before .before in
     let l = c .before .before .before .before .loop in
-    let third : l .k ≤ (s .args .kind - 1) * s .args .n = omega (arith, c .before .before .before .loop-test .taken, c .before .before .before .before .before .spread .ensures) in
-    let step = place-step (s .args .kind) (s .args .degree) (s .args .n) (l .k) (s .pre .0) third in (
+    let third : l .k ≤ (s .args .kind - 1) * s .args .n = omega (arith, c .before .before .before .loop-test .taken, c .before .before .before .before .before .spread .ensures) in (
       omega (arith, c .before .before .before .loop-test .taken),
-      join (s .args .out .now) (l .out) (c .before .put-entry .last .0) (4 * placeAt (s .args .kind) (s .args .n) 0) (4 * l .k) (4 * placeAt (s .args .kind) (s .args .n) (l .k)) 4 (4 * (l .k + 1)) (coordinateAt (s .args .kind) (s .args .degree) (s .args .coefficients .now)) (l .inv .1)
-          (c .before .put-entry .ensures) (omega (arith, step)) (omega arith),
+      row-more (s .args .kind) (s .args .degree) (s .args .n) (l .k) (coordinateAt (s .args .kind) (s .args .degree) (s .args .coefficients .now)) (s .args .out .now) (l .out) (c .before .put-entry .last .0) (s .pre .0) third (l .inv .1) (c .before .put-entry .ensures),
       c .before .put-entry .kept .0 ∙ l .inv .2,
     )
 

@@ -9,7 +9,7 @@ use Rattle.machine.specs.Nets.{used}
 use Rattle.nets.specs.Rows.{Sized, written, placeAt}
 use Rattle.nets.specs.FirstNet.{firstAt}
 use Rattle.nets.proofs.Signs.{place-whole}
-use Rattle.nets.proofs.Through.{rows-none, rows-more}
+use Rattle.nets.proofs.Writes.{rows-none, rows-more}
 use Rattle.nets.proofs.first.put_entries.Statement.{statement}
 use Rattle.nets.proofs.first.put_entries.Tie as tie
 use Rattle.nets.proofs.first.put_entries.Reads as reads

@@ -8,7 +8,7 @@ use lib.ListN.{length}
 use Rattle.nets.specs.Rows.{Sized, written, placeAt}
 use Rattle.nets.specs.FirstNet.{firstAt}
 use Rattle.nets.proofs.Collect.{smaller, spread-most}
-use Rattle.nets.proofs.Through.{row-more}
+use Rattle.nets.proofs.Writes.{row-more}
 use Rattle.nets.proofs.first.put_row.Statement.{statement}
 use Rattle.nets.proofs.first.put_row.Tie as tie
 use Rattle.nets.proofs.first.put_row.Reads as reads

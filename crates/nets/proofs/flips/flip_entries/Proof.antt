@@ -10,7 +10,8 @@ use Rattle.machine.specs.Nets.{used}
 use Rattle.nets.specs.Rows.{Sized, written, placeAt}
 use Rattle.nets.specs.Flips.{signedAt}
 use Rattle.nets.proofs.Lists.{written-outside}
-use Rattle.nets.proofs.Signs.{rows-next, rows-first, rows-all}
+use Rattle.nets.proofs.Signs.{rows-next, rows-all}
+use Rattle.nets.proofs.Writes.{rows-none}
 use Rattle.nets.proofs.flips.flip_entries.Statement.{statement}
 use Rattle.nets.proofs.flips.flip_entries.Tie as tie
 use Rattle.nets.proofs.flips.flip_entries.Reads as reads
@@ -25,7 +26,7 @@ abbrev μ-loop : tie.MeasureT-loop
 μ-loop xs₀ kind vertex degree n₀ xs n = degree + 1 - n
 
 loop-holds : tie.Need-loop-holds Inv-loop μ-loop
-loop-holds c = (search needs, rows-first (c .args .kind) (c .args .degree) (pred (c .args .vertex)) (c .args .xs .now) (c .pre .0), c .pre .3)
+loop-holds c = (search needs, rows-none (c .args .kind) (c .args .degree) (signedAt (further (c .args .kind)) (c .args .degree) (pred (c .args .vertex)) (c .args .xs .now)) (c .args .xs .now) (c .pre .0), c .pre .3)
 
 flip-row-requires : tie.Need-flip-row-requires Inv-loop μ-loop
 flip-row-requires c κs =

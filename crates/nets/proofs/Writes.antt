@@ -1,0 +1,38 @@
+-- Entries written one after the other: the writes of a row join, and so do the rows, whatever function of the place is written.
+use Prim.Native.Nat.{ℕ, suc, _+_, _*_, _-_, _≤_}
+use native.Mathlib.Nat.{zero-add}
+use native.Mathlib.Omega.{arith}
+use mathlib.Core.Path.{_≡_, refl, sym, ap, ap₂, _∙_}
+use mathlib.Core.List.{List}
+use lib.IntN.{ℤ}
+use Rattle.nets.specs.Rows.{Sized, placeAt, written}
+use Rattle.nets.proofs.Collect.{by-kind}
+use Rattle.nets.proofs.Signs.{written-append, place-step, place-row}
+
+-- one entry more of a row
+pub row-more : (kind m n k : ℕ) (g : ℕ → ℤ) (out cur ys : List ℤ) → Sized kind m → k ≤ (kind - 1) * n
+    → cur ≡ written out (4 * placeAt kind n 0) (4 * k) g → ys ≡ written cur (4 * placeAt kind n k) 4 g → ys ≡ written out (4 * placeAt kind n 0) (4 * (k + 1)) g
+row-more kind m n k g out cur ys s third inv is =
+    is ∙ ap₂ (λ l i. written l i 4 g) inv place-is ∙ written-append out (4 * placeAt kind n 0) (4 * k) 4 g ∙ ap (λ c. written out (4 * placeAt kind n 0) c g) count-is
+  where
+    place-is : 4 * placeAt kind n k ≡ 4 * placeAt kind n 0 + 4 * k
+    place-is = omega (arith, place-step kind m n k s third)
+
+    count-is : 4 * k + 4 ≡ 4 * (k + 1)
+    count-is = omega arith
+
+-- one row more
+pub rows-more : (kind m n : ℕ) (g : ℕ → ℤ) (out cur ys : List ℤ) → Sized kind m → cur ≡ written out 0 (4 * placeAt kind n 0) g
+    → ys ≡ written cur (4 * placeAt kind n 0) (4 * suc ((kind - 1) * n)) g → ys ≡ written out 0 (4 * placeAt kind (n + 1) 0) g
+rows-more kind m n g out cur ys s inv is =
+    is
+    ∙ ap₂ (λ l p. written l p (4 * suc ((kind - 1) * n)) g) inv (sym (zero-add (4 * placeAt kind n 0)))
+    ∙ written-append out 0 (4 * placeAt kind n 0) (4 * suc ((kind - 1) * n)) g
+    ∙ ap (λ k. written out 0 k g) count-is
+  where
+    count-is : 4 * placeAt kind n 0 + 4 * suc ((kind - 1) * n) ≡ 4 * placeAt kind (n + 1) 0
+    count-is = omega (arith, place-row kind m n s)
+
+pub rows-none : (kind m : ℕ) (g : ℕ → ℤ) (out : List ℤ) → Sized kind m → out ≡ written out 0 (4 * placeAt kind 0 0) g
+unfolding written
+rows-none kind m g out s = ap (λ k. written out 0 k g) (sym (by-kind (λ i. 4 * placeAt i 0 0 ≡ 0) kind m s refl refl))
