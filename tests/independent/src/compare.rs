@@ -1,0 +1,239 @@
+//! A library, answer by answer and net by net, against the machine and the
+//! handed-net model.
+
+use crate::calls::{Answer, Call};
+use crate::counts::Counts;
+use crate::generate::{any_record, encode, everywhere, four_numbers, handed, made, Caller, Mood};
+use crate::handed::Net;
+use crate::library::{answer, Library, Widths};
+use crate::machine::Machine;
+use crate::projection::project;
+use crate::random::Random;
+use crate::record::{self, read_with_net, Record};
+use crate::shape::Shape;
+use crate::text::text;
+
+/// A full sweep of damages, at every byte, once in so many lists.
+const SWEEP_ONCE_IN: usize = 400;
+
+/// Runs so many lists. The first disagreement ends it, with what leads to it.
+pub fn compare_calls(library: &mut dyn Library, lists: usize, seed: u64) -> Result<Counts, String> {
+    let mut counts = Counts::default();
+    for number in 0..lists {
+        let random = Random::new(seed.wrapping_mul(0x1000_0000_01b3).wrapping_add(number as u64));
+        let widths = library.widths();
+        let mut run = Run { library, widths, counts: &mut counts, random };
+        run.one_list(number).map_err(|what| format!("seed {seed}, list {number}: {what}"))?;
+    }
+    Ok(counts)
+}
+
+struct Run<'a> {
+    library: &'a mut dyn Library,
+    widths: Widths,
+    counts: &'a mut Counts,
+    random: Random,
+}
+
+impl Run<'_> {
+    fn one_list(&mut self, number: usize) -> Result<(), String> {
+        if number % SWEEP_ONCE_IN == 0 {
+            return self.sweep(number / SWEEP_ONCE_IN);
+        }
+        match number % 10 {
+            0..=6 => self.record_list(number),
+            7 | 8 => self.handed_list(),
+            _ => self.loose_ends(),
+        }
+    }
+
+    /// The third demand: one record, one list, the machine beside it.
+    fn record_list(&mut self, number: usize) -> Result<(), String> {
+        let mood = Mood::ALL[number % Mood::ALL.len()];
+        let shape = self.random.pick(&Shape::all());
+        let made = made(&mut self.random, shape, mood);
+        let bytes = encode(&made.record);
+        let context = |what: String, calls: &[Call]| format!("{what}\nrecord {}\ncalls {calls:?}", hex(&bytes));
+        let mut net = handed(&mut self.random, self.widths);
+        self.check_read(&bytes, &mut net)?;
+        self.check_text(&bytes)?;
+        let mut machine = Machine::new(&made.record);
+        let mut caller = Caller::new(&made, mood, self.widths.weight_bits);
+        let mut calls = Vec::new();
+        for _ in 0..mood.length(&mut self.random) {
+            let call = caller.next(&mut self.random, machine.frame());
+            calls.push(call);
+            let expected = machine.answer(&call);
+            caller.heard(&call, expected == Answer::Taken);
+            self.check_call(&mut net, &call, Some(expected)).map_err(|what| context(what, &calls))?;
+            if self.random.once_in(8) {
+                check_net(&machine, &net).map_err(|what| context(what, &calls))?;
+            }
+        }
+        check_net(&machine, &net).map_err(|what| context(what, &calls))?;
+        self.counts.frame(frame_bits(&machine));
+        Ok(())
+    }
+
+    /// Calls on a net of any numbers.
+    fn handed_list(&mut self) -> Result<(), String> {
+        let mut net = handed(&mut self.random, self.widths);
+        let start = net.clone();
+        let kind = net.shape().map_or(crate::shape::Kind::Patch, |shape| shape.kind);
+        let mood = self.random.pick(&[Mood::Plain, Mood::Units, Mood::Wide, Mood::Broken]);
+        let mut caller = Caller::blind(kind, mood, self.widths.weight_bits);
+        let mut calls = Vec::new();
+        for _ in 0..self.random.below(25) {
+            let call = caller.next(&mut self.random, &[]);
+            calls.push(call);
+            let taken = self.check_call(&mut net, &call, None);
+            let answer = taken.map_err(|what| format!("{what}\nhanded {start:?}\ncalls {calls:?}"))?;
+            caller.heard(&call, answer == Answer::Taken);
+        }
+        Ok(())
+    }
+
+    /// Records of every sort, texts into short buffers, quadruples to project.
+    fn loose_ends(&mut self) -> Result<(), String> {
+        for _ in 0..6 {
+            let bytes = any_record(&mut self.random);
+            let mut net = handed(&mut self.random, self.widths);
+            self.check_read(&bytes, &mut net)?;
+            self.check_text(&bytes)?;
+        }
+        (0..20).try_for_each(|_| self.check_projection())
+    }
+
+    /// One record damaged at every byte and cut at every length.
+    fn sweep(&mut self, number: usize) -> Result<(), String> {
+        let all = Shape::all();
+        let shape = all[number % all.len()];
+        let mut made = made(&mut self.random, shape, Mood::Plain);
+        let moved = Call::Move { operation: 1, vertex: 1, weights: [1, -1, 0] };
+        made.record.moves = vec![moved, Call::Move { operation: 2, vertex: 2, weights: [0; 3] }];
+        made.record.point = Some([1, 2, 0]);
+        for bytes in everywhere(&encode(&made.record)) {
+            let mut net = Net::empty();
+            self.check_read(&bytes, &mut net)?;
+        }
+        Ok(())
+    }
+
+    /// The answer and the net left, against the model's, and the answer against the
+    /// machine's where there is one.
+    fn check_call(&mut self, net: &mut Net, call: &Call, expected: Option<Answer>) -> Result<Answer, String> {
+        let before = net.clone();
+        let mut model = net.clone();
+        let modelled = model.answer(call);
+        let given = answer(self.library, net, call);
+        self.counts.answer(&given);
+        let expected = expected.unwrap_or(modelled);
+        if modelled != expected {
+            return Err(format!("the handed net answers {modelled:?}, the machine {expected:?}"));
+        }
+        if given != expected {
+            return Err(format!("the library answers {given:?}, expected {expected:?}, on {before:?}"));
+        }
+        if *net != model {
+            return Err(format!("{call:?} leaves {net:?}, expected {model:?}"));
+        }
+        if let (Answer::Taken, Some(shape)) = (given, net.shape()) {
+            self.counts.limit(&net.entries[..4 * shape.places()]);
+        }
+        Ok(given)
+    }
+
+    fn check_read(&mut self, bytes: &[u8], net: &mut Net) -> Result<(), String> {
+        let mut expected_net = net.clone();
+        let expected = read_with_net(bytes);
+        if let Ok((record, first)) = &expected {
+            expected_net.write(record.shape, first);
+        }
+        let expected = expected.map(|(record, _)| record.shape);
+        let given = self.library.read(bytes, net);
+        self.counts.read(expected);
+        if given != expected.map(|_| ()) {
+            return Err(format!("read {given:?}, expected {expected:?}\nrecord {}", hex(bytes)));
+        }
+        if let (Ok(shape), false) = (expected, self.widths.keeps_unused_places) {
+            expected_net.entries[4 * shape.places()..].copy_from_slice(&net.entries[4 * shape.places()..]);
+        }
+        if *net != expected_net {
+            return Err(format!("read {net:?}, expected {expected_net:?}\nrecord {}", hex(bytes)));
+        }
+        self.check_fields(bytes)
+    }
+
+    fn check_fields(&mut self, bytes: &[u8]) -> Result<(), String> {
+        let tag = self.random.pick(&[0, 1, 2, 3, 4, 5, 6, 255]);
+        let expected = record::field(bytes, tag);
+        match self.library.field(bytes, tag) {
+            Some(given) if given != expected => {
+                Err(format!("field {tag} at {given:?}, expected {expected:?}\nrecord {}", hex(bytes)))
+            }
+            _ => Ok(()),
+        }
+    }
+
+    /// The text into buffers of the right length, too long, and too short.
+    fn check_text(&mut self, bytes: &[u8]) -> Result<(), String> {
+        let expected = text(bytes).into_bytes();
+        let long = expected.len() + 1 + self.random.below(40);
+        let short = self.random.below(expected.len());
+        for length in [expected.len(), long, expected.len() - 1, short, 0] {
+            let filler = self.random.next() as u8;
+            let mut buffer = vec![filler; length];
+            let mut wanted = buffer.clone();
+            let wanted_answer = if length < expected.len() { Err(11) } else { Ok(expected.len()) };
+            if wanted_answer.is_ok() {
+                wanted[..expected.len()].copy_from_slice(&expected);
+            }
+            let given = self.library.text(bytes, &mut buffer);
+            self.counts.text(&wanted_answer);
+            if given != wanted_answer || buffer != wanted {
+                let (said, should) = (String::from_utf8_lossy(&buffer), String::from_utf8_lossy(&wanted));
+                return Err(format!("text {given:?}\n{said}\nexpected {wanted_answer:?}\n{should}\nrecord {}", hex(bytes)));
+            }
+        }
+        Ok(())
+    }
+
+    fn check_projection(&mut self) -> Result<(), String> {
+        let point = four_numbers(&mut self.random);
+        let (expected, given) = (project(point), self.library.project(point));
+        self.counts.projection(&expected);
+        if given != expected {
+            return Err(format!("{point:?} projects to {given:?}, expected {expected:?}"));
+        }
+        Ok(())
+    }
+}
+
+/// The net left must be of the machine's shape and hold what the machine's own frame
+/// gives, entry by entry.
+pub fn check_net(machine: &Machine, net: &Net) -> Result<(), String> {
+    let shape = net.shape().ok_or("the net has lost its shape")?;
+    if shape != machine.shape() {
+        return Err(format!("the net is {shape:?}, the record {:?}", machine.shape()));
+    }
+    let expected = machine.net().ok_or("an entry over the machine's frame is out of range")?;
+    if net.used(shape) != expected {
+        return Err(format!("entries {:?}, over the machine's frame {expected:?}", net.used(shape)));
+    }
+    Ok(())
+}
+
+pub fn frame_bits(machine: &Machine) -> usize {
+    machine.frame().iter().flatten().map(|number| number.bits()).max().unwrap_or(0)
+}
+
+pub fn hex(bytes: &[u8]) -> String {
+    bytes.iter().map(|byte| format!("{byte:02x}")).collect()
+}
+
+/// The first net of a record as a net.
+pub fn first_net(record: &Record) -> Net {
+    let mut net = Net::empty();
+    net.write(record.shape, &record.first_net().expect("an accepted record"));
+    net
+}

@@ -1,0 +1,132 @@
+//! How often every refusal and every kind of projection occurred.
+
+use crate::calls::Answer;
+use crate::projection::Projection;
+use crate::record::Refusal;
+use crate::shape::{Shape, RANGE};
+use crate::text::Outcome;
+
+#[derive(Clone, Debug, Default)]
+pub struct Counts {
+    pub calls: u64,
+    pub lists: u64,
+    pub records_read: u64,
+    pub taken: u64,
+    pub found: u64,
+    /// At place N, the refusals with number N.
+    pub refusals: [u64; 12],
+    pub finite: u64,
+    pub direction: u64,
+    pub nowhere: u64,
+    /// Lists after which the frame had a number past 2 to the 48th.
+    pub large_frames: u64,
+    pub largest_frame_bits: usize,
+    /// Nets left or points found with a component of exactly 2 to the 48th.
+    pub at_the_limit: u64,
+    /// The shapes of accepted records, by kind and degree.
+    shapes: [[u64; 11]; 3],
+}
+
+impl Counts {
+    pub fn read(&mut self, outcome: Result<Shape, Refusal>) {
+        self.calls += 1;
+        match outcome {
+            Ok(shape) => {
+                self.records_read += 1;
+                self.shapes[usize::from(shape.kind.number())][shape.degree] += 1;
+            }
+            Err(refusal) => self.refused(refusal.number),
+        }
+    }
+
+    pub fn answer(&mut self, answer: &Answer) {
+        self.calls += 1;
+        self.inner_answer(answer);
+    }
+
+    pub fn projection(&mut self, projection: &Result<Projection, u8>) {
+        self.calls += 1;
+        match projection {
+            Ok(kind) => self.projected(kind),
+            Err(number) => self.refused(*number),
+        }
+    }
+
+    pub fn text(&mut self, answer: &Result<usize, u8>) {
+        self.calls += 1;
+        if let Err(number) = answer {
+            self.refused(*number);
+        }
+    }
+
+    /// All that one run of netprint says.
+    pub fn outcome(&mut self, outcome: &Outcome) {
+        match outcome {
+            Outcome::Refused(refusal) => self.read(Err(*refusal)),
+            Outcome::Made { shape, moves, point, .. } => {
+                self.read(Ok(*shape));
+                moves.iter().chain(point).for_each(|answer| self.inner_answer(answer));
+            }
+        }
+    }
+
+    fn inner_answer(&mut self, answer: &Answer) {
+        match answer {
+            Answer::Taken => self.taken += 1,
+            Answer::Refused(number) => self.refused(*number),
+            Answer::Point { x, y, z, w, projection } => {
+                self.found += 1;
+                self.limit(&[*x, *y, *z, *w]);
+                self.projected(projection);
+            }
+        }
+    }
+
+    pub fn limit(&mut self, components: &[i64]) {
+        self.at_the_limit += u64::from(components.iter().any(|component| component.abs() == RANGE));
+    }
+
+    pub fn frame(&mut self, bits: usize) {
+        self.lists += 1;
+        self.large_frames += u64::from(bits > 49);
+        self.largest_frame_bits = self.largest_frame_bits.max(bits);
+    }
+
+    fn refused(&mut self, number: u8) {
+        self.refusals[usize::from(number)] += 1;
+    }
+
+    fn projected(&mut self, projection: &Projection) {
+        match projection {
+            Projection::Finite { .. } => self.finite += 1,
+            Projection::Direction { .. } => self.direction += 1,
+            Projection::Nowhere => self.nowhere += 1,
+        }
+    }
+
+    /// What never occurred, of the refusals up to `last`, the projections and the shapes.
+    pub fn missing(&self, last: usize) -> Vec<String> {
+        let refusals = (1..=last).filter(|&n| self.refusals[n] == 0).map(|n| format!("refusal {n}"));
+        let words = [("finite", self.finite), ("direction", self.direction), ("nowhere", self.nowhere), ("taken", self.taken)];
+        let projections = words.into_iter().filter(|word| word.1 == 0).map(|word| word.0.to_string());
+        let unseen = |shape: &Shape| self.shapes[usize::from(shape.kind.number())][shape.degree] == 0;
+        let name = |shape: Shape| format!("{} of degree {}", shape.kind.word(), shape.degree);
+        let shapes = Shape::all().into_iter().filter(unseen).map(name);
+        refusals.chain(projections).chain(shapes).collect()
+    }
+
+    /// One line with every count.
+    pub fn closing_line(&self, last: usize) -> String {
+        let refusals: Vec<String> = (1..=last).map(|n| format!("{n}:{}", self.refusals[n])).collect();
+        let mut line = format!(
+            "calls {}; records accepted {}; taken {}; found {}; refused {}; finite {} direction {} nowhere {}; at 2^48 exactly {}",
+            self.calls, self.records_read, self.taken, self.found, refusals.join(" "),
+            self.finite, self.direction, self.nowhere, self.at_the_limit
+        );
+        if self.lists > 0 {
+            let (lists, large, bits) = (self.lists, self.large_frames, self.largest_frame_bits);
+            line += &format!("; lists {lists}, frames past 2^48 after {large} of them, largest {bits} bits");
+        }
+        line
+    }
+}

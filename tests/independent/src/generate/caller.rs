@@ -1,0 +1,235 @@
+//! Lists of calls: proper ones along a frame, and ones broken in every way.
+
+use super::records::Made;
+use crate::calls::{place_of, Call, Weights, FLIP, LARGEST_WEIGHT, REPLACE};
+use crate::exact::Exact;
+use crate::polar::Parameter;
+use crate::random::Random;
+use crate::record::determinant;
+use crate::shape::Kind;
+
+/// What a list is about.
+#[derive(Clone, Copy, Debug, PartialEq, Eq)]
+pub enum Mood {
+    /// Small weights.
+    Plain,
+    /// Long lists with weights 0 and ±1.
+    Units,
+    /// Weights up to their limits.
+    Wide,
+    /// A frame that grows without end under entries that do not.
+    Growth,
+    /// Mostly broken calls.
+    Broken,
+    /// Entries at 2 to the 48th, as in B10.
+    Edge,
+    /// Entries of both signs at or near 2 to the 48th, so that a new net or a point is
+    /// in range while another of the named polar values is not.
+    Cancel,
+}
+
+impl Mood {
+    pub const ALL: [Mood; 7] =
+        [Mood::Plain, Mood::Units, Mood::Wide, Mood::Growth, Mood::Broken, Mood::Edge, Mood::Cancel];
+
+    pub fn length(self, random: &mut Random) -> usize {
+        match self {
+            Mood::Units => 50 + random.below(30),
+            Mood::Growth => 8 + random.below(50),
+            _ => random.below(40),
+        }
+    }
+
+    /// One call in so many is broken.
+    fn broken_once_in(self) -> usize {
+        match self {
+            Mood::Broken => 2,
+            Mood::Plain | Mood::Wide => 6,
+            _ => 12,
+        }
+    }
+}
+
+pub struct Caller {
+    kind: Kind,
+    mood: Mood,
+    aims: Vec<[i64; 3]>,
+    still: Vec<usize>,
+    weight_bits: u32,
+    /// The replace that leads back to the frame before the last one taken.
+    back: Option<Call>,
+    /// Calls to make before any other, the last first.
+    opening: Vec<Call>,
+}
+
+impl Caller {
+    pub fn new(made: &Made, mood: Mood, weight_bits: u32) -> Caller {
+        let (aims, still) = (made.aims.clone(), made.still.clone());
+        let opening = made.opening.clone();
+        Caller { kind: made.record.shape.kind, mood, aims, still, weight_bits, back: None, opening }
+    }
+
+    /// A caller that knows no record.
+    pub fn blind(kind: Kind, mood: Mood, weight_bits: u32) -> Caller {
+        Caller { kind, mood, aims: Vec::new(), still: Vec::new(), weight_bits, back: None, opening: Vec::new() }
+    }
+
+    pub fn next(&mut self, random: &mut Random, frame: &[Parameter<Exact>]) -> Call {
+        if let Some(call) = self.opening.pop() {
+            return call;
+        }
+        if random.once_in(self.mood.broken_once_in()) {
+            return self.broken(random);
+        }
+        match (random.below(12), self.back) {
+            (0..=2, Some(back)) => back,
+            (3 | 4, _) => Call::Move { operation: FLIP, vertex: self.vertex(random), weights: [0; 3] },
+            (5..=8, _) => Call::Point { weights: self.point(random, frame) },
+            _ => self.replace(random),
+        }
+    }
+
+    /// Keeps the way back, where the vertex's weight is ±1: r' = αr + βs gives
+    /// r = αr' − αβs.
+    pub fn heard(&mut self, call: &Call, taken: bool) {
+        if let (Call::Move { operation, vertex, weights }, true) = (*call, taken) {
+            self.back = None;
+            if operation == REPLACE && weights[place_of(vertex)].abs() == 1 {
+                let own = weights[place_of(vertex)];
+                let mut back = weights.map(|weight| -own * weight);
+                back[place_of(vertex)] = own;
+                self.back = Some(Call::Move { operation, vertex, weights: back });
+            }
+        }
+    }
+
+    fn vertices(&self) -> usize {
+        self.kind.vertices()
+    }
+
+    fn vertex(&self, random: &mut Random) -> u8 {
+        1 + random.below(self.vertices()) as u8
+    }
+
+    /// Weights for a point: aimed where the polynomials vanish, or any.
+    pub fn point(&self, random: &mut Random, frame: &[Parameter<Exact>]) -> Weights {
+        if !self.aims.is_empty() && !random.once_in(3) {
+            let aim = random.pick(&self.aims);
+            if let Some(weights) = weights_for(frame, aim) {
+                return weights;
+            }
+        }
+        let mut weights = self.weights(random);
+        for &place in self.still.iter() {
+            weights[place] = wide(random);
+        }
+        weights
+    }
+
+    fn replace(&self, random: &mut Random) -> Call {
+        let vertex = self.vertex(random);
+        let place = place_of(vertex);
+        let mut weights = self.weights(random);
+        if !self.still.is_empty() {
+            weights = self.growing(random, place);
+        }
+        if self.mood == Mood::Edge {
+            weights[place] = random.sign() * random.pick(&[4096, 4096, 256, 16, 16, 15, 17, 1]);
+        }
+        while weights[place] == 0 {
+            weights[place] = self.weight(random);
+        }
+        Call::Move { operation: REPLACE, vertex, weights }
+    }
+
+    /// Large on the vertices that the entries do not see; elsewhere the vertex itself.
+    fn growing(&self, random: &mut Random, place: usize) -> Weights {
+        let mut weights = [0; 3];
+        for &still in &self.still {
+            weights[still] = if random.once_in(3) { wide(random) } else { random.sign() * LARGEST_WEIGHT };
+        }
+        if !self.still.contains(&place) {
+            weights[place] = random.sign();
+        }
+        weights
+    }
+
+    fn weights(&self, random: &mut Random) -> Weights {
+        let mut weights = [0; 3].map(|_| self.weight(random));
+        weights[self.vertices()..].fill(0);
+        weights
+    }
+
+    fn weight(&self, random: &mut Random) -> i64 {
+        match self.mood {
+            Mood::Plain | Mood::Cancel => random.between(-3, 3),
+            Mood::Units | Mood::Growth => random.between(-1, 1),
+            Mood::Wide | Mood::Broken => wide(random),
+            Mood::Edge => random.sign() * random.pick(&[0, 0, 0, 0, 1, 1, 2, 16]),
+        }
+    }
+
+    fn broken(&self, random: &mut Random) -> Call {
+        let mut weights = self.weights(random);
+        let (mut operation, mut vertex) = (REPLACE, self.vertex(random));
+        let place = place_of(vertex);
+        match random.below(11) {
+            0 => operation = random.pick(&[0, 3, 4, 127, 128, 255]),
+            1 => vertex = random.pick(&[0, self.vertices() as u8 + 1, 4, 128, 255]),
+            2 => weights[random.below(self.vertices())] = self.outside(random),
+            3 => weights[2] = if self.kind == Kind::Curve { random.pick(&[1, -1, 4096]) } else { self.outside(random) },
+            4 => (operation, weights[random.below(3)]) = (FLIP, random.pick(&[1, -1, 4096, 5000])),
+            5 => weights[place] = 0,
+            6 => (weights[place], weights[1 - place.min(1)]) = (0, self.outside(random)),
+            7 => return Call::Point { weights: [0; 3] },
+            8 => return Call::Point { weights: [0, 0, if self.kind == Kind::Curve { 1 } else { self.outside(random) }] },
+            9 => {
+                weights[random.below(3)] = self.outside(random);
+                return Call::Point { weights };
+            }
+            _ => (operation, vertex) = (random.next() as u8, random.next() as u8),
+        }
+        Call::Move { operation, vertex, weights }
+    }
+
+    /// A weight past its limits that the library's type still carries.
+    fn outside(&self, random: &mut Random) -> i64 {
+        let (low, high) = (-1i64 << (self.weight_bits - 1), !(-1i64 << (self.weight_bits - 1)));
+        let anywhere = random.between(low, high);
+        let far = if anywhere.unsigned_abs() > LARGEST_WEIGHT as u64 { anywhere } else { low };
+        random.pick(&[LARGEST_WEIGHT + 1, -LARGEST_WEIGHT - 1, low, high, far])
+    }
+}
+
+/// Any weight in the limits, the limits and powers of two often.
+fn wide(random: &mut Random) -> i64 {
+    let power = 1 << random.below(13);
+    let anywhere = random.between(-LARGEST_WEIGHT, LARGEST_WEIGHT);
+    let near = (power + random.between(-1, 1)).min(LARGEST_WEIGHT);
+    random.sign() * random.pick(&[0, 1, LARGEST_WEIGHT, power, near, anywhere])
+}
+
+/// The weights that name a multiple of this parameter point, if the frame is small
+/// enough and they are within their limits: one vertex after the other gives way to
+/// the point in the determinant.
+fn weights_for(frame: &[Parameter<Exact>], aim: [i64; 3]) -> Option<Weights> {
+    let small = |number: &Exact| number.to_i64().filter(|n| n.abs() < 1 << 15);
+    let vertices = frame.iter().map(|[u, v, z]| Some([small(u)?, small(v)?, small(z)?])).collect::<Option<Vec<_>>>()?;
+    let mut weights = [0; 3];
+    for place in 0..vertices.len() {
+        let mut with_aim = vertices.clone();
+        with_aim[place] = aim;
+        weights[place] = determinant(&with_aim);
+    }
+    let divisor = weights.iter().fold(0, |found, &weight| common_divisor(found, weight.abs()));
+    let least = weights.map(|weight| weight / divisor.max(1));
+    least.iter().all(|weight| weight.abs() <= LARGEST_WEIGHT).then_some(least)
+}
+
+fn common_divisor(a: i64, b: i64) -> i64 {
+    if b == 0 {
+        a
+    } else {
+        common_divisor(b, a % b)
+    }
+}

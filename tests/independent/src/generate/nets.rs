@@ -1,0 +1,97 @@
+//! Handed nets and quadruples of any numbers.
+
+use crate::handed::{Net, NUMBERS};
+use crate::library::Widths;
+use crate::random::Random;
+use crate::shape::{Shape, RANGE};
+
+/// A net of anything: mostly one that can be called on, often not.
+pub fn handed(random: &mut Random, widths: Widths) -> Net {
+    let mut net = Net { kind: 0, degree: 0, entries: [0; NUMBERS].map(|_| any_number(random)) };
+    let shape = random.pick(&Shape::all());
+    (net.kind, net.degree) = (i64::from(shape.kind.number()), shape.degree as i64);
+    let sort = random.below(5);
+    let used = 4 * shape.places();
+    net.entries[..used].iter_mut().for_each(|number| *number = entry_number(random, sort));
+    if sort == 4 {
+        one_component(random, &mut net.entries[..used]);
+    } else if random.once_in(3) {
+        about_the_limit(random, shape, &mut net);
+    }
+    if random.once_in(6) {
+        net.entries[random.below(used)] = beyond(random);
+    }
+    if random.once_in(6) {
+        shape_outside(random, &mut net, widths);
+    }
+    net
+}
+
+/// All components but one are 0, so that large ones do not all have to cancel.
+fn one_component(random: &mut Random, used: &mut [i64]) {
+    let kept = random.below(4);
+    let others = used.iter_mut().enumerate().filter(|(place, _)| place % 4 != kept);
+    others.for_each(|(_, number)| *number = 0);
+}
+
+/// One vertex's own entry at the limit or just under it, the others 0 or ±1: sums of
+/// them come to the limit and to one past it.
+fn about_the_limit(random: &mut Random, shape: Shape, net: &mut Net) {
+    let used = &mut net.entries[..4 * shape.places()];
+    used.iter_mut().for_each(|number| *number = random.pick(&[0, 0, 0, 0, 0, 1, -1]));
+    let copies = shape.copies();
+    let vertex = random.below(shape.vertices());
+    let own = copies.iter().position(|copies| copies[vertex] == shape.degree).unwrap_or(0);
+    let component = random.below(4);
+    used[4 * own + component] = random.sign() * (RANGE - random.between(0, 2));
+}
+
+fn shape_outside(random: &mut Random, net: &mut Net, widths: Widths) {
+    let outside = if widths.kind_bits == 8 {
+        random.pick(&[0, 3, 9, 11, 128, 255])
+    } else {
+        let high = !(-1i64 << (widths.kind_bits - 1));
+        random.pick(&[0, 3, 9, 11, 128, 255, 256, 257, 258, -1, high, -high - 1])
+    };
+    match random.below(3) {
+        0 => net.kind = outside,
+        1 => net.degree = outside,
+        _ => (net.kind, net.degree) = (outside, random.pick(&[0, 1, 9, 10, 11])),
+    }
+}
+
+fn entry_number(random: &mut Random, sort: usize) -> i64 {
+    match sort {
+        0 => random.between(-9, 9),
+        1 => random.pick(&[0, 0, 0, 1, -1, RANGE, -RANGE, RANGE - 1, 1 - RANGE]),
+        4 => random.pick(&[0, RANGE, -RANGE, RANGE / 2, -RANGE / 2]),
+        2 => random.between(-RANGE, RANGE) >> random.below(49),
+        _ => random.pick(&[0, 0, 0, 0, 0, 0, 1, -1]),
+    }
+}
+
+fn beyond(random: &mut Random) -> i64 {
+    random.pick(&[RANGE + 1, -RANGE - 1, i64::MAX, i64::MIN, i64::MIN + 1, 1 << 62, -(1 << 53)])
+}
+
+fn any_number(random: &mut Random) -> i64 {
+    let anywhere = random.next() as i64;
+    random.pick(&[anywhere, anywhere, i64::MIN, i64::MAX, 0, RANGE + 1])
+}
+
+/// Four numbers to project, of every case.
+pub fn four_numbers(random: &mut Random) -> [i64; 4] {
+    let sort = random.below(4);
+    let mut point = [0; 4].map(|_| entry_number(random, sort));
+    match random.below(6) {
+        0 => point[3] = 0,
+        1 => point[random.below(4)] = beyond(random),
+        2 => point = [0, 0, 0, random.pick(&[0, 0, -1, 5])],
+        3 => {
+            let common = random.between(-(1 << 20), 1 << 20);
+            point = [common * random.between(-99, 99), common * random.between(-99, 99), common * random.between(-9, 9), 0];
+        }
+        _ => {}
+    }
+    point
+}

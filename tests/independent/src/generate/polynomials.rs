@@ -1,0 +1,126 @@
+//! Coefficients of many sorts, and the parameter points at which they vanish.
+
+use crate::random::Random;
+use crate::record::LARGEST_COEFFICIENT;
+use crate::shape::{Kind, Shape};
+
+/// Coefficients with parameter points to aim at: there w, or everything, is 0.
+pub struct Sort {
+    pub coefficients: Vec<[i64; 4]>,
+    pub aims: Vec<[i64; 3]>,
+}
+
+/// One sort out of all that need no particular frame.
+pub fn any_sort(random: &mut Random, shape: Shape) -> Sort {
+    match random.below(8) {
+        0 => plain(filled(random, shape, |random| random.between(-3, 3))),
+        1 => plain(filled(random, shape, |random| random.between(-1000, 1000))),
+        2 => plain(filled(random, shape, large)),
+        3 => plain(filled(random, shape, |random| if random.once_in(6) { random.between(-50, 50) } else { 0 })),
+        4 => plain(filled(random, shape, |random| if random.once_in(9) { large(random) } else { 0 })),
+        5 => plain(some_components(random, shape)),
+        6 => vanishing(random, shape, [true, true, true, true]),
+        _ => vanishing(random, shape, [false, false, false, true]),
+    }
+}
+
+/// Small enough to be in range over every small frame.
+pub fn tame(random: &mut Random, shape: Shape) -> Sort {
+    plain(filled(random, shape, |random| random.between(-1, 1)))
+}
+
+fn plain(coefficients: Vec<[i64; 4]>) -> Sort {
+    Sort { coefficients, aims: Vec::new() }
+}
+
+fn large(random: &mut Random) -> i64 {
+    let edge = LARGEST_COEFFICIENT;
+    let anywhere = random.between(-edge, edge);
+    random.pick(&[edge, -edge, edge - 1, 1 - edge, anywhere, anywhere])
+}
+
+fn filled(random: &mut Random, shape: Shape, number: impl Fn(&mut Random) -> i64) -> Vec<[i64; 4]> {
+    (0..shape.places()).map(|_| [0; 4].map(|_| number(random))).collect()
+}
+
+/// Some components are the zero polynomial, at times all.
+fn some_components(random: &mut Random, shape: Shape) -> Vec<[i64; 4]> {
+    let kept = [0; 4].map(|_| random.between(0, 1));
+    let all = filled(random, shape, |random| random.between(-5, 5));
+    all.into_iter().map(|entry| [0, 1, 2, 3].map(|c| entry[c] * kept[c])).collect()
+}
+
+/// The marked components have a common linear factor, which is 0 at the point aimed at.
+fn vanishing(random: &mut Random, shape: Shape, marked: [bool; 4]) -> Sort {
+    let aim = random_parameter(random, shape.kind, 2);
+    let form = form_through(random, shape.kind, aim);
+    let mut coefficients = filled(random, shape, |random| random.between(-3, 3));
+    for component in (0..4).filter(|&component| marked[component]) {
+        let rest = shape.kind.exponents(shape.degree - 1).iter().map(|_| random.between(-3, 3)).collect::<Vec<i64>>();
+        let product = times_form(shape.kind, shape.degree - 1, &rest, form);
+        coefficients.iter_mut().zip(product).for_each(|(entry, a)| entry[component] = a);
+    }
+    Sort { coefficients, aims: vec![aim] }
+}
+
+pub fn random_parameter(random: &mut Random, kind: Kind, size: i64) -> [i64; 3] {
+    loop {
+        let mut point = [0; 3].map(|_| random.between(-size, size));
+        if kind == Kind::Curve {
+            point[1] = 0;
+        }
+        if point != [0; 3] {
+            return point;
+        }
+    }
+}
+
+/// A linear form that is 0 at the point, and not the zero form.
+fn form_through(random: &mut Random, kind: Kind, [u, v, z]: [i64; 3]) -> [i64; 3] {
+    if kind == Kind::Curve {
+        return [z, 0, -u];
+    }
+    loop {
+        let [a, b, c] = random_parameter(random, kind, 2);
+        let form = [v * c - z * b, z * a - u * c, u * b - v * a];
+        if form != [0; 3] {
+            return form;
+        }
+    }
+}
+
+/// The product of a form and a polynomial of degree d, of degree d + 1.
+pub fn times_form(kind: Kind, degree: usize, polynomial: &[i64], form: [i64; 3]) -> Vec<i64> {
+    let exponents = kind.exponents(degree + 1);
+    let mut product = vec![0; exponents.len()];
+    for (&(h, l), &a) in kind.exponents(degree).iter().zip(polynomial) {
+        for (target, by) in [((h + 1, l), form[0]), ((h, l + 1), form[1]), ((h, l), form[2])] {
+            if by != 0 {
+                let place = exponents.iter().position(|&e| e == target).expect("a monomial of the product");
+                product[place] += a * by;
+            }
+        }
+    }
+    product
+}
+
+/// A power of one form times a constant for each component: over vertices at which
+/// the form is 0 the frame may grow without end and the entries do not.
+pub fn power_of_form(random: &mut Random, shape: Shape, form: [i64; 3]) -> Option<Vec<[i64; 4]>> {
+    let mut power = vec![1];
+    for degree in 0..shape.degree {
+        power = times_form(shape.kind, degree, &power, form);
+    }
+    let constants = [0; 4].map(|_| random.between(-2, 2));
+    let coefficients: Vec<[i64; 4]> = power.iter().map(|&a| constants.map(|c| a * c)).collect();
+    let inside = coefficients.iter().flatten().all(|a| a.abs() <= LARGEST_COEFFICIENT);
+    inside.then_some(coefficients)
+}
+
+/// Polynomials of a patch without one of the coordinates U, V (0 or 1): they may use
+/// the other one and Z as they like.
+pub fn without_coordinate(random: &mut Random, shape: Shape, left_out: usize) -> Vec<[i64; 4]> {
+    let keep = |&(h, l): &(usize, usize)| if left_out == 0 { h == 0 } else { l == 0 };
+    let exponents = shape.exponents();
+    exponents.iter().map(|e| if keep(e) { [0; 4].map(|_| random.between(-3, 3)) } else { [0; 4] }).collect()
+}

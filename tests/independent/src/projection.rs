@@ -1,0 +1,99 @@
+//! Projection of a found point.
+
+use crate::shape::in_range;
+
+/// The finite case carries the bit patterns of its three f64 numbers, so that
+/// equal answers are equal bits.
+#[derive(Clone, Copy, Debug, PartialEq, Eq)]
+pub enum Projection {
+    Finite { x: u64, y: u64, z: u64 },
+    Direction { x: i64, y: i64, z: i64 },
+    Nowhere,
+}
+
+/// Any four numbers may come, so the range is tested before the case is chosen.
+pub fn project(point: [i64; 4]) -> Result<Projection, u8> {
+    if !point.iter().all(|&component| in_range(component)) {
+        return Err(10);
+    }
+    let [x, y, z, w] = point;
+    Ok(match (w, [x, y, z]) {
+        (0, [0, 0, 0]) => Projection::Nowhere,
+        (0, _) => direction([x, y, z]),
+        _ => Projection::Finite { x: quotient(x, w), y: quotient(y, w), z: quotient(z, w) },
+    })
+}
+
+/// Rounded once, in the division: in range both conversions are exact, below 2 to the
+/// 53rd. 0 over a negative w would be −0, so 0 is answered apart.
+fn quotient(numerator: i64, w: i64) -> u64 {
+    if numerator == 0 {
+        return 0f64.to_bits();
+    }
+    (numerator as f64 / w as f64).to_bits()
+}
+
+/// The shortest whole numbers along the line, turned so that the first of them that
+/// is not 0 is positive. Not all three are 0.
+fn direction(vector: [i64; 3]) -> Projection {
+    let divisor = greatest_common_divisor(vector);
+    let first = vector.iter().find(|&&component| component != 0).copied().unwrap_or(1);
+    let by = if first < 0 { -divisor } else { divisor };
+    let [x, y, z] = vector.map(|component| component / by);
+    Projection::Direction { x, y, z }
+}
+
+/// A common divisor that leaves no common divisor behind, so the greatest.
+fn greatest_common_divisor(vector: [i64; 3]) -> i64 {
+    let divisor = vector.iter().fold(0, |found, &component| euclid(found, component.abs()));
+    assert!(vector.iter().all(|component| component % divisor == 0));
+    divisor
+}
+
+fn euclid(a: i64, b: i64) -> i64 {
+    if b == 0 {
+        a
+    } else {
+        euclid(b, a % b)
+    }
+}
+
+#[cfg(test)]
+mod tests {
+    use super::*;
+    use crate::shape::RANGE;
+
+    /// The definition itself: the largest of all numbers that divide all three.
+    fn by_definition(vector: [i64; 3]) -> i64 {
+        (1..=64).rev().find(|d| vector.iter().all(|component| component % d == 0)).unwrap()
+    }
+
+    #[test]
+    fn divisor_is_the_greatest() {
+        for x in -24..=24 {
+            for y in -24..=24 {
+                for z in [-12, -6, -1, 0, 1, 2, 9, 18] {
+                    if [x, y, z] != [0, 0, 0] {
+                        assert_eq!(greatest_common_divisor([x, y, z]), by_definition([x, y, z]));
+                    }
+                }
+            }
+        }
+    }
+
+    #[test]
+    fn the_four_cases() {
+        assert_eq!(project([-9, 9, 0, 0]), Ok(Projection::Direction { x: 1, y: -1, z: 0 }));
+        assert_eq!(project([0, 0, -RANGE, 0]), Ok(Projection::Direction { x: 0, y: 0, z: 1 }));
+        assert_eq!(project([0, 0, 0, 0]), Ok(Projection::Nowhere));
+        assert_eq!(project([0, -4, 6, -2]), Ok(Projection::Finite { x: 0, y: 2f64.to_bits(), z: (-3f64).to_bits() }));
+        for outside in [RANGE + 1, -RANGE - 1, i64::MIN, i64::MAX] {
+            for place in 0..4 {
+                let mut point = [1, 2, 3, 0];
+                point[place] = outside;
+                assert_eq!(project(point), Err(10));
+            }
+        }
+        assert!(project([RANGE, -RANGE, RANGE, -RANGE]).is_ok());
+    }
+}

@@ -1,0 +1,222 @@
+//! Libraries that are wrong in one place each, the paper's worthless boards among
+//! them. The comparison must find every one.
+
+use independent::calls::Weights;
+use independent::compare::compare_calls;
+use independent::handed::Net;
+use independent::library::{Library, Model, Widths};
+use independent::projection::Projection;
+use independent::record::Refusal;
+use independent::shape::{in_range, Shape, RANGE};
+
+#[derive(Clone, Copy, Debug, PartialEq)]
+enum Fault {
+    None,
+    FlipDoesNothing,
+    ReplaceDoesNothing,
+    SecondNetReversed,
+    RefusesBeforeTheLimit,
+    RefusesAfterTheLimit,
+    LooksOnlyAtTheNewNet,
+    LooksOnlyAtThePointFound,
+    SaysTenTooSoon,
+    NineBeforeEight,
+    StoresHalf,
+    WritesUnusedPlaces,
+    NegativeZero,
+    DirectionNotTurned,
+    DirectionNotReduced,
+    NowhereForDirections,
+    ProjectsAnything,
+    WritesShortBuffers,
+    WritesPastTheText,
+    RefusedRecordMakesANet,
+    OffsetOfTheValue,
+    TakesHandedNetsOutOfRange,
+    ThirdWeightOfACurve,
+}
+
+struct Spoiled {
+    fault: Fault,
+    model: Model,
+}
+
+impl Spoiled {
+    fn is(&self, fault: Fault) -> bool {
+        self.fault == fault
+    }
+}
+
+/// A replace that keeps only the new net, with its own limit and no other test.
+fn plain_replace(net: &Net, shape: Shape, vertex: u8, weights: Weights) -> Vec<[i128; 4]> {
+    let at = usize::from(vertex) - 1;
+    let value = |copies: [usize; 3]| blossom(net, shape, copies, at, weights);
+    shape.copies().into_iter().map(value).collect()
+}
+
+/// The polar value with q in all places of one vertex, by plain recursion.
+fn blossom(net: &Net, shape: Shape, copies: [usize; 3], at: usize, weights: Weights) -> [i128; 4] {
+    let mut others = copies;
+    others[at] = 0;
+    expand(net, shape, others, copies[at], weights)
+}
+
+fn expand(net: &Net, shape: Shape, copies: [usize; 3], left: usize, weights: Weights) -> [i128; 4] {
+    if left == 0 {
+        let place = shape.copies().iter().position(|c| *c == copies).unwrap();
+        return [0, 1, 2, 3].map(|c| i128::from(net.entries[4 * place + c]));
+    }
+    let mut sum = [0; 4];
+    for vertex in (0..shape.vertices()).filter(|&v| weights[v] != 0) {
+        let mut longer = copies;
+        longer[vertex] += 1;
+        let part = expand(net, shape, longer, left - 1, weights);
+        (0..4).for_each(|c| sum[c] += i128::from(weights[vertex]) * part[c]);
+    }
+    sum
+}
+
+/// Refused for size alone, and small enough for plain recursion.
+fn usable(net: &Net, shape: Shape) -> bool {
+    shape.degree <= 3 && net.used(shape).iter().flatten().all(|c| in_range(*c))
+}
+
+fn within(values: &[[i128; 4]], limit: i64) -> bool {
+    values.iter().flatten().all(|value| value.abs() <= i128::from(limit))
+}
+
+fn narrow(values: &[[i128; 4]]) -> Vec<[i64; 4]> {
+    values.iter().map(|entry| entry.map(|c| c as i64)).collect()
+}
+
+impl Library for Spoiled {
+    fn widths(&self) -> Widths {
+        self.model.widths()
+    }
+
+    fn read(&mut self, record: &[u8], net: &mut Net) -> Result<(), Refusal> {
+        let answer = self.model.read(record, net);
+        match (self.fault, answer) {
+            (Fault::RefusedRecordMakesANet, Err(_)) => net.kind = 0,
+            (Fault::WritesUnusedPlaces, Ok(())) => net.entries[179] = 0,
+            (Fault::OffsetOfTheValue, Err(refusal)) if refusal.number == 6 => {
+                return Err(Refusal { number: 6, offset: refusal.offset + 3 });
+            }
+            _ => {}
+        }
+        answer
+    }
+
+    fn take(&mut self, net: &mut Net, operation: u8, vertex: u8, weights: Weights) -> Result<(), u8> {
+        let before = net.clone();
+        let answer = self.model.take(net, operation, vertex, weights);
+        let shape = before.shape();
+        match self.fault {
+            Fault::FlipDoesNothing if operation == 2 => *net = before,
+            Fault::ReplaceDoesNothing if operation == 1 => *net = before,
+            Fault::SecondNetReversed if operation == 2 && answer.is_ok() && net.kind == 1 => {
+                let mut entries = net.used(net.shape().unwrap());
+                entries.reverse();
+                net.write(net.shape().unwrap(), &entries);
+            }
+            Fault::RefusesBeforeTheLimit if operation == 1 && answer.is_ok() => {
+                let edge = net.used(shape.unwrap()).iter().flatten().any(|c| c.abs() == RANGE);
+                if edge {
+                    *net = before;
+                    return Err(10);
+                }
+            }
+            Fault::RefusesAfterTheLimit | Fault::LooksOnlyAtTheNewNet if operation == 1 && answer == Err(10) => {
+                let limit = if self.is(Fault::RefusesAfterTheLimit) { RANGE + 1 } else { RANGE };
+                if let Some(shape) = shape.filter(|s| usable(&before, *s)) {
+                    let values = plain_replace(&before, shape, vertex, weights);
+                    if within(&values, limit) {
+                        net.write(shape, &narrow(&values));
+                        return Ok(());
+                    }
+                }
+            }
+            Fault::SaysTenTooSoon if answer.is_ok() && net.entries[..4].iter().any(|c| c.abs() > 1 << 40) => {
+                *net = before;
+                return Err(10);
+            }
+            Fault::NineBeforeEight if answer == Err(8) && operation == 1 && (1..=2).contains(&vertex) => {
+                if weights[usize::from(vertex) - 1] == 0 {
+                    return Err(9);
+                }
+            }
+            Fault::StoresHalf if answer == Err(10) && operation == 1 => net.entries[0] = net.entries[0].wrapping_add(1),
+            Fault::WritesUnusedPlaces if answer.is_ok() => net.entries[179] = 0,
+            Fault::TakesHandedNetsOutOfRange if operation == 2 && answer == Err(10) => return Ok(()),
+            Fault::ThirdWeightOfACurve if operation == 1 && net.kind == 1 && answer == Err(8) => {
+                return self.model.take(net, operation, vertex, [weights[0], weights[1], 0]);
+            }
+            _ => {}
+        }
+        answer
+    }
+
+    fn find(&mut self, net: &Net, weights: Weights) -> Result<[i64; 4], u8> {
+        let answer = self.model.find(net, weights);
+        if self.is(Fault::LooksOnlyAtThePointFound) && answer == Err(10) {
+            if let Some(shape) = net.shape().filter(|s| usable(net, *s)) {
+                let value = expand(net, shape, [0; 3], shape.degree, weights);
+                if within(&[value], RANGE) {
+                    return Ok(value.map(|c| c as i64));
+                }
+            }
+        }
+        answer
+    }
+
+    fn project(&mut self, point: [i64; 4]) -> Result<Projection, u8> {
+        let [x, y, z, w] = point;
+        let answer = self.model.project(point);
+        match (self.fault, answer) {
+            (Fault::NegativeZero, Ok(Projection::Finite { y, z, .. })) if x == 0 && w < 0 => {
+                Ok(Projection::Finite { x: (-0f64).to_bits(), y, z })
+            }
+            (Fault::DirectionNotTurned, Ok(Projection::Direction { x: dx, y: dy, z: dz })) if x < 0 => {
+                Ok(Projection::Direction { x: -dx, y: -dy, z: -dz })
+            }
+            (Fault::DirectionNotReduced, Ok(Projection::Direction { .. })) => Ok(Projection::Direction { x, y, z }),
+            (Fault::NowhereForDirections, Ok(Projection::Direction { .. })) => Ok(Projection::Nowhere),
+            (Fault::ProjectsAnything, Err(10)) => Ok(Projection::Nowhere),
+            _ => answer,
+        }
+    }
+
+    fn text(&mut self, record: &[u8], buffer: &mut [u8]) -> Result<usize, u8> {
+        let answer = self.model.text(record, buffer);
+        match (self.fault, answer) {
+            (Fault::WritesShortBuffers, Err(11)) => buffer.iter_mut().take(1).for_each(|byte| *byte = byte.wrapping_add(1)),
+            (Fault::WritesPastTheText, Ok(length)) => buffer[length..].fill(0),
+            _ => {}
+        }
+        answer
+    }
+}
+
+#[test]
+fn the_model_itself_agrees() {
+    let mut library = Spoiled { fault: Fault::None, model: Model };
+    compare_calls(&mut library, 300, 7).unwrap();
+}
+
+#[test]
+fn every_fault_is_found() {
+    use Fault::*;
+    let faults = [
+        FlipDoesNothing, ReplaceDoesNothing, SecondNetReversed, RefusesBeforeTheLimit, RefusesAfterTheLimit,
+        LooksOnlyAtTheNewNet, LooksOnlyAtThePointFound, SaysTenTooSoon, NineBeforeEight, StoresHalf,
+        WritesUnusedPlaces, NegativeZero, DirectionNotTurned, DirectionNotReduced, NowhereForDirections,
+        ProjectsAnything, WritesShortBuffers, WritesPastTheText, RefusedRecordMakesANet, OffsetOfTheValue,
+        TakesHandedNetsOutOfRange, ThirdWeightOfACurve,
+    ];
+    for fault in faults {
+        let mut library = Spoiled { fault, model: Model };
+        let answer = compare_calls(&mut library, 2000, 7);
+        let what = answer.err().unwrap_or_else(|| panic!("{fault:?} was not found"));
+        println!("{fault:?}: {}", what.chars().take(70).collect::<String>());
+    }
+}

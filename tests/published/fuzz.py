@@ -1,0 +1,98 @@
+#!/usr/bin/env python3
+"""Random records, whole and broken, through a program and calculator.py.
+
+    python3 fuzz.py PROGRAM [COUNT [SEED]]      stops at the first difference
+    python3 fuzz.py - [COUNT [SEED]]            calculator only, prints a tally
+
+The program reads a record on standard input.  A differing record is printed in
+hex with both texts.
+"""
+import random
+import subprocess
+import sys
+
+import calculator as calc
+
+
+def whole(rnd):
+    kind = rnd.choice((1, 1, 2))
+    m = rnd.randint(1, 10 if kind == 1 else 8)
+    d = kind + 1
+    small = rnd.choice((1, 2, 4))
+    while True:
+        frame = tuple(tuple(rnd.randint(-small, small) for _ in range(d)) for _ in range(d))
+        if calc.determinant(frame) or rnd.random() < 0.02:
+            break
+    top = rnd.choice((1, 3, 1000, 1048576))
+    zero = rnd.choice((0.0, 0.5, 0.9))
+    coeffs = [tuple(0 if rnd.random() < zero else rnd.randint(-top, top) for _ in range(4))
+              for _ in calc.monomials(kind, m)]
+    if rnd.random() < 0.02:
+        coeffs[-1] = (0, 0, 0, rnd.choice((1048577, -1048577, 2**31 - 1, -2**31)))
+
+    def weight():
+        return rnd.choice((0, 1, -1, rnd.randint(-9, 9), rnd.randint(-9, 9),
+                           rnd.randint(-4096, 4096), 4096, -4096, 4097))
+
+    def move():
+        if rnd.random() < 0.05:
+            return (rnd.randint(0, 3), rnd.randint(0, 4), weight(), weight(), weight())
+        vertex = rnd.randint(1, d)
+        if rnd.random() < 0.3:
+            return (2, vertex, 0, 0, 0)
+        return (1, vertex, weight(), weight(), weight() if kind == 2 else 0)
+    moves = None
+    if rnd.random() < 0.8:
+        moves = [move() for _ in range(rnd.choice((0, 1, 2, 3, 5)) if rnd.random() < 0.98 else 33)]
+    point = tuple(weight() for _ in range(d)) if rnd.random() < 0.7 else None
+    return calc.record(kind, m, frame, coeffs, moves, point)
+
+
+def broken(rnd, b):
+    b = bytearray(b)
+    for _ in range(rnd.randint(1, 2)):
+        way = rnd.randrange(5)
+        if way == 0:
+            del b[rnd.randint(0, len(b)):]
+        elif way == 1 and b:
+            b[rnd.randrange(min(len(b), 30))] = rnd.choice((0, 1, 2, 3, 4, 5, 6, 255, rnd.randrange(256)))
+        elif way == 2:
+            b += bytes(rnd.randrange(256) for _ in range(rnd.randint(1, 9)))
+        elif way == 3 and b:
+            b[rnd.randrange(len(b))] ^= 1 << rnd.randrange(8)
+        elif b:
+            i = rnd.randrange(len(b))
+            del b[i:i + rnd.randint(1, 3)]
+    return bytes(b)
+
+
+def main(argv):
+    prog = argv[0]
+    count = int(argv[1]) if len(argv) > 1 else 1000
+    rnd = random.Random(int(argv[2]) if len(argv) > 2 else 1)
+    tally = {}
+    for n in range(count):
+        rec = whole(rnd)
+        if rnd.random() < 0.35:
+            rec = broken(rnd, rec)
+        want = calc.netprint(rec)
+        for line in want.split("\n"):
+            w = line.split()
+            if "refused" in w or (w and w[0] in ("at", "far", "nowhere", "curve", "patch")):
+                key = w[0] if w[0] not in ("refused", "move", "point") else (
+                    "refused " + w[1] if w[0] == "refused" else w[0] + " refused " + w[-1])
+                tally[key] = tally.get(key, 0) + 1
+        if prog != "-":
+            got = subprocess.run([prog], input=rec, stdout=subprocess.PIPE).stdout
+            if got != want.encode("ascii"):
+                print("record %d differs\n%s\nwant:\n%s\ngot:\n%s"
+                      % (n, rec.hex(), want, got.decode("ascii", "replace")))
+                return 1
+    print("%d records alike" % count if prog != "-" else "%d records" % count)
+    for k in sorted(tally):
+        print("%6d  %s" % (tally[k], k))
+    return 0
+
+
+if __name__ == "__main__":
+    sys.exit(main(sys.argv[1:]))
