@@ -1,15 +1,15 @@
 -- The greatest common divisor of whole numbers, defined by its own property: of the numbers that divide each of the given ones it is the largest.
--- Document 01 divides a direction by it ("x, y, z divided by their greatest common divisor"). How the code finds it is not said here.
+-- A direction of document 01 is reduced by it. How the code finds it is not said here.
 use Prim.Native.Nat.{ℕ, zero, suc, _%_, min}
 use mathlib.Core.Bool.{Bool, true, _&&_, cond}
 use mathlib.Core.List.{List, [], _∷_}
 use lib.Dec.{eqb}
 
--- "d divides x": nothing is left over
+-- d divides x: nothing is left over
 abbrev pub divides : ℕ → ℕ → Bool
 divides d x = eqb (x % d) 0
 
--- "d is a common divisor of the numbers": it divides each of them
+-- d is a common divisor: it divides each of the numbers
 unfoldable pub isCommonDivisor : ℕ → List ℕ → Bool
 isCommonDivisor d [] = true
 isCommonDivisor d (x ∷ xs) = divides d x && isCommonDivisor d xs
@@ -32,7 +32,7 @@ unfolding isCommonDivisor
 largestFrom zero xs = 0
 largestFrom (suc n) xs = let next = largestFrom n xs in cond (isCommonDivisor (suc n) xs) (suc n) next
 
--- Document 01's "greatest common divisor". Of zeros alone every number is a common divisor and none is greatest: there it is 0.
+-- the greatest common divisor. Of zeros alone every number is a common divisor and none is greatest: there it is 0.
 unfoldable pub gcd : List ℕ → ℕ
 unfolding leastNonzero largestFrom
 gcd xs = largestFrom (leastNonzero xs) xs

@@ -38,7 +38,7 @@ abbrev pub isNegative : ℤ → Bool
 isNegative (pos n) = false
 isNegative (negsuc n) = true
 
--- the "first nonzero one" of three numbers, and the last where all are 0
+-- of three numbers the first that is not 0, and the last where all are 0
 abbrev pub firstNonzero : ℤ → ℤ → ℤ → ℤ
 firstNonzero x y z = cond (isZero x) (cond (isZero y) z y) x
 
@@ -47,7 +47,7 @@ firstNonzero x y z = cond (isZero x) (cond (isZero y) z y) x
 abbrev pub positiveZero : Float
 positiveZero = fin false 0 (pos 0)
 
--- One of the "three f64 numbers": "one f64 division of the two exactly converted whole numbers; a zero numerator gives positive zero".
+-- A coordinate of a finite point: the component over w, both converted without loss, divided once; a component 0 gives +0 whatever w's sign.
 -- Within the range the conversion is exact (proofs/Finite.antt).
 unfoldable pub quotientOf : ℤ → ℤ → Float
 unfolding ofInt div
@@ -69,7 +69,7 @@ negatedIf false v = v
 abbrev pub gcdOf : ℤ → ℤ → ℤ → ℕ
 gcdOf x y z = gcd (natAbs x ∷ natAbs y ∷ natAbs z ∷ [])
 
--- The "direction": "x, y, z divided by their greatest common divisor, all three negated if the first nonzero one is negative".
+-- The direction: the components reduced by their common divisor, with the sign that makes the first one that is not 0 positive.
 -- `quotZ` is the library's quotient of two integers. Here it is exact: the divisor times the direction's component is the old component, up to the one sign (proofs/Directions.antt).
 unfoldable pub directionOf : ℤ → ℤ → ℤ → PrimitiveVector
 unfolding gcd
