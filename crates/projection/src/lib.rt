@@ -56,8 +56,7 @@ pub enum Projection {
 
 // ---- tests
 
-// A component is in range: from -LIMIT to LIMIT.
-// Whether a component is in range.
+// Whether a component is in range, from -LIMIT to LIMIT.
 pub fn in_range(v: i64) -> bool
     ensures { λ r. ⌜ r ≡ inRange v ⌝ }
 {
