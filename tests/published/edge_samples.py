@@ -1,11 +1,12 @@
-"""Two records at the exact edge of test 7, used by make_samples.py.
+"""Four records at the exact edge of test 7, used by make_samples.py.
 
 An entry of a first net is a multiple of L divided by its binomial or trinomial
 (the frame's numbers are whole), so only few places can hold 2 to the 48th
 itself; entry 4 2 2 of a patch of degree 8 is one (1680 / 420 = 4).  The coefficients of z below were searched for; over
 r = (4, 4, 3), s = (4, 3, 4), t = (3, 4, 4) they put 2^48 there, and 2^48 + 4 in
 the second list.  All other entries are smaller.  The 45 numbers of the expected
-text come from the calculator; only the 2^48 is known beforehand.
+text come from the calculator; only the 2^48 is known beforehand.  The other two
+have every coefficient with the other sign, and so every number of the net.
 """
 import calculator as calc
 
@@ -36,5 +37,15 @@ def samples():
                 rec, text))
     rec = calc.record(2, 8, FRAME, [(0, 0, a, 0) for a in BEYOND])
     out.append(("r7-edge-beyond", "the same with 2^48 + 4 there, the next value it can take: refused",
+                rec, "refused 7 at 26\n"))
+    less = "patch 8 1680\n"
+    for line in text.split("\n")[1:-1]:
+        i, j, k, x, y, z, w = line.split()
+        less += " ".join((i, j, k, x, y, str(-int(z)), w)) + "\n"
+    rec = calc.record(2, 8, FRAME, [(0, 0, -a, 0) for a in EDGE])
+    out.append(("r7-edge-negative-passes", "z of entry 4 2 2 is minus 2 to the 48th exactly: passes",
+                rec, less))
+    rec = calc.record(2, 8, FRAME, [(0, 0, -a, 0) for a in BEYOND])
+    out.append(("r7-edge-negative-beyond", "the same with minus 2^48 - 4 there: refused",
                 rec, "refused 7 at 26\n"))
     return out

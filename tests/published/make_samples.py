@@ -182,14 +182,30 @@ S("r3-field1-big-endian", b"\x01\x02\x00\x01\x02" + C2 + C3, "refused 3 at 0\n",
 S("r3-field2-patch-length", C1 + P2 + C3, "refused 3 at 5\n", "curve with a patch's frame, 18")
 S("r3-field2-curve-length", P1 + C2 + P3, "refused 3 at 5\n", "patch with a curve's frame, 8")
 S("r3-field2-7", C1 + field(2, b"\0" * 7) + C3, "refused 3 at 5\n", "frame of length 7")
+S("r3-field2-9", C1 + field(2, b"\0" * 9) + C3, "refused 3 at 5\n", "frame of length 9")
+S("r3-field2-patch-17", P1 + field(2, b"\0" * 17) + P3, "refused 3 at 5\n", "patch, frame of length 17")
+S("r3-field2-patch-19", P1 + field(2, b"\0" * 19) + P3, "refused 3 at 5\n", "patch, frame of length 19")
 S("r3-field3-less", C1 + C2 + field(3, b"\0" * 32), "refused 3 at 16\n",
   "two monomials for degree 2")
 S("r3-field3-more", C1 + C2 + field(3, b"\0" * 64), "refused 3 at 16\n",
   "four monomials for degree 2")
 S("r3-field3-0", C1 + C2 + field(3, b""), "refused 3 at 16\n", "no monomials")
+S("r3-field3-47", C1 + C2 + field(3, b"\0" * 47), "refused 3 at 16\n",
+  "one byte less than three monomials")
+S("r3-field3-49", C1 + C2 + field(3, b"\0" * 49), "refused 3 at 16\n",
+  "one byte more than three monomials")
+S("r3-field3-patch-less", P1 + P2 + field(3, b"\0" * 80), "refused 3 at 26\n",
+  "patch of degree 2 with five monomials")
+S("r3-field3-patch-more", P1 + P2 + field(3, b"\0" * 112), "refused 3 at 26\n",
+  "patch of degree 2 with seven monomials")
 S("r3-field3-patch-as-curve", P1 + P2 + C3, "refused 3 at 26\n",
   "patch of degree 2 with three monomials")
 S("r3-field4-7", C + field(4, b"\0" * 7), "refused 3 at 67\n", "moves of length 7")
+S("r3-field4-1", C + field(4, b"\0"), "refused 3 at 67\n", "moves of length 1")
+S("r3-field4-9", C + field(4, b"\0" * 9), "refused 3 at 67\n", "moves of length 9")
+S("r3-field4-257", C + field(4, b"\0" * 257), "refused 3 at 67\n", "one byte more than 32 moves")
+S("r3-field4-65528", C + field(4, b"", 65528), "refused 3 at 67\n",
+  "8191 moves claimed: a multiple of 8, and beyond 32")
 S("r3-field4-12", C + field(4, b"\0" * 12), "refused 3 at 67\n", "moves of length 12")
 S("r3-field4-264", C + field(4, b"\0" * 264), "refused 3 at 67\n", "33 moves")
 S("r3-field4-264-short", C + field(4, b"", 264), "refused 3 at 67\n",
@@ -197,6 +213,10 @@ S("r3-field4-264-short", C + field(4, b"", 264), "refused 3 at 67\n",
 S("r3-field5-6", C + f5(1, 1, 0), "refused 3 at 67\n", "curve with a patch's point")
 S("r3-field5-4", P + f5(1, 1), "refused 3 at 125\n", "patch with a curve's point")
 S("r3-field5-0", C + field(5, b""), "refused 3 at 67\n", "point of length 0")
+S("r3-field5-3", C + field(5, b"\0" * 3), "refused 3 at 67\n", "point of length 3")
+S("r3-field5-5", C + field(5, b"\0" * 5), "refused 3 at 67\n", "point of length 5")
+S("r3-field5-patch-5", P + field(5, b"\0" * 5), "refused 3 at 125\n", "patch, point of length 5")
+S("r3-field5-patch-7", P + field(5, b"\0" * 7), "refused 3 at 125\n", "patch, point of length 7")
 
 # ------------------------------------------------------------------------------
 group("Refusal 4: kind or degree outside")
@@ -226,6 +246,8 @@ S("r5-multiple", C1 + f2(1, 2, -2, -4) + C3, "refused 5 at 5\n", "s = -2 r")
 S("r5-zero-vertex", C1 + f2(0, 0, 1, 1) + C3, "refused 5 at 5\n", "r = (0, 0)")
 S("r5-patch-number", P1 + f2(1, 0, 1, 0, 1, 1, 0, 0, -5) + P3, "refused 5 at 5\n",
   "patch, last frame number -5")
+S("r5-patch-number-5", P1 + f2(1, 0, 1, 0, 5, 1, 0, 0, 1) + P3, "refused 5 at 5\n",
+  "patch, frame number 5 in the middle")
 S("r5-patch-line", P1 + f2(1, 0, 1, 0, 1, 1, 1, 1, 2) + P3, "refused 5 at 5\n",
   "patch, t = r + s")
 S("r5-patch-zero", P1 + f2(0, 0, 0, 0, 0, 0, 0, 0, 0) + P3, "refused 5 at 5\n", "patch, all zero")
@@ -305,12 +327,16 @@ moves("m8-vertex-3-curve", (REPL, 3, 1, 1, 1), 8, "vertex 3 of a curve")
 moves("m8-flip-vertex-3-curve", (FLP, 3, 0, 0, 0), 8, "flip of vertex 3 of a curve")
 moves("m8-flip-vertex-0", (FLP, 0, 0, 0, 0), 8, "flip of vertex 0")
 moves("m8-vertex-4-patch", (REPL, 4, 1, 1, 1), 8, "vertex 4 of a patch", P, PHEAD, PNET)
+moves("m8-flip-vertex-4-patch", (FLP, 4, 0, 0, 0), 8, "flip of vertex 4 of a patch", P, PHEAD, PNET)
+moves("m8-vertex-255", (REPL, 255, 1, 1, 0), 8, "vertex 255")
 moves("m8-weight-4097", (REPL, 1, 1, 4097, 0), 8, "weight of the other vertex 4097")
 moves("m8-weight-minus-4097", (REPL, 2, -4097, 1, 0), 8, "weight -4097")
 moves("m8-weight-minus-32768", (REPL, 1, -32768, 1, 0), 8, "weight -32768")
 moves("m8-third-weight-curve", (REPL, 1, 1, 1, 1), 8, "a curve's third weight not 0")
 moves("m8-third-weight-4097-curve", (REPL, 1, 1, 1, 4097), 8, "a curve's third weight outside")
 moves("m8-third-weight-4097-patch", (REPL, 3, 0, 0, 4097), 8, "patch, third weight 4097", P, PHEAD, PNET)
+moves("m8-third-weight-minus-4097-patch", (REPL, 3, 0, 0, -4097), 8, "patch, third weight -4097",
+      P, PHEAD, PNET)
 moves("m8-flip-first-weight", (FLP, 1, 1, 0, 0), 8, "flip with first weight 1")
 moves("m8-flip-second-weight", (FLP, 1, 0, -1, 0), 8, "flip with second weight -1")
 moves("m8-flip-third-weight", (FLP, 2, 0, 0, 1), 8, "flip with third weight 1")
@@ -319,6 +345,9 @@ moves("m8-before-9", (REPL, 1, 0, 1, 1), 8, "replaced vertex has weight 0 and th
 moves("m8-before-9-outside", (REPL, 1, 0, 4097, 0), 8, "replaced vertex has weight 0 and the other 4097: 8 before 9")
 S("m8-passed-over", C + f4((9, 9, 9, 9, 9), (FLP, 1, 0, 0, 0)),
   HEAD + "move 1 refused 8\n" + FLIPR, "refused move passed over, the next taken")
+S("m8-before-10", B10 + f4((REPL, 1, 4096, 0, 0), (REPL, 1, 4096, 0, 0), (REPL, 1, 4097, 0, 0)),
+  "curve 1 1\nmove 3 refused 8\n0 17592186044416 0 0 16777216\n1 0 0 0 1\n",
+  "weight 4097 and the value beyond range (4097 x 2^44): 8 before 10")
 
 group("Moves refused 9")
 moves("m9-r", (REPL, 1, 0, 1, 0), 9, "replace r at (0, 1)")
@@ -381,6 +410,27 @@ S("m-patch-replace-t", P + f4((REPL, 3, 1, 1, 1)),
   PHEAD + "2 0 0 2 0 0 2\n1 1 0 1 1 1 2\n1 0 1 4 1 1 6\n"
           "0 2 0 0 2 0 2\n0 1 1 1 4 1 6\n0 0 2 6 6 2 18\n",
   "patch, replace t at (1, 1, 1); entry 0 0 2 is B9's point")
+# the same q = (1, 1, 3): with r it has 4 1 1 6, with s 1 4 1 6, with t 1 1 0 6
+S("m-patch-replace-r", P + f4((REPL, 1, 1, 1, 1)),
+  PHEAD + "2 0 0 6 6 2 18\n1 1 0 1 4 1 6\n1 0 1 1 1 0 6\n"
+          "0 2 0 0 2 0 2\n0 1 1 0 1 0 2\n0 0 2 0 0 0 2\n",
+  "patch, replace r at (1, 1, 1); entry 2 0 0 is B9's point")
+S("m-patch-replace-s", P + f4((REPL, 2, 1, 1, 1)),
+  PHEAD + "2 0 0 2 0 0 2\n1 1 0 4 1 1 6\n1 0 1 1 0 0 2\n"
+          "0 2 0 6 6 2 18\n0 1 1 1 1 0 6\n0 0 2 0 0 0 2\n",
+  "patch, replace s at (1, 1, 1); entry 0 2 0 is B9's point")
+# B10 as a patch: x = 1048576 Z, w = Z + V + U over r = (0,0,1), s = (1,0,0), t = (0,1,0).
+# Two replaces of r by 4096 r: x 2^44, w 2^24; then t becomes 16 r + t: x 2^48, w 2^28 + 1.
+PB10 = (f1(2, 1) + f2(0, 0, 1, 1, 0, 0, 0, 1, 0)
+        + f3((1048576, 0, 0, 1), (0, 0, 0, 1), (0, 0, 0, 1)))
+PB10MOVES = ((REPL, 1, 4096, 0, 0), (REPL, 1, 4096, 0, 0))
+PB10HEAD = "1 0 0 17592186044416 0 0 16777216\n0 1 0 0 0 0 1\n"
+S("m10-patch-taken", PB10 + f4(*(PB10MOVES + ((REPL, 3, 16, 0, 1),))),
+  "patch 1 1\n" + PB10HEAD + "0 0 1 281474976710656 0 0 268435457\n",
+  "patch, x of the new t is 2 to the 48th exactly: taken")
+S("m10-patch-refused", PB10 + f4(*(PB10MOVES + ((REPL, 3, 17, 0, 1),))),
+  "patch 1 1\nmove 3 refused 10\n" + PB10HEAD + "0 0 1 0 0 0 1\n",
+  "patch, 17 times 2 to the 44th: refused, net stays")
 
 group("Points")
 
@@ -392,6 +442,9 @@ def pt(name, w, line, comment, base=C, head=HEAD, netlines=NET, mv=b""):
 pt("q8-4097", (4097, 1), "point refused 8\n", "point weight 4097")
 pt("q8-minus-4097", (1, -4097), "point refused 8\n", "point weight -4097")
 pt("q8-patch", (1, 1, -32768), "point refused 8\n", "patch, point weight -32768", P, PHEAD, PNET)
+pt("q8-patch-4097", (1, 1, 4097), "point refused 8\n", "patch, third point weight 4097", P, PHEAD, PNET)
+pt("q8-patch-minus-4097", (1, 1, -4097), "point refused 8\n", "patch, third point weight -4097",
+   P, PHEAD, PNET)
 pt("q9", (0, 0), "point refused 9\n", "all weights 0")
 pt("q9-patch", (0, 0, 0), "point refused 9\n", "patch, all weights 0", P, PHEAD, PNET)
 S("q10", B10 + f4((REPL, 1, 4096, 0, 0), (REPL, 1, 4096, 0, 0)) + f5(17, 0),
@@ -401,6 +454,20 @@ S("q10-edge", B10 + f4((REPL, 1, 4096, 0, 0), (REPL, 1, 4096, 0, 0)) + f5(16, 0)
   "curve 1 1\n0 17592186044416 0 0 16777216\n1 0 0 0 1\n"
   "at 4130000000000000 0000000000000000 0000000000000000\n",
   "point at 2 to the 48th exactly: x / w is 2 to the 20th")
+S("q10-negative", B10 + f4((REPL, 1, 4096, 0, 0), (REPL, 1, 4096, 0, 0)) + f5(-17, 0),
+  "curve 1 1\n0 17592186044416 0 0 16777216\n1 0 0 0 1\npoint refused 10\n",
+  "point beyond minus 2 to the 48th")
+S("q10-negative-edge", B10 + f4((REPL, 1, 4096, 0, 0), (REPL, 1, 4096, 0, 0)) + f5(-16, 0),
+  "curve 1 1\n0 17592186044416 0 0 16777216\n1 0 0 0 1\n"
+  "at 4130000000000000 0000000000000000 0000000000000000\n",
+  "point at minus 2 to the 48th exactly: both signs cancel, and 0 / w is +0")
+S("q10-patch", PB10 + f4(*PB10MOVES) + f5(17, 0, 0),
+  "patch 1 1\n" + PB10HEAD + "0 0 1 0 0 0 1\npoint refused 10\n",
+  "patch, point beyond 2 to the 48th")
+S("q10-patch-edge", PB10 + f4(*PB10MOVES) + f5(16, 0, 0),
+  "patch 1 1\n" + PB10HEAD + "0 0 1 0 0 0 1\n"
+  "at 4130000000000000 0000000000000000 0000000000000000\n",
+  "patch, point at 2 to the 48th exactly")
 S("q10-mixed", mixed(65537) + f4(*SCALE4) + f5(2, 1),
   "curve 2 2\n0 -105554726879232 0 0 536870912\n1 70369817919488 0 0 0\n"
   "2 140739635838976 0 0 0\npoint refused 10\n",
@@ -424,6 +491,19 @@ pt("q-far-negative", (-3, 0), "far 1 -2 3\n", "direction of -6 12 -18: first mad
 LIN2 = f1(1, 1) + f2(1, 0, 0, 1) + f3((0, 0, 0, 1), (0, -5, 0, 0))
 pt("q-far-axis", (1, 0), "far 0 1 0\n", "direction 0 -5 0: first nonzero made positive",
    LIN2, "curve 1 1\n", "0 0 -5 0 0\n1 0 0 0 1\n")
+LIN6 = f1(1, 1) + f2(1, 0, 0, 1) + f3((0, 0, 0, 1), (0, 0, -7, 0))
+pt("q-far-last", (1, 0), "far 0 0 1\n", "direction 0 0 -7: z is the first nonzero",
+   LIN6, "curve 1 1\n", "0 0 0 -7 0\n1 0 0 0 1\n")
+# patch x = 2U, y = 3V, w = Z over the axes
+PLIN = f1(2, 1) + f2(1, 0, 0, 0, 1, 0, 0, 0, 1) + f3((0, 0, 0, 1), (0, 3, 0, 0), (2, 0, 0, 0))
+pt("q-patch-far", (3, -4, 0), "far 1 -2 0\n", "patch, direction of 6 -12 0",
+   PLIN, "patch 1 1\n", "1 0 0 2 0 0 0\n0 1 0 0 3 0 0\n0 0 1 0 0 0 1\n")
+PLIN2 = f1(2, 1) + f2(1, 0, 0, 0, 1, 0, 0, 0, 1) + f3((0, 0, 0, 1), (0, 0, 0, 0), (2, 0, 0, 0))
+pt("q-patch-nowhere", (0, 1, 0), "nowhere\n", "patch, all four polynomials vanish at s",
+   PLIN2, "patch 1 1\n", "1 0 0 2 0 0 0\n0 1 0 0 0 0 0\n0 0 1 0 0 0 1\n")
+# q = (4096, 0, 4096) + (0, 0, -4096) = (4096, 0, 0): B8's point there is 0 0 0 0
+pt("q-patch-4096", (4096, 0, -4096), "nowhere\n", "patch, weights 4096 and -4096 pass",
+   P, PHEAD, PNET)
 LIN3 = f1(1, 1) + f2(1, 0, 0, 1) + f3((0, 0, 0, 0), (7, 7, 7, 7))
 pt("q-nowhere", (0, 1), "nowhere\n", "all four polynomials vanish at s",
    LIN3, "curve 1 1\n", "0 7 7 7 7\n1 0 0 0 0\n")
@@ -448,6 +528,28 @@ S("ok-32-refused", C + f4(*([(0, 0, 0, 0, 0)] * 32)),
   HEAD + "".join("move %d refused 8\n" % k for k in range(1, 33)) + NET, "32 moves, all refused 8")
 S("ok-frame-4", f1(1, 1) + f2(4, -4, 4, 4) + f3((0, 0, 0, 1), (1, 0, 0, 0)),
   "curve 1 1\n0 4 0 0 -4\n1 4 0 0 4\n", "frame numbers 4 and -4")
+S("ok-frame-4-patch", f1(2, 1) + f2(4, -4, 4, -4, -4, 4, 4, 4, 4)
+  + f3((0, 0, 0, 1), (0, 1, 0, 0), (1, 0, 0, 0)),
+  "patch 1 1\n1 0 0 4 -4 0 4\n0 1 0 -4 -4 0 4\n0 0 1 4 4 0 4\n", "patch, frame numbers 4 and -4")
+S("ok-weight-minus-4096", C + f4((REPL, 1, -4096, 0, 0)),
+  HEAD + "0 33554432 0 0 33554432\n1 -8192 -8192 0 -8192\n2 0 4 0 4\n",
+  "replace r at (-4096, 0): weight -4096 passes")
+# q = 4096 r + s: with r 4096 (2 0 0 2) + (2 2 0 2), with itself
+# 2^24 (2 0 0 2) + 8192 (2 2 0 2) + (0 4 0 4); the other sign of 4096 likewise
+S("ok-weight-other-4096", C + f4((REPL, 2, 4096, 1, 0)),
+  HEAD + "0 2 0 0 2\n1 8194 2 0 8194\n2 33570816 16388 0 33570820\n",
+  "replace s at (4096, 1): the other vertex has weight 4096")
+S("ok-weight-other-minus-4096", C + f4((REPL, 2, -4096, 1, 0)),
+  HEAD + "0 2 0 0 2\n1 -8190 2 0 -8190\n2 33538048 -16380 0 33538052\n",
+  "replace s at (-4096, 1): the other vertex has weight -4096")
+S("ok-third-weight-4096-patch", P + f4((REPL, 3, 0, 0, 4096)),
+  PHEAD + "2 0 0 2 0 0 2\n1 1 0 1 1 1 2\n1 0 1 4096 0 0 8192\n"
+          "0 2 0 0 2 0 2\n0 1 1 0 4096 0 8192\n0 0 2 0 0 0 33554432\n",
+  "patch, replace t at (0, 0, 4096)")
+S("ok-third-weight-minus-4096-patch", P + f4((REPL, 3, 0, 0, -4096)),
+  PHEAD + "2 0 0 2 0 0 2\n1 1 0 1 1 1 2\n1 0 1 -4096 0 0 -8192\n"
+          "0 2 0 0 2 0 2\n0 1 1 0 -4096 0 -8192\n0 0 2 0 0 0 33554432\n",
+  "patch, replace t at (0, 0, -4096)")
 S("ok-coefficients", f1(1, 1) + f2(0, 1, 1, 0)
   + f3((1048576, -1048576, 1048576, -1048576), (-1048576, 1048576, 0, 1048576)),
   "curve 1 1\n0 1048576 -1048576 1048576 -1048576\n1 -1048576 1048576 0 1048576\n",
@@ -477,6 +579,30 @@ S("ok-patch-1", f1(2, 1) + f2(1, 0, 0, 0, 1, 0, 0, 0, 1)
 S("ok-patch-3", f1(2, 3) + P2
   + f3((0, 0, 0, 1), *([(0, 0, 0, 0)] * 4), (1, 0, 0, 0), *([(0, 0, 0, 0)] * 4)),
   None, "patch of degree 3: scale 6; x = U V Z gives i x j")
+# the degrees that no other record has: x = T Z^(m-1) or U Z^(m-1), w = Z^m, every Z being 1.
+# Entry j has x = j L/m, entry (i, j, k) x = i L/m, and w = L.
+for m, L in ((5, 10), (7, 105), (9, 252)):
+    S("ok-curve-%d" % m, f1(1, m) + C2 + f3(*([(0, 0, 0, 1), (1, 0, 0, 0)] + [(0, 0, 0, 0)] * (m - 1))),
+      "curve %d %d\n" % (m, L) + "".join("%d %d 0 0 %d\n" % (j, j * (L // m), L) for j in range(m + 1)),
+      "curve of degree %d: scale %d" % (m, L))
+for m, L in ((4, 12), (5, 60), (6, 180), (7, 420)):
+    rows = [(0, 0, 0, 0)] * ((m + 1) * (m + 2) // 2)
+    rows[0], rows[m + 1] = (0, 0, 0, 1), (1, 0, 0, 0)          # h = 0 has m + 1 monomials
+    S("ok-patch-%d" % m, f1(2, m) + P2 + f3(*rows),
+      "patch %d %d\n" % (m, L) + "".join(
+          "%d %d %d %d 0 0 %d\n" % (i, j, m - i - j, i * (L // m), L)
+          for i in range(m, -1, -1) for j in range(m - i, -1, -1)),
+      "patch of degree %d: scale %d" % (m, L))
+# x = y = z = w = -2^20 U^8 and every U is 4: each number is -2^20 x 1680 x 4^8, 16 characters.
+# 4096 r is beyond range, so each of 32 replaces is refused 10; the point r is 1 1 1.
+LONGEST = ("patch 8 1680\n" + "".join("move %d refused 10\n" % k for k in range(1, 33))
+           + "".join("%s%s\n" % (e, " -115448720916480" * 4) for e in E8)
+           + "at 3ff0000000000000 3ff0000000000000 3ff0000000000000\n")
+assert len(LONGEST) == 3996
+S("ok-longest-text", f1(2, 8) + f2(4, 4, 4, 4, 4, 3, 4, 3, 4)
+  + f3(*(PZ[:44] + [(-1048576, -1048576, -1048576, -1048576)]))
+  + f4(*([(REPL, 1, 4096, 0, 0)] * 32)) + f5(1, 0, 0),
+  LONGEST, "a text of 3996 bytes: 32 moves refused 10, 180 numbers of 16 characters, a point")
 
 # the record r2-after-1017
 ALL = [(n, c, MAXREC + b"\0" * (3000 - 1017) if n == "r2-after-1017" else r, x)

@@ -10,7 +10,7 @@ use mathlib.Core.Bool.{Bool, true, false, cond}
 use mathlib.Core.List.{List, [], _∷_, _++_, map, List·Memᴰ, List·Memᴰ·head, List·Memᴰ·tail, List·Memᴰ·not-nil, List·Memᴰ·cases-cons, Memᴰ·append-left, Memᴰ·append-right, Memᴰ·map, Memᴰ·of-map}
 use lib.Dec.{eqb}
 use borrow.Author.Tests.{eqb-true, eq-eqb, ne-eqb}
-use lib.ListN.{length, getD, length-append}
+use lib.ListN.{length, getD, length-append, length-map}
 use lib.Seq.{getD-append-add}
 use Rattle.integers.specs.Sum.{upto}
 use Rattle.polar.specs.Order.{joined, total, counts}
@@ -166,16 +166,12 @@ rank zero e = 0
 rank (suc n) [] = 0
 rank (suc n) (i ∷ e) = offset (counts n) (total e) + rank n e
 
-length-map : {A B : Type 0} (f : A → B) (xs : List A) → length (map f xs) ≡ length xs
-length-map f [] = refl
-length-map f (x ∷ xs) = ap suc (length-map f xs)
-
 pub offset-cong : (f g : ℕ → List (List ℕ)) (k : ℕ) → ((j : ℕ) → length (f j) ≡ length (g j)) → offset f k ≡ offset g k
 offset-cong f g zero h = refl
 offset-cong f g (suc k) h = ap₂ _+_ (h 0) (offset-cong (λ j. f (suc j)) (λ j. g (suc j)) k (λ j. h (suc j)))
 
 offset-row : (n m k : ℕ) → offset (rowOf n m) k ≡ offset (counts n) k
-offset-row n m k = offset-cong (rowOf n m) (counts n) k (λ j. length-map (λ r. (m - j) ∷ r) (counts n j))
+offset-row n m k = offset-cong (rowOf n m) (counts n) k (λ j. length-map (counts n j) (λ r. (m - j) ∷ r))
 
 -- how many entries there are
 pub length-counts : (n m : ℕ) → length (counts (suc n) m) ≡ offset (counts n) (suc m)
@@ -261,7 +257,7 @@ rank-at zero m (suc p) h = absurd (wrong h)
     wrong w = omega arith
 rank-at (suc n) m p h =
     let r = find-row (rowOf n m) (suc m) p (subst (λ k. p < k) (length-rows (rowOf n m) (suc m)) h) in
-    let below : r .at < length (counts n (r .row)) = subst (λ k. r .at < k) (length-map (λ y. (m - r .row) ∷ y) (counts n (r .row))) (r .at-below) in
+    let below : r .at < length (counts n (r .row)) = subst (λ k. r .at < k) (length-map (counts n (r .row)) (λ y. (m - r .row) ∷ y)) (r .at-below) in
     ap (rank (suc n)) (r .holds ∙ getD-map (λ y. (m - r .row) ∷ y) (counts n (r .row)) (r .at) below)
     ∙ ap₂ _+_ (ap (offset (counts n)) (counts-at n (r .row) (r .at) below .1)) (rank-at n (r .row) (r .at) below)
     ∙ sym (r .is ∙ ap (λ k. k + r .at) (offset-row n m (r .row)))

@@ -1,18 +1,18 @@
--- Kinds, degrees and counts: the number of monomials of every known kind and degree is tested in one computation.
-use Prim.Native.Nat.{ℕ, zero, suc, _+_, _*_, _≤_, _<_, suc-le-suc, zero-le}
-use native.Mathlib.Nat.{mul-le-mul}
+-- Kinds, degrees and counts. Twice the monomials of a patch are (m + 1) (m + 2): the rows with their first exponent below h, and the rest, are followed by h.
+use Prim.Native.Nat.{ℕ, zero, suc, _+_, _-_, _*_, _≤_, _<_, suc-le-suc, zero-le}
+use native.Mathlib.Nat.{mul-le-mul, mul-suc, suc-mul, mul-assoc}
 use native.Mathlib.Omega.{arith}
 use native.Mathlib.Decide.{ℕ-discrete}
-use mathlib.Core.Path.{_≡_, refl, sym, ap, _∙_, subst}
-use mathlib.Core.Bool.{Bool, true, false, _&&_}
-use lib.Dec.{leb, eqb}
+use mathlib.Core.Path.{_≡_, refl, sym, ap, ap₂, _∙_, subst}
+use mathlib.Core.Bool.{true, false, _&&_}
+use lib.Dec.{leb}
 use lib.ListN.{length}
-use borrow.Author.Tests.{le-leb, lt-leb, leb-true, eqb-true}
-use Rattle.integers.specs.Sum.{upto}
+use borrow.Author.Tests.{le-leb, lt-leb, leb-true}
 use Rattle.polar.specs.Order.{monomials}
-use Rattle.machine.specs.Kinds.{further, highest, known, all}
-use Rattle.machine.proofs.All.{all-at, and-parts}
-use Rattle.machine.proofs.Over.{below-upto}
+use Rattle.entries.proofs.Places.{offset}
+use Rattle.entries.proofs.Standard.{length-one, length-two, offset-step}
+use Rattle.machine.specs.Kinds.{further, highest, known}
+use Rattle.machine.proofs.All.{and-parts}
 
 -- ---- kind and degree
 
@@ -53,48 +53,60 @@ further-none (suc (suc zero)) a b = absurd (b refl)
 further-none (suc (suc (suc k))) a b = refl
 
 -- no kind has more than two vertices after the first
+pub further-few : (kind : ℕ) → further kind ≤ 2
+further-few zero = omega arith
+further-few (suc zero) = omega arith
+further-few (suc (suc zero)) = omega arith
+further-few (suc (suc (suc k))) = omega arith
+
 pub further-low : (kind : ℕ) → suc (further kind) * suc (further kind) ≤ 9
-further-low zero = omega arith
-further-low (suc zero) = omega arith
-further-low (suc (suc zero)) = omega arith
-further-low (suc (suc (suc k))) = omega arith
+further-low kind = let few = further-few kind in mul-le-mul {n₂ = 3} {m₂ = 3} (omega arith) (omega arith)
 
 -- ---- coefficients, four to a monomial
 
--- the count of the degrees below `top` is the rule's
-abbrev counted : ℕ → (ℕ → ℕ) → ℕ → Bool
-counted n rule m = eqb (rule m) (4 * length (monomials n m))
+-- the step from d (d + 1) to (d + 1) (d + 2)
+two-more : (d : ℕ) → suc d * suc (suc d) ≡ 2 * suc d + d * suc d
+two-more d = omega (arith, mul-suc (suc d) (suc d), suc-mul d (suc d))
 
-count-is : (n : ℕ) (rule : ℕ → ℕ) (top : ℕ) → all (counted n rule) (upto top) ≡ true → (m : ℕ) → m < top → rule m ≡ 4 * length (monomials n m)
-count-is n rule top h m b = eqb-true (rule m) (4 * length (monomials n m)) (all-at (counted n rule) (upto top) h m (below-upto top m b))
+-- twice the monomials of the first h rows, and d (d + 1) for the d rows that are left
+half-way : (m h d : ℕ) → h + d ≡ suc m → 2 * offset (λ j. monomials 1 (m - j)) h + d * suc d ≡ suc m * suc (suc m)
+half-way m zero d e = let same : d ≡ suc m = omega arith in omega (arith, ap (λ k. k * suc k) same)
+half-way m (suc h) d e =
+    let row : m - h ≡ d = omega arith in
+    omega (arith, half-way m h (suc d) (omega arith), offset-step m h, two-more d)
 
-pub curve-count : (m : ℕ) → m < 11 → 4 * (m + 1) ≡ 4 * length (monomials 1 m)
-unfolding monomials
-curve-count = count-is 1 (λ m. 4 * (m + 1)) 11 refl
+pub curve-count : (m : ℕ) → 4 * (m + 1) ≡ 4 * length (monomials 1 m)
+curve-count m = omega (arith, length-one m)
 
-pub patch-count : (m : ℕ) → m < 9 → 2 * (m + 1) * (m + 2) ≡ 4 * length (monomials 2 m)
-unfolding monomials
-patch-count = count-is 2 (λ m. 2 * (m + 1) * (m + 2)) 9 refl
-
-pub patch-low : (m : ℕ) → m < 9 → 2 * (m + 1) * (m + 2) ≤ 180
-patch-low m h =
-    let a : 2 * (m + 1) ≤ 18 = omega arith in
-    let b : m + 2 ≤ 10 = omega arith in
-    omega (arith, mul-le-mul a b)
-
--- a known kind that is no curve has degrees up to 8
-pub patch-degree : (kind degree : ℕ) → known kind degree ≡ true → (kind ≡ 1 → ⊥) → degree < 9
-patch-degree kind degree h a = let b = known-below 2 degree (subst (λ k. known k degree ≡ true) (known-patch kind degree h a) h) in omega arith
+pub patch-count : (m : ℕ) → 2 * (m + 1) * (m + 2) ≡ 4 * length (monomials 2 m)
+patch-count m =
+    let same : (m + 1) * (m + 2) ≡ suc m * suc (suc m) = ap₂ _*_ (omega arith) (omega arith) in
+    omega (arith, mul-assoc 2 (m + 1) (m + 2), same, half-way m (suc m) 0 (omega arith), length-two m)
 
 -- the counts of the code, by the kind
-pub curve-coefficients : (kind degree : ℕ) → known kind degree ≡ true → kind ≡ 1 → 4 * (degree + 1) ≡ 4 * length (monomials (further kind) degree)
-curve-coefficients kind degree h e =
-    let b = known-below 1 degree (subst (λ k. known k degree ≡ true) e h) in
-    subst (λ k. 4 * (degree + 1) ≡ 4 * length (monomials (further k) degree)) (sym e) (curve-count degree (omega arith))
+pub curve-coefficients : (kind degree : ℕ) → kind ≡ 1 → 4 * (degree + 1) ≡ 4 * length (monomials (further kind) degree)
+curve-coefficients kind degree e = subst (λ k. 4 * (degree + 1) ≡ 4 * length (monomials (further k) degree)) (sym e) (curve-count degree)
 
-pub patch-coefficients : (kind degree : ℕ) → known kind degree ≡ true → (kind ≡ 1 → ⊥) → 2 * (degree + 1) * (degree + 2) ≡ 4 * length (monomials (further kind) degree)
-patch-coefficients kind degree h a =
-    subst (λ k. 2 * (degree + 1) * (degree + 2) ≡ 4 * length (monomials (further k) degree)) (sym (known-patch kind degree h a)) (patch-count degree (patch-degree kind degree h a))
+pub patch-coefficients : (kind degree : ℕ) → kind ≡ 2 → 2 * (degree + 1) * (degree + 2) ≡ 4 * length (monomials (further kind) degree)
+patch-coefficients kind degree e =
+    subst (λ k. 2 * (degree + 1) * (degree + 2) ≡ 4 * length (monomials (further k) degree)) (sym e) (patch-count degree)
+
+pub other-coefficients : (kind degree : ℕ) → (kind ≡ 1 → ⊥) → (kind ≡ 2 → ⊥) → 4 ≡ 4 * length (monomials (further kind) degree)
+unfolding monomials
+other-coefficients kind degree a b = ap (λ n. 4 * length (monomials n degree)) (further-none kind a b)
+
+-- what a patch's count comes to where the degree is below n
+pub patch-low : {m n : ℕ} → m < n → 2 * (m + 1) * (m + 2) ≤ 2 * n * (n + 1)
+patch-low h = mul-le-mul (omega arith) (omega arith)
+
+-- how many coefficients there can be of any kind, the degree being a byte
+pub coefficients-low : (kind : ℕ) {degree : ℕ} → degree < 256 → 4 * length (monomials (further kind) degree) ≤ 131584
+coefficients-low kind {degree} b = by (ℕ-discrete kind 1) (ℕ-discrete kind 2)
+  where
+    by : Dec (kind ≡ 1) → Dec (kind ≡ 2) → 4 * length (monomials (further kind) degree) ≤ 131584
+    by (yes e) d = subst (λ k. k ≤ 131584) (curve-coefficients kind degree e) (omega arith)
+    by (no a) (yes e) = subst (λ k. k ≤ 131584) (patch-coefficients kind degree e) (patch-low {n = 256} b)
+    by (no a) (no c) = subst (λ k. k ≤ 131584) (other-coefficients kind degree a c) (omega arith)
 
 -- the coefficients of a known kind and degree have room in the array
 pub coefficients-room : (kind degree : ℕ) → known kind degree ≡ true → 4 * length (monomials (further kind) degree) ≤ 180
@@ -103,5 +115,9 @@ coefficients-room kind degree h = by (ℕ-discrete kind 1)
     by : Dec (kind ≡ 1) → 4 * length (monomials (further kind) degree) ≤ 180
     by (yes e) =
         let b = known-below 1 degree (subst (λ k. known k degree ≡ true) e h) in
-        subst (λ n. n ≤ 180) (curve-coefficients kind degree h e) (omega arith)
-    by (no a) = subst (λ n. n ≤ 180) (patch-coefficients kind degree h a) (patch-low degree (patch-degree kind degree h a))
+        subst (λ n. n ≤ 180) (curve-coefficients kind degree e) (omega arith)
+    by (no a) =
+        let two = known-patch kind degree h a in
+        let b = known-below 2 degree (subst (λ k. known k degree ≡ true) two h) in
+        let low : 2 * (degree + 1) * (degree + 2) ≤ 2 * 9 * 10 = patch-low {n = 9} (omega arith) in
+        subst (λ n. n ≤ 180) (patch-coefficients kind degree two) low

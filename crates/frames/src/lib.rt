@@ -1,6 +1,7 @@
 // What is refused of a record's numbers before a net is made of them: its frame (refusal 5) and its
-// coefficients (refusals 4 and 6). `frame_in` and `coefficients_in` are what callers use. They take
-// any numbers and answer what specs/First.antt of the crate machine says; the rest are their parts.
+// coefficients (refusals 4 and 6). `frame_in`, `known_kind` and `coefficients_in` judge any numbers,
+// as specs/Kinds.antt and specs/First.antt of the crate machine say. `vertex_count` and
+// `coefficient_count` say how many numbers a kind and degree have; the rest are parts of these.
 ghost use mathlib.Core.Path.{_≡_};
 ghost use mathlib.Core.Bool.{true, _&&_};
 ghost use Prim.Native.Nat.{suc, _*_, _<_, _≤_, _^_};
@@ -101,17 +102,25 @@ fn frame_determinant(kind: u8, numbers: [i64; 9]) -> i64
 
 // ---- frames
 
+// How many vertices a frame has; 1 for a byte that is no kind.
+pub fn vertex_count(kind: u8) -> usize
+    ensures { λ r. ⌜ r ≡ suc (further kind) ⌝ }
+{
+    if kind == 1 {
+        return 2;
+    }
+    if kind == 2 {
+        return 3;
+    }
+    1
+}
+
 // How many numbers a frame has: as many for each vertex as there are vertices.
 fn frame_count(kind: u8) -> usize
     ensures { λ r. ⌜ r ≡ suc (further kind) * suc (further kind) ⌝ }
 {
-    if kind == 1 {
-        return 4;
-    }
-    if kind == 2 {
-        return 9;
-    }
-    1
+    let d = vertex_count(kind);
+    d * d
 }
 
 // Whether the frame's numbers are within their limit and its determinant is not 0.
@@ -142,16 +151,18 @@ pub fn known_kind(kind: u8, degree: u8) -> bool
     false
 }
 
-// How many coefficients there are, four to a monomial.
-fn coefficient_count(kind: u8, degree: u8) -> usize
-    requires { ⌜ known kind degree ≡ true ⌝ }
+// How many coefficients there are, four to a monomial. A byte that is no kind has one monomial.
+pub fn coefficient_count(kind: u8, degree: u8) -> usize
     ensures { λ r. ⌜ r ≡ 4 * length (monomials (further kind) degree) ⌝ }
 {
     let m = degree as usize;
     if kind == 1 {
         return 4 * (m + 1);
     }
-    2 * (m + 1) * (m + 2)
+    if kind == 2 {
+        return 2 * (m + 1) * (m + 2);
+    }
+    4
 }
 
 // Whether the kind and degree are known and the coefficients within their limit.

@@ -1,4 +1,5 @@
+pub mod Absolute
 pub mod Laws
 pub mod Ring
-pub mod Sums
 pub mod Signed
+pub mod Sums

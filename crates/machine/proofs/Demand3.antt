@@ -3,7 +3,7 @@ use Prim.Native.Nat.{ℕ, suc}
 use mathlib.Core.Path.{_≡_, refl, sym, ap, ap₂, _∙_, subst}
 use mathlib.Core.List.{List, [], _∷_, map}
 use lib.IntN.{ℤ}
-use lib.ListN.{length}
+use lib.ListN.{length, length-map}
 use Rattle.integers.specs.Sum.{upto}
 use Rattle.integers.proofs.Sums.{length-upto}
 use Rattle.machine.specs.Kinds.{further, known, unless, firstOf}
@@ -18,32 +18,33 @@ use Rattle.machine.proofs.Over.{Reached, call-agrees}
 
 -- ---- along a list
 
-nets-agree : (f : Polynomials) (frame : Frame) → Reached f frame → (calls : List Call) → netAfter (netOver f frame) calls ≡ netOver f (frameAfter f frame calls)
+pub nets-agree : (f : Polynomials) (frame : Frame) → Reached f frame → (calls : List Call) → netAfter (netOver f frame) calls ≡ netOver f (frameAfter f frame calls)
 unfolding netAfter frameAfter
 nets-agree f frame at [] = refl
 nets-agree f frame at (c ∷ cs) =
     let a = call-agrees f frame at c in
     ap (λ n. netAfter n cs) (a .nets) ∙ nets-agree f (machineStep f frame c .frame) (a .reached) cs
 
-answers-agree : (f : Polynomials) (frame : Frame) → Reached f frame → (calls : List Call) → netAnswers (netOver f frame) calls ≡ machineAnswers f frame calls
+pub answers-agree : (f : Polynomials) (frame : Frame) → Reached f frame → (calls : List Call) → netAnswers (netOver f frame) calls ≡ machineAnswers f frame calls
 unfolding netAnswers machineAnswers
 answers-agree f frame at [] = refl
 answers-agree f frame at (c ∷ cs) =
     let a = call-agrees f frame at c in
     ap₂ _∷_ (a .answers) (ap (λ n. netAnswers n cs) (a .nets) ∙ answers-agree f (machineStep f frame c .frame) (a .reached) cs)
 
+pub reached-after : (f : Polynomials) (frame : Frame) → Reached f frame → (calls : List Call) → Reached f (frameAfter f frame calls)
+unfolding frameAfter
+reached-after f frame at [] = at
+reached-after f frame at (c ∷ cs) = reached-after f (machineStep f frame c .frame) (call-agrees f frame at c .reached) cs
+
 -- ---- the start
 
-length-map : {A B : Type 0} (g : A → B) (xs : List A) → length (map g xs) ≡ length xs
-length-map g [] = refl
-length-map g (x ∷ xs) = ap suc (length-map g xs)
-
 module _ (f : Polynomials) (numbers : List ℤ) (ok : firstRefusal f numbers ≡ 0) where
-  start-is : start f numbers ≡ netOver f (startFrame f numbers)
+  pub start-is : start f numbers ≡ netOver f (startFrame f numbers)
   unfolding firstOver firstBy
   start-is = ap (λ k. firstBy k f numbers .net) ok
 
-  start-reached : Reached f (startFrame f numbers)
+  pub start-reached : Reached f (startFrame f numbers)
   unfolding frameOf firstRefusal
   start-reached =
       let d = suc (further (f .kind)) in
@@ -51,7 +52,7 @@ module _ (f : Polynomials) (numbers : List ℤ) (ok : firstRefusal f numbers ≡
       let two = first-none (unless (frameIn d numbers) 5) (firstOf (unless (coefficientsIn f) 6) (unless (netIn (netOver f (frameOf d numbers))) 7)) (one .1) in
       let three = first-none (unless (coefficientsIn f) 6) (unless (netIn (netOver f (frameOf d numbers))) 7) (two .1) in
       record {
-        long = length-map _ (upto d) ∙ length-upto d;
+        long = length-map (upto d) _ ∙ length-upto d;
         right = unless-none (known (f .kind) (f .degree)) 3 (one .0);
         fits = unless-none (netIn (netOver f (frameOf d numbers))) 6 (three .1);
       }

@@ -274,6 +274,11 @@ pub record Reached (f : Polynomials) (frame : Frame) : Type 0 where
   pub right : known (f .kind) (f .degree) ≡ true
   pub fits : netIn (netOver f frame) ≡ true
 
+-- such a net is not refused as handed
+pub reached-handed : (f : Polynomials) (frame : Frame) → Reached f frame → handed (netOver f frame) ≡ 0
+unfolding handed netIn netOver
+reached-handed f frame at = ap₂ (λ a b. firstOf (unless a 4) (unless b 10)) (at .right) (at .fits)
+
 -- the net machine's step on the net over a frame is the comparison machine's step on the frame
 pub record Agrees (f : Polynomials) (frame : Frame) (c : Call) : Type 0 where
   pub answers : stepOf (netOver f frame) c .answer ≡ machineStep f frame c .answer

@@ -22,7 +22,7 @@ use Rattle.entries.specs.Frame.{taken}
 use Rattle.entries.proofs.Places.{offset, rank, placed, place-rank, member-counts, counts-at}
 use Rattle.entries.proofs.Listed.{rank-below}
 use Rattle.entries.proofs.Standard.{units, standard, place-below, place-two, offset-step, length-one, length-two}
-use Rattle.machine.specs.Kinds.{further, all}
+use Rattle.machine.specs.Kinds.{highest, further, all}
 use Rattle.machine.specs.Nets.{used}
 use Rattle.machine.specs.Comparison.{polarOf}
 use Rattle.machine.proofs.All.{all-at}
@@ -33,32 +33,24 @@ use Rattle.nets.specs.Coordinates.{exponentsAt, Limited, coordinateAt, C
 use Rattle.nets.proofs.Lists.{length-written, written-at}
 use Rattle.nets.proofs.Collect.{by-kind, used-room, spread-most}
 use Rattle.nets.proofs.Signs.{written-cong, written-append, counts-at-place, place-whole}
-use Rattle.nets.proofs.Tables.{scales, curve-scales, patches, patch-scales}
+use Rattle.scales.proofs.Tables.{up-to, scale-up}
 
--- ---- bounds, by one computed test over a whole table
-
-up-to : (bound : ℕ) (f : ℕ → ℕ) (n : ℕ) → all (λ k. leb (f k) bound) (upto n) ≡ true → (k : ℕ) → k < n → f k ≤ bound
-up-to bound f n h k b = leb-true (f k) bound (all-at (λ j. leb (f j) bound) (upto n) h k (below-upto n k b))
+-- ---- bounds
 
 pub factorial-up : (k : ℕ) → k < 11 → factorial k ≤ 3628800
 factorial-up = up-to 3628800 factorial 11 refl
 
-curves-up : (k : ℕ) → k < 10 → getD scales k 0 ≤ 2520
-curves-up = up-to 2520 (λ k. getD scales k 0) 10 refl
+pub sized-highest : (kind m : ℕ) → Sized kind m → m ≤ highest kind
+sized-highest kind m s =
+    by-kind (λ i. Sized i m → m ≤ highest i) kind m s (λ t. let z = t .sized in omega (arith, z)) (λ t. let z = t .sized in omega (arith, z)) s
 
-patches-up : (k : ℕ) → k < 8 → getD patches k 0 ≤ 2520
-patches-up = up-to 2520 (λ k. getD patches k 0) 8 refl
-
-pub scale-up : (kind m : ℕ) → Sized kind m → 1 ≤ m → scale (further kind) m ≤ 2520
-scale-up kind zero s one = absurd (not-suc-le-zero one)
-scale-up kind (suc k) s one =
-    by-kind (λ i. Sized i (suc k) → scale (further i) (suc k) ≤ 2520) kind (suc k) s
-    (λ t. let z = t .sized in let b : k < 10 = omega arith in subst (λ v. v ≤ 2520) (curve-scales k b) (curves-up k b))
-    (λ t. let z = t .sized in let b : k < 8 = omega arith in subst (λ v. v ≤ 2520) (patch-scales k b) (patches-up k b)) s
+scale-limit : (kind m : ℕ) → Sized kind m → 1 ≤ m → scale (further kind) m ≤ 2520
+scale-limit kind zero s one = absurd (not-suc-le-zero one)
+scale-limit kind (suc k) s one = scale-up kind k (sized-highest kind (suc k) s)
 
 -- a quotient of the scale
 pub factor-up : (kind m d : ℕ) → Sized kind m → 1 ≤ m → scale (further kind) m / d ≤ 2520
-factor-up kind m d s one = le-trans (div-le-self (scale (further kind) m) d) (scale-up kind m s one)
+factor-up kind m d s one = le-trans (div-le-self (scale (further kind) m) d) (scale-limit kind m s one)
 
 -- ---- multinomials
 

@@ -12,47 +12,16 @@ ghost use Rattle.nets.specs.Rows.{Sized, placeAt, written};
 ghost use Rattle.nets.specs.Coordinates.{exponentsAt, Limited, coordinateAt, Coordinates};
 use crate::levels::spread;
 use crate::rows::place;
+use scales::scale;
 
 // k! for k from 0 to 10.
 const FACTORIALS: [u64; 11] = [1, 1, 2, 6, 24, 120, 720, 5040, 40320, 362880, 3628800];
-
-// The scales of curves of degree 1 to 10, and of patches of degree 1 to 8.
-const SCALES: [u64; 18] = [
-    1,
-    2,
-    3,
-    12,
-    10,
-    60,
-    105,
-    280,
-    252,
-    2520,
-    1,
-    2,
-    6,
-    12,
-    60,
-    180,
-    420,
-    1680,
-];
 
 pub(crate) fn factorial_of(k: usize) -> u64
     requires { ⌜ k ≤ 10 ⌝ }
     ensures { λ r. ⌜ r ≡ factorial k ⌝ }
 {
     FACTORIALS[k]
-}
-
-pub(crate) fn scale_of(kind: u8, degree: usize) -> u64
-    requires { ⌜ Sized kind degree × (1 ≤ degree) ⌝ }
-    ensures { λ r. ⌜ r ≡ scale (further kind) degree ⌝ }
-{
-    if kind == 1 {
-        return SCALES[degree - 1];
-    }
-    SCALES[degree + 9]
 }
 
 // ---- scaled coefficients
@@ -71,9 +40,9 @@ pub(crate) fn factor(kind: u8, degree: usize, h: usize, l: usize) -> i64
     requires { ⌜ Sized kind degree × (1 ≤ degree) × (h + l ≤ degree) × (l ≤ (kind - 1) * degree) ⌝ }
     ensures { λ r. ⌜ (r ≡ pos (scale (further kind) degree / multinomial degree (exponentsAt kind h l))) × (natAbs r ≤ 2520) ⌝ }
 {
-    let scale = scale_of(kind, degree);
+    let all = scale(kind, degree);
     let parts = multinomial_of(kind, degree, h, l);
-    (scale / parts) as i64
+    (all / parts) as i64
 }
 
 // The place of a monomial among the monomials: those of a patch stand in rows of one h each.

@@ -1,5 +1,5 @@
-// Nets, their moves and points. Every function here takes any numbers whatever; its answer and the
-// net that it hands back are `stepOf` of the crate machine, which the theorem of demand 3 is about.
+// First nets and calls on nets. Both functions take any numbers whatever; what `perform` answers and
+// the net that it hands back are `stepOf` of the crate machine, which the theorem of demand 3 is about.
 mod calls;
 mod coordinates;
 mod first;
@@ -8,7 +8,6 @@ mod levels;
 mod rows;
 
 ghost use mathlib.Core.Path.{_≡_};
-ghost use lib.IntN.{pos};
 ghost use Rattle.machine.specs.First.{firstOver};
 ghost use Rattle.machine.specs.Answers.{Numbered};
 ghost use Rattle.machine.specs.Nets.{stepOf};
@@ -26,7 +25,6 @@ use machine::Call;
 use machine::First;
 use machine::Net;
 use machine::Step;
-use machine::Weights;
 
 // The first net of polynomials over a frame, or the number of the refusal beside no net. The
 // coefficients are those of the record, four to a monomial.
@@ -75,40 +73,4 @@ pub fn perform(net: Net, call: Call) -> Step
             find_point(net, r, s, t)
         }
     }
-}
-
-// Replaces a vertex by the point that the weights name.
-pub fn replace(net: Net, vertex: u8, weights: Weights) -> Step
-    ensures { λ b. ⌜ (b ≡ stepOf net (Call.Move 1 vertex weights)) × Numbered net (Call.Move 1 vertex weights) (b .answer) ⌝ }
-{
-    perform(
-        net,
-        Call::Move {
-            operation: 1,
-            vertex,
-            weights,
-        },
-    )
-}
-
-// Flips a vertex: the frame has its negative in its place.
-pub fn flip(net: Net, vertex: u8) -> Step
-    ensures { λ b. ⌜ (b ≡ stepOf net (Call.Move 2 vertex (record { r = pos 0; s = pos 0; t = pos 0 }))) × Numbered net (Call.Move 2 vertex (record { r = pos 0; s = pos 0; t = pos 0 })) (b .answer) ⌝ }
-{
-    let weights = Weights { r: 0, s: 0, t: 0 };
-    perform(
-        net,
-        Call::Move {
-            operation: 2,
-            vertex,
-            weights,
-        },
-    )
-}
-
-// Finds the point that the weights name.
-pub fn point(net: Net, weights: Weights) -> Step
-    ensures { λ b. ⌜ (b ≡ stepOf net (Call.Point weights)) × Numbered net (Call.Point weights) (b .answer) ⌝ }
-{
-    perform(net, Call::Point(weights))
 }

@@ -1,15 +1,42 @@
--- The number of each answer: by the three tests of the definition it is 10 exactly where a component is out of range.
-use mathlib.Core.Path.{_≡_, refl}
-use mathlib.Core.Bool.{Bool, true, false, cond}
+-- Number and values of each answer: by the definition's three tests there are four cases, and in each they are what the tests say.
+use mathlib.Core.Path.{_≡_, refl, sym, ap, _∙_, subst}
+use mathlib.Core.Bool.{Bool, true, false, not, _&&_, cond}
+use mathlib.Core.List.{[], _∷_, map}
 use lib.IntN.{ℤ}
-use Rattle.projection.specs.Projection.{allInRange, isZero, allZero, projectionBy, projectionOf, refusal}
+use lib.Ieee.{binary64, toBits}
+use Rattle.projection.specs.declared.Projection.{Projection}
+use Rattle.projection.specs.Projection.{allInRange, isZero, allZero, quotientOf, coordsOf, directionOf, projectionBy, projectionOf, refusal, coordinates, coordinateBits, directionNumbers, quotients, Projected}
 
-pub refused : (x y z w : ℤ) → refusal (projectionOf x y z w) ≡ cond (allInRange x y z w) 0 10
-unfolding projectionOf projectionBy
-refused x y z w = by (allInRange x y z w) (isZero w) (allZero x y z)
-  where
-    by : (a b c : Bool) → refusal (projectionBy a b c x y z w) ≡ cond a 0 10
-    by false b c = refl
-    by true false c = refl
-    by true true false = refl
-    by true true true = refl
+module _ (x y z w : ℤ) where
+  number : (a b c : Bool) → refusal (projectionBy a b c x y z w) ≡ cond a 0 10
+  unfolding projectionBy
+  number false b c = refl
+  number true false c = refl
+  number true true false = refl
+  number true true true = refl
+
+  finite : (a b c : Bool) → coordinates (projectionBy a b c x y z w) ≡ cond (a && not b) (quotientOf x w ∷ quotientOf y w ∷ quotientOf z w ∷ []) []
+  unfolding projectionBy coordsOf
+  finite false b c = refl
+  finite true false c = refl
+  finite true true false = refl
+  finite true true true = refl
+
+  far : (a b c : Bool) → let d = directionOf x y z in directionNumbers (projectionBy a b c x y z w) ≡ cond (a && b && not c) (d .x ∷ d .y ∷ d .z ∷ []) []
+  unfolding projectionBy
+  far false b c = refl
+  far true false c = refl
+  far true true false = refl
+  far true true true = refl
+
+  told : Projected x y z w (projectionOf x y z w)
+  unfolding projectionOf coordinateBits
+  told =
+      let a = allInRange x y z w in
+      let b = isZero w in
+      let c = allZero x y z in
+      (number a b c, finite a b c, ap (map (toBits binary64)) (finite a b c), far a b c)
+
+  -- what equals the definition's answer tells the same
+  pub projected : {p : Projection} → p ≡ projectionOf x y z w → (p ≡ projectionOf x y z w) × Projected x y z w p
+  projected is = (is, subst (Projected x y z w) (sym is) told)

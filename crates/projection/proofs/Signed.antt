@@ -127,21 +127,6 @@ negation-fits v h = subst (λ (u : ℤ). SFits w64 u) (sym (negation v h)) (in-r
 pub negation-is : (v : ℤ) → natAbs v ≤ limit → readBack (pos 0 -ℤ readBack v) ≡ negℤ v
 negation-is v h = read-back (pos 0 -ℤ readBack v) (negation-fits v h) ∙ negation v h
 
--- ---- magnitude: a number negated where it is negative is not negative
-
-magnitude-is : (v : ℤ) → negatedIf (isNegative v) v ≡ pos (natAbs v)
-magnitude-is (pos n) = refl
-magnitude-is (negsuc n) = refl
-
-pub magnitude-back : (v r : ℤ) → SFits w64 v → natAbs v ≤ limit → r ≡ negatedIf (ltZ (readBack v) (pos 0)) (readBack v) → readBack r ≡ pos (natAbs v)
-magnitude-back v r f h e =
-    ap readBack
-    (e
-    ∙ ap (λ (b : Bool). negatedIf b (readBack v)) (is-negative v f)
-    ∙ ap (λ (u : ℤ). negatedIf (isNegative v) u) (read-back v f)
-    ∙ magnitude-is v)
-    ∙ read-back (pos (natAbs v)) (in-range-fits (pos (natAbs v)) h)
-
 -- ---- division
 
 pub quot-small : (v d : ℤ) → natAbs (quotZ v d) ≤ natAbs v

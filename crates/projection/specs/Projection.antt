@@ -1,7 +1,8 @@
 -- Document 01's section "Projection": what a found point (x, y, z, w) is projected to, and the document's number and values for each case of the answer.
 use Prim.Native.Nat.{ℕ}
-use mathlib.Core.Bool.{Bool, true, false, _&&_, cond}
-use mathlib.Core.List.{List, [], _∷_}
+use mathlib.Core.Path.{_≡_}
+use mathlib.Core.Bool.{Bool, true, false, not, _&&_, cond}
+use mathlib.Core.List.{List, [], _∷_, map}
 use lib.Dec.{leb, eqb}
 use lib.IntN.{ℤ, pos, negsuc, negℤ, natAbs}
 use lib.Signed.{quotZ}
@@ -116,10 +117,7 @@ coordinates OutOfRange = []
 -- the same as the bit patterns that are printed after `at`
 unfoldable pub coordinateBits : Projection → List ℕ
 unfolding toBits
-coordinateBits (Finite p) = toBits binary64 (p .x) ∷ toBits binary64 (p .y) ∷ toBits binary64 (p .z) ∷ []
-coordinateBits (Direction d) = []
-coordinateBits Nowhere = []
-coordinateBits OutOfRange = []
+coordinateBits p = map (toBits binary64) (coordinates p)
 
 -- the values of a direction, x, y, z, as they are printed after `far`; the other cases have none
 abbrev pub directionNumbers : Projection → List ℤ
@@ -127,3 +125,24 @@ directionNumbers (Finite p) = []
 directionNumbers (Direction d) = d .x ∷ d .y ∷ d .z ∷ []
 directionNumbers Nowhere = []
 directionNumbers OutOfRange = []
+
+-- ---- number and values by the four numbers alone
+
+-- x, y and z over w, where the four are in range and w is not 0; otherwise none
+abbrev pub quotients : ℤ → ℤ → ℤ → ℤ → List Float
+quotients x y z w = cond (allInRange x y z w && not (isZero w)) (quotientOf x w ∷ quotientOf y w ∷ quotientOf z w ∷ []) []
+
+-- the direction's numbers, where the four are in range, w is 0 and another is not; otherwise none
+abbrev pub reducedNumbers : ℤ → ℤ → ℤ → ℤ → List ℤ
+reducedNumbers x y z w =
+    let d = directionOf x y z in
+    cond (allInRange x y z w && isZero w && not (allZero x y z)) (d .x ∷ d .y ∷ d .z ∷ []) []
+
+-- What an answer tells of (x, y, z, w): 10 exactly where a number is out of range, then the quotients and their bit patterns, and the direction.
+-- Where nothing is refused and both lists are empty, the four numbers are 0: nowhere.
+abbrev pub Projected : ℤ → ℤ → ℤ → ℤ → Projection → Type 0
+Projected x y z w p =
+    (refusal p ≡ cond (allInRange x y z w) 0 10)
+    × (coordinates p ≡ quotients x y z w)
+    × (coordinateBits p ≡ map (toBits binary64) (quotients x y z w))
+    × (directionNumbers p ≡ reducedNumbers x y z w)

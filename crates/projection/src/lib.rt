@@ -1,13 +1,15 @@
 // Document 01's projection of a found point (x, y, z, w): a finite point, a direction, nowhere, or
 // out of range. `project` is what callers use, and it answers `projectionOf` of
-// specs/Projection.antt for all numbers. The other functions are its parts: those that require
-// numbers in range are called after the test of the range.
+// specs/Projection.antt for all numbers; `bits` is for the callers who print a coordinate. The other
+// functions are parts of `project`: those that require numbers in range are called after the test
+// of the range.
 ghost use mathlib.Core.Path.{_≡_};
 ghost use mathlib.Core.Bool.{false};
 ghost use mathlib.Core.List.{[], _∷_};
 ghost use Prim.Native.Nat.{_≤_, _<_};
 ghost use lib.IntN.{pos, natAbs};
 ghost use lib.Signed.{quotZ};
+ghost use lib.Ieee.{binary64, toBits};
 ghost use Rattle.projection.specs.Gcd.{gcd};
 ghost use Rattle.projection.specs.Projection.{
   limit,
@@ -22,10 +24,15 @@ ghost use Rattle.projection.specs.Projection.{
   gcdOf,
   directionOf,
   projectionOf,
+  Projected,
 };
+use integers::magnitude;
 
 // The largest absolute value of a component in range, 2 to the 48th.
 const LIMIT: i64 = 281474976710656;
+
+// What stands for every NaN: an exponent of ones, then a fraction that begins with its only one.
+const NAN_BITS: u64 = 0x7ff8000000000000;
 
 // A finite point.
 pub struct Coords {
@@ -161,14 +168,6 @@ fn negated_if(negative: bool, v: i64) -> i64
     v
 }
 
-// The absolute value.
-fn magnitude(v: i64) -> u64
-    requires { ⌜ natAbs v ≤ limit ⌝ }
-    ensures { λ r. ⌜ r ≡ natAbs v ⌝ }
-{
-    negated_if(v < 0, v) as u64
-}
-
 // The greatest common divisor of x, y and z: that of the last two stands for both.
 fn divisor(x: i64, y: i64, z: i64) -> i64
     requires { ⌜ (natAbs x ≤ limit) × (natAbs y ≤ limit) × (natAbs z ≤ limit) ⌝ }
@@ -204,7 +203,7 @@ fn direction(x: i64, y: i64, z: i64) -> PrimitiveVector
 
 // The tests stand in the document's order: the range, the weight, the other components.
 pub fn project(x: i64, y: i64, z: i64, w: i64) -> Projection
-    ensures { λ r. ⌜ r ≡ projectionOf x y z w ⌝ }
+    ensures { λ r. ⌜ (r ≡ projectionOf x y z w) × Projected x y z w r ⌝ }
 {
     if !all_in_range(x, y, z, w) {
         return Projection::OutOfRange;
@@ -216,4 +215,17 @@ pub fn project(x: i64, y: i64, z: i64, w: i64) -> Projection
         return Projection::Nowhere;
     }
     Projection::Direction(direction(x, y, z))
+}
+
+// ---- bit patterns
+
+// The bit pattern of a float. `to_bits` is defined only off a NaN, and a NaN is the one float that
+// differs from itself.
+pub fn bits(x: f64) -> u64
+    ensures { λ r. ⌜ r ≡ toBits binary64 x ⌝ }
+{
+    if x != x {
+        return NAN_BITS;
+    }
+    f64::to_bits(x)
 }

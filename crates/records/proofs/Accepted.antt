@@ -1,8 +1,8 @@
 -- What holds of an accepted record. The steps of the reader are followed back from the end: each tag was taken or passed over, a required one was taken, and what
 -- the tests of a taken field said is kept by the steps after it.
 use mathlib.Core.Path.{_≡_, refl, sym, _∙_, ap, subst}
-use mathlib.Core.Bool.{Bool, true, false, cond}
-use mathlib.Core.List.{List}
+use mathlib.Core.Bool.{Bool, true, false, _||_, cond}
+use mathlib.Core.List.{List, [], _∷_, foldl}
 use mathlib.Core.Logic.{inl, inr}
 use Prim.Native.Nat.{ℕ, _+_, _≤_, _<_}
 use native.Mathlib.Omega.{arith}
@@ -10,8 +10,11 @@ use borrow.Author.Tests.{eqb-true, eqb-false}
 use lib.ListN.{length, getD, take, drop}
 use lib.Seq.{getD-take, getD-drop}
 use lib.Dec.{eqb}
-use Rattle.records.specs.Table.{required, degreeAllowed, frameLength, coefficientsLength, pointLength, movesLengthAllowed, lengthAllowed, frameAllowed, valuesAllowed}
-use Rattle.records.specs.Reading.{left, lengthAt, valueAt, standsAt, fieldRefusal, blank, extentAt, extentOf, sameTag, withField, bytesOf, noField, taken, finished, readingOf}
+use Rattle.machine.specs.Kinds.{known}
+use Rattle.machine.specs.First.{frameIn, coefficientsIn}
+use Rattle.bytes.specs.Numbers.{frameNumbers}
+use Rattle.records.specs.Table.{tags, required, vertices, frameLength, coefficientsLength, pointLength, movesLengthAllowed, lengthAllowed, valuesAllowed}
+use Rattle.records.specs.Reading.{left, lengthAt, valueAt, standsAt, fieldRefusal, blank, extentAt, extentOf, sameTag, withField, bytesOf, noField, ready, taken, finished, readingOf}
 use Rattle.records.specs.Causes.{Sound}
 use Rattle.records.specs.declared.Tag.{Tag}
 use Rattle.records.specs.declared.Tag.the-variants.{Kind, Frame, Coefficients, Moves, Point}
@@ -20,7 +23,7 @@ use Rattle.records.specs.declared.Layout.{Layout}
 use Rattle.records.specs.declared.Progress.{Progress}
 use Rattle.records.specs.declared.Progress.the-variants.{At, Stopped}
 use Rattle.records.specs.declared.Reading.the-variants.{Accepted, Refused}
-use Rattle.records.proofs.Fields.{stands-there, not-refused, moved-on, stopped, takes, misses, skips}
+use Rattle.records.proofs.Fields.{stands-there, same-polynomials, not-refused, moved-on, stopped, takes, misses, skips}
 
 -- ---- one step, back from where it leads
 
@@ -88,7 +91,7 @@ inside-with {s} {tag} {at} {l} h inside t = by-tag t
 -- ---- what is known after each of the first fields
 
 record AfterKind (s : List ℕ) (l : Layout) : Type 0 where
-  degree : degreeAllowed (l .kind) (l .degree) ≡ true
+  degree : known (l .kind) (l .degree) ≡ true
   noMoves : l .moves .length ≡ 0
   noPoint : l .point .length ≡ 0
   within : Inside s l
@@ -96,19 +99,19 @@ record AfterKind (s : List ℕ) (l : Layout) : Type 0 where
 record AfterFrame (s : List ℕ) (l : Layout) : Type 0 where
   before : AfterKind s l
   frameLong : l .frame .length ≡ frameLength (l .kind)
-  frameGood : frameAllowed (l .kind) (bytesOf (l .frame) s) ≡ true
+  frameGood : frameIn (vertices (l .kind)) (frameNumbers (bytesOf (l .frame) s)) ≡ true
 
 after-kind : {s : List ℕ} → Took s Kind 0 (blank s) → AfterKind s (withField Kind (blank s) s 0)
 unfolding withField extentAt lengthAllowed valuesAllowed valueAt
 after-kind {s} h =
     record {
-      degree = (λ i. degreeAllowed (sym (byte 0 (omega arith)) i) (sym (byte 1 (omega arith)) i)) ∙ tests .2;
+      degree = (λ i. known (sym (byte 0 (omega arith)) i) (sym (byte 1 (omega arith)) i)) ∙ tests .2;
       noMoves = refl;
       noPoint = refl;
       within = inside-with h (λ tag. nothing tag);
     }
   where
-    tests : (eqb (lengthAt s 0) 2 ≡ true) × (lengthAt s 0 ≤ left s 3) × (degreeAllowed (getD (take (lengthAt s 0) (drop 3 s)) 0 0) (getD (take (lengthAt s 0) (drop 3 s)) 1 0) ≡ true)
+    tests : (eqb (lengthAt s 0) 2 ≡ true) × (lengthAt s 0 ≤ left s 3) × (known (getD (take (lengthAt s 0) (drop 3 s)) 0 0) (getD (take (lengthAt s 0) (drop 3 s)) 1 0) ≡ true)
     tests = not-refused Kind (blank s) s 0 (h .passes)
 
     byte : (k : ℕ) → k < 2 → getD (take (lengthAt s 0) (drop 3 s)) k 0 ≡ getD s (3 + k) 0
@@ -137,13 +140,14 @@ after-coefficients : {s : List ℕ} {at : ℕ} {l : Layout} → Took s Coefficie
 unfolding withField extentAt lengthAllowed valuesAllowed valueAt
 after-coefficients {s} {at} {l} h k =
     let tests = not-refused Coefficients l s at (h .passes) in
+    let long = eqb-true (lengthAt s at) (coefficientsLength (l .kind) (l .degree)) (tests .0) in
     record {
       degree = k .before .degree;
       frameLong = k .frameLong;
       frameGood = k .frameGood;
       coefficientsField = refl;
-      coefficientsLong = eqb-true (lengthAt s at) (coefficientsLength (l .kind) (l .degree)) (tests .0);
-      coefficientsGood = tests .2;
+      coefficientsLong = long;
+      coefficientsGood = sym (ap coefficientsIn (same-polynomials (l .kind) (l .degree) (lengthAt s at) (drop (at + 3) s) long)) ∙ tests .2;
       movesLong = ap movesLengthAllowed (k .before .noMoves);
       pointLong = inl (k .before .noPoint);
       within = inside-with h (k .before .within);
@@ -218,36 +222,47 @@ at-finish {s} {l} (At at l′) h e = by-end (eqb (left s at) 0) e
     by-end true k = let same : l′ ≡ l = cc in subst (Sound s) same h
     by-end false k = let z : _≡_ {A = ℕ} 0 1 = cc in absurd (omega arith)
 
-pub accepted-sound : (s : List ℕ) (l : Layout) → readingOf s ≡ Accepted l → Sound s l
-unfolding readingOf
-accepted-sound s l e = at-finish p5 h5 e
-  where
-    p1 : Progress
-    p1 = taken s (At 0 (blank s)) Kind
+-- a tag after the first, where what holds tells kind and degree
+ready-by : {P : Layout → Type 0} → ((l : Layout) → P l → known (l .kind) (l .degree) ≡ true) → (tag : Tag) → sameTag tag Kind ≡ false → (p : Progress) → Holds P p
+    → ready tag p ≡ true
+ready-by f tag e (At at l) h = ap (λ (b : Bool). b || known (l .kind) (l .degree)) e ∙ f l h
+ready-by f tag e (Stopped r) h = refl
 
-    p2 : Progress
-    p2 = taken s p1 Frame
+-- ---- after each tag
 
-    p3 : Progress
-    p3 = taken s p2 Coefficients
+-- where the reader stands after some of the tags
+abbrev pub reached : List ℕ → List Tag → Progress
+reached s ts = foldl (taken s) (At 0 (blank s)) ts
 
-    p4 : Progress
-    p4 = taken s p3 Moves
+module _ (s : List ℕ) where
+  h1 : Holds (AfterKind s) (reached s (Kind ∷ []))
+  h1 = through s (λ l. Unit {0}) (AfterKind s) Kind (At 0 (blank s)) tt (λ at l e t u. subst (KindStep s) e after-kind t) (λ q. never q)
 
-    p5 : Progress
-    p5 = taken s p4 Point
+  h2 : Holds (AfterFrame s) (reached s (Kind ∷ Frame ∷ []))
+  h2 = through s (AfterKind s) (AfterFrame s) Frame (reached s (Kind ∷ [])) h1 (λ at l e t k. after-frame t k) (λ q. never q)
 
-    h1 : Holds (AfterKind s) p1
-    h1 = through s (λ l. Unit {0}) (AfterKind s) Kind (At 0 (blank s)) tt (λ at l e t u. subst (KindStep s) e after-kind t) (λ q. never q)
+  h3 : Holds (Sound s) (reached s (Kind ∷ Frame ∷ Coefficients ∷ []))
+  h3 = through s (AfterFrame s) (Sound s) Coefficients (reached s (Kind ∷ Frame ∷ [])) h2 (λ at l e t k. after-coefficients t k) (λ q. never q)
 
-    h2 : Holds (AfterFrame s) p2
-    h2 = through s (AfterKind s) (AfterFrame s) Frame p1 h1 (λ at l e t k. after-frame t k) (λ q. never q)
+  h4 : Holds (Sound s) (reached s (Kind ∷ Frame ∷ Coefficients ∷ Moves ∷ []))
+  h4 = through s (Sound s) (Sound s) Moves (reached s (Kind ∷ Frame ∷ Coefficients ∷ [])) h3 (λ at l e t k. after-moves t k) (λ q l k. k)
 
-    h3 : Holds (Sound s) p3
-    h3 = through s (AfterFrame s) (Sound s) Coefficients p2 h2 (λ at l e t k. after-coefficients t k) (λ q. never q)
+  h5 : Holds (Sound s) (reached s tags)
+  h5 = through s (Sound s) (Sound s) Point (reached s (Kind ∷ Frame ∷ Coefficients ∷ Moves ∷ [])) h4 (λ at l e t k. after-point t k) (λ q l k. k)
 
-    h4 : Holds (Sound s) p4
-    h4 = through s (Sound s) (Sound s) Moves p3 h3 (λ at l e t k. after-moves t k) (λ q l k. k)
+  pub accepted-sound : (l : Layout) → readingOf s ≡ Accepted l → Sound s l
+  unfolding readingOf
+  accepted-sound l e = at-finish (reached s tags) h5 e
 
-    h5 : Holds (Sound s) p5
-    h5 = through s (Sound s) (Sound s) Point p4 h4 (λ at l e t k. after-point t k) (λ q l k. k)
+  -- after field 1 kind and degree are known, so the reader may come to each of the other tags
+  pub ready-frame : ready Frame (reached s (Kind ∷ [])) ≡ true
+  ready-frame = ready-by (λ l k. k .degree) Frame refl (reached s (Kind ∷ [])) h1
+
+  pub ready-coefficients : ready Coefficients (reached s (Kind ∷ Frame ∷ [])) ≡ true
+  ready-coefficients = ready-by (λ l k. k .before .degree) Coefficients refl (reached s (Kind ∷ Frame ∷ [])) h2
+
+  pub ready-moves : ready Moves (reached s (Kind ∷ Frame ∷ Coefficients ∷ [])) ≡ true
+  ready-moves = ready-by (λ l k. k .degree) Moves refl (reached s (Kind ∷ Frame ∷ Coefficients ∷ [])) h3
+
+  pub ready-point : ready Point (reached s (Kind ∷ Frame ∷ Coefficients ∷ Moves ∷ [])) ≡ true
+  ready-point = ready-by (λ l k. k .degree) Point refl (reached s (Kind ∷ Frame ∷ Coefficients ∷ Moves ∷ [])) h4

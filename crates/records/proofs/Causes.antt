@@ -10,8 +10,8 @@ use borrow.Author.Tests.{eqb-true, eqb-false, ltb-true, ltb-false, leb-true, leb
 use lib.ListN.{length, getD}
 use lib.Dec.{eqb, ltb, leb}
 use Rattle.records.specs.Table.{tags, tagNumber, required, lengthAllowed, valuesAllowed, valuesNumber}
-use Rattle.records.specs.Reading.{left, lengthAt, valueAt, standsAt, fieldRefusal, noField, blank, withField, taken, finished, readingOf}
-use Rattle.records.specs.Causes.{Begins, mayCome, anyRequired, Caused}
+use Rattle.records.specs.Reading.{left, lengthAt, valueAt, standsAt, fieldRefusal, noField, blank, withField, taken, finished, readingOf, readingNumber, readingValues}
+use Rattle.records.specs.Causes.{Begins, mayCome, anyRequired, Caused, Told}
 use Rattle.records.specs.Causes.Begins.{first, after, without}
 use Rattle.records.specs.Causes.Caused.{cutField, cutValue, wrongTag, absentTag, wrongLength, wrongValues}
 use Rattle.records.specs.declared.Tag.{Tag}
@@ -118,15 +118,12 @@ caused-refused {s} (wrongValues {tag = tag} {at = at} {l = l} b h e k v) =
     b
     h
     (by-values tag l s at e k ∙ ap (λ (t : Bool). cond t 0 (valuesNumber tag)) v)
-    (value-numbered tag (l .kind) (valueAt s at) v)
+    (value-numbered tag (l .kind) (l .degree) (valueAt s at) v)
 
 -- ---- a refused reading has a cause
 
 abbrev CausedAs : List ℕ → Refusal → Type 0
 CausedAs s r = Caused s (r .number) (r .offset)
-
-refused-inj : {r q : Refusal} → Refused r ≡ Refused q → r ≡ q
-refused-inj e = cc
 
 -- by what is left where no tag that may come stands
 module _ {s : List ℕ} {rest : List Tag} {at : ℕ} {l : Layout} (b : Begins s rest at l) where
@@ -160,14 +157,14 @@ module _ {s : List ℕ} {tag : Tag} {rest : List Tag} {at : ℕ} {l : Layout} (b
       with-number : {n : ℕ} → fieldRefusal tag l s at ≡ n → Caused s n at → Caused s (fieldRefusal tag l s at) at
       with-number e c = subst (λ (n : ℕ). Caused s n at) (sym e) c
 
-      by-value : (t : Bool) → valuesAllowed tag (l .kind) (valueAt s at) ≡ t → lengthAllowed tag (l .kind) (l .degree) (lengthAt s at) ≡ true
+      by-value : (t : Bool) → valuesAllowed tag (l .kind) (l .degree) (valueAt s at) ≡ t → lengthAllowed tag (l .kind) (l .degree) (lengthAt s at) ≡ true
           → lengthAt s at ≤ left s (at + 3) → Caused s (fieldRefusal tag l s at) at
       by-value true v e k = absurd (z (by-values tag l s at e k ∙ ap (λ (t : Bool). cond t 0 (valuesNumber tag)) v))
       by-value false v e k = with-number (by-values tag l s at e k ∙ ap (λ (t : Bool). cond t 0 (valuesNumber tag)) v) (wrongValues b h e k v)
 
       by-room : (t : Bool) → leb (lengthAt s at) (left s (at + 3)) ≡ t → lengthAllowed tag (l .kind) (l .degree) (lengthAt s at) ≡ true
           → Caused s (fieldRefusal tag l s at) at
-      by-room true k e = by-value (valuesAllowed tag (l .kind) (valueAt s at)) refl e (leb-true (lengthAt s at) (left s (at + 3)) k)
+      by-room true k e = by-value (valuesAllowed tag (l .kind) (l .degree) (valueAt s at)) refl e (leb-true (lengthAt s at) (left s (at + 3)) k)
       by-room false k e =
           let lacking = leb-false (lengthAt s at) (left s (at + 3)) k in
           with-number (cut-short tag l s at e lacking) (cutValue b h e lacking)
@@ -239,6 +236,14 @@ refused-caused s r e = subst (Outcome s) e (outcome-of s)
 -- Where a record is accepted, the reader has gone from field to field up to its very end.
 pub accepted-whole : (s : List ℕ) (l : Layout) → readingOf s ≡ Accepted l → Begins s [] (length s) l
 accepted-whole s l e = subst (Outcome s) e (outcome-of s)
+
+-- So number and values of every reading are what the table tells of the bytes.
+pub table-told : (s : List ℕ) → Told s (readingNumber (readingOf s)) (readingValues (readingOf s))
+table-told s = by-case (readingOf s) (outcome-of s)
+  where
+    by-case : (r : Reading) → Outcome s r → Told s (readingNumber r) (readingValues r)
+    by-case (Accepted l) o = Told.accepted o
+    by-case (Refused r) o = Told.refused o
 
 -- a record of no bytes lacks tag 1, at its end, which is its beginning
 pub empty-record : readingOf [] ≡ Refused (record { number = 2; offset = 0 })

@@ -1,14 +1,19 @@
 -- One field, test by test: what each test of `fieldRefusal`, `passed` and `noField` settles, in their order. The code's returns and the causes of a refusal
 -- both cite these laws.
-use mathlib.Core.Path.{_≡_, refl, sym, _∙_}
+use mathlib.Core.Path.{_≡_, refl, sym, _∙_, ap}
 use mathlib.Core.Bool.{Bool, true, false, _&&_, cond}
 use mathlib.Core.List.{List}
-use Prim.Native.Nat.{ℕ, _+_, _≤_, _<_}
+use Prim.Native.Nat.{ℕ, _+_, _*_, _≤_, _<_}
 use native.Mathlib.Omega.{arith}
 use borrow.Author.Tests.{le-leb, lt-leb, eq-eqb, ne-eqb, lt-ltb, le-ltb, leb-true, leb-false, eqb-true}
-use lib.ListN.{getD}
+use lib.ListN.{length, getD, take}
 use lib.Dec.{eqb, leb}
-use Rattle.records.specs.Table.{tagNumber, required, lengthAllowed, valuesAllowed, valuesNumber}
+use lib.IntN.{ℤ}
+use Rattle.polar.specs.Order.{monomials}
+use Rattle.machine.specs.Kinds.{further}
+use Rattle.bytes.specs.Numbers.{coefficientsOf}
+use Rattle.bytes.proofs.Numbers.{coefficients-of-value}
+use Rattle.records.specs.Table.{tagNumber, required, coefficientsLength, lengthAllowed, polynomialsOf, valuesAllowed, valuesNumber}
 use Rattle.records.specs.Reading.{left, lengthAt, valueAt, standsAt, fieldRefusal, noField, withField, passed, taken}
 use Rattle.records.specs.declared.Tag.{Tag}
 use Rattle.records.specs.declared.Tag.the-variants.{Kind, Frame, Coefficients, Moves, Point}
@@ -37,13 +42,22 @@ module _ (tag : Tag) (s : List ℕ) (at : ℕ) where
       (leb-true 3 (left s at) (parts .0), eqb-true (getD s at 0) (tagNumber tag) (parts .1))
 
 -- values that are refused have a number
-pub value-numbered : (tag : Tag) (kind : ℕ) (value : List ℕ) → valuesAllowed tag kind value ≡ false → valuesNumber tag ≡ 0 → ⊥
+pub value-numbered : (tag : Tag) (kind degree : ℕ) (value : List ℕ) → valuesAllowed tag kind degree value ≡ false → valuesNumber tag ≡ 0 → ⊥
 unfolding valuesAllowed
-value-numbered Kind kind value e k = omega arith
-value-numbered Frame kind value e k = omega arith
-value-numbered Coefficients kind value e k = omega arith
-value-numbered Moves kind value e k = let z : _≡_ {A = ℕ} 0 1 = cc in omega arith
-value-numbered Point kind value e k = let z : _≡_ {A = ℕ} 0 1 = cc in omega arith
+value-numbered Kind kind degree value e k = omega arith
+value-numbered Frame kind degree value e k = omega arith
+value-numbered Coefficients kind degree value e k = omega arith
+value-numbered Moves kind degree value e k = let z : _≡_ {A = ℕ} 0 1 = cc in omega arith
+value-numbered Point kind degree value e k = let z : _≡_ {A = ℕ} 0 1 = cc in omega arith
+
+-- the coefficients of a value of the right length are those of the part that begins with it
+pub same-polynomials : (kind degree n : ℕ) (part : List ℕ) → n ≡ coefficientsLength kind degree → polynomialsOf kind degree (take n part) ≡ polynomialsOf kind degree part
+same-polynomials kind degree n part e =
+    let count = 4 * length (monomials (further kind) degree) in
+    let four : n ≡ 4 * count = omega arith in
+    ap
+    (λ (xs : List ℤ). record { kind = kind; degree = degree; coefficients = xs })
+    (ap (λ (k : ℕ). coefficientsOf (take k part) count) four ∙ coefficients-of-value part count)
 
 -- ---- the tests of a field whose tag is right
 
@@ -57,31 +71,31 @@ module _ (tag : Tag) (l : Layout) (s : List ℕ) (at : ℕ) where
   cut-short h k = rw (h, lt-leb (lengthAt s at) (left s (at + 3)) k) refl
 
   pub by-values : lengthAllowed tag (l .kind) (l .degree) (lengthAt s at) ≡ true → lengthAt s at ≤ left s (at + 3)
-      → fieldRefusal tag l s at ≡ cond (valuesAllowed tag (l .kind) (valueAt s at)) 0 (valuesNumber tag)
+      → fieldRefusal tag l s at ≡ cond (valuesAllowed tag (l .kind) (l .degree) (valueAt s at)) 0 (valuesNumber tag)
   unfolding fieldRefusal
   by-values h k = rw (h, le-leb (lengthAt s at) (left s (at + 3)) k) refl
 
   -- not refused: every test passes
   pub not-refused : fieldRefusal tag l s at ≡ 0
-      → (lengthAllowed tag (l .kind) (l .degree) (lengthAt s at) ≡ true) × (lengthAt s at ≤ left s (at + 3)) × (valuesAllowed tag (l .kind) (valueAt s at) ≡ true)
+      → (lengthAllowed tag (l .kind) (l .degree) (lengthAt s at) ≡ true) × (lengthAt s at ≤ left s (at + 3)) × (valuesAllowed tag (l .kind) (l .degree) (valueAt s at) ≡ true)
   not-refused e = by-length (lengthAllowed tag (l .kind) (l .degree) (lengthAt s at)) refl
     where
       zero : {n : ℕ} → fieldRefusal tag l s at ≡ n → 0 ≡ n
       zero k = sym e ∙ k
 
-      by-value : (u : Bool) → valuesAllowed tag (l .kind) (valueAt s at) ≡ u → 0 ≡ cond u 0 (valuesNumber tag) → u ≡ true
+      by-value : (u : Bool) → valuesAllowed tag (l .kind) (l .degree) (valueAt s at) ≡ u → 0 ≡ cond u 0 (valuesNumber tag) → u ≡ true
       by-value true v k = refl
-      by-value false v k = absurd (value-numbered tag (l .kind) (valueAt s at) v (sym k))
+      by-value false v k = absurd (value-numbered tag (l .kind) (l .degree) (valueAt s at) v (sym k))
 
       by-room : (t : Bool) → leb (lengthAt s at) (left s (at + 3)) ≡ t → lengthAllowed tag (l .kind) (l .degree) (lengthAt s at) ≡ true
-          → (lengthAt s at ≤ left s (at + 3)) × (valuesAllowed tag (l .kind) (valueAt s at) ≡ true)
+          → (lengthAt s at ≤ left s (at + 3)) × (valuesAllowed tag (l .kind) (l .degree) (valueAt s at) ≡ true)
       by-room true r h =
           let room = leb-true (lengthAt s at) (left s (at + 3)) r in
-          (room, by-value (valuesAllowed tag (l .kind) (valueAt s at)) refl (zero (by-values h room)))
+          (room, by-value (valuesAllowed tag (l .kind) (l .degree) (valueAt s at)) refl (zero (by-values h room)))
       by-room false r h = let k = zero (cut-short h (leb-false (lengthAt s at) (left s (at + 3)) r)) in absurd (omega arith)
 
       by-length : (t : Bool) → lengthAllowed tag (l .kind) (l .degree) (lengthAt s at) ≡ t
-          → (lengthAllowed tag (l .kind) (l .degree) (lengthAt s at) ≡ true) × (lengthAt s at ≤ left s (at + 3)) × (valuesAllowed tag (l .kind) (valueAt s at) ≡ true)
+          → (lengthAllowed tag (l .kind) (l .degree) (lengthAt s at) ≡ true) × (lengthAt s at ≤ left s (at + 3)) × (valuesAllowed tag (l .kind) (l .degree) (valueAt s at) ≡ true)
       by-length true h = let rest = by-room (leb (lengthAt s at) (left s (at + 3))) refl h in (h, rest .0, rest .1)
       by-length false h = let k = zero (wrong-length h) in absurd (omega arith)
 

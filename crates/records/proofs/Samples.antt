@@ -5,6 +5,9 @@ use mathlib.Core.List.{List, [], _∷_, _++_}
 use Prim.Native.Nat.{ℕ}
 use lib.Dec.{eqb}
 use lib.ListN.{replicate}
+use Rattle.polar.specs.Order.{monomials}
+use Rattle.machine.specs.First.{frameOf, frameIn, coefficientsIn}
+use Rattle.bytes.specs.Numbers.{frameNumbers, coefficientsOf}
 use Rattle.records.specs.Reading.{readingOf, readingNumber, readingValues}
 use Rattle.records.specs.declared.Reading.the-variants.{Accepted}
 
@@ -43,7 +46,7 @@ pub circle-read :
       moves = record { field = 74; start = 74; length = 0 };
       point = record { field = 67; start = 70; length = 4 };
     })
-unfolding readingOf
+unfolding readingOf frameIn frameNumbers frameOf monomials coefficientsIn coefficientsOf
 circle-read = refl
 
 -- ---- refusals
@@ -101,5 +104,5 @@ right [] = true
 right (x ∷ xs) = refusedAs (x .bytes) (x .number) (x .offset) && right xs
 
 pub samples-right : right samples ≡ true
-unfolding right
+unfolding right frameIn frameNumbers frameOf monomials coefficientsIn coefficientsOf
 samples-right = refl

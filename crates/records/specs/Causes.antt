@@ -5,10 +5,12 @@ use mathlib.Core.Path.{_≡_}
 use mathlib.Core.Logic.{_⊎_}
 use mathlib.Core.Bool.{Bool, true, false, not, _&&_, _||_}
 use mathlib.Core.List.{List, [], _∷_}
-use lib.ListN.{length, getD}
+use lib.ListN.{length, getD, drop}
 use lib.Dec.{eqb}
-use Rattle.records.specs.Numbers.{numbersWithin}
-use Rattle.records.specs.Table.{tags, tagNumber, required, degreeAllowed, frameLength, coefficientsLength, pointLength, movesLengthAllowed, lengthAllowed, frameAllowed, valuesAllowed, valuesNumber}
+use Rattle.machine.specs.Kinds.{known}
+use Rattle.machine.specs.First.{frameIn, coefficientsIn}
+use Rattle.bytes.specs.Numbers.{frameNumbers}
+use Rattle.records.specs.Table.{tags, tagNumber, required, vertices, frameLength, coefficientsLength, pointLength, movesLengthAllowed, lengthAllowed, polynomialsOf, valuesAllowed, valuesNumber}
 use Rattle.records.specs.Reading.{left, lengthAt, valueAt, standsAt, fieldRefusal, blank, withField, extentOf, bytesOf}
 use Rattle.records.specs.declared.Tag.{Tag}
 use Rattle.records.specs.declared.Layout.{Layout}
@@ -48,17 +50,23 @@ pub data Caused (s : List ℕ) : ℕ → ℕ → Type 0 where
   -- rows 4, 5 and 6, by the tag: the value is there whole, and its numbers are not allowed
   wrongValues : {tag : Tag} {rest : List Tag} {at : ℕ} {l : Layout} → Begins s (tag ∷ rest) at l → standsAt tag s at ≡ true
       → lengthAllowed tag (l .kind) (l .degree) (lengthAt s at) ≡ true → lengthAt s at ≤ left s (at + 3)
-      → valuesAllowed tag (l .kind) (valueAt s at) ≡ false → Caused s (valuesNumber tag) at
+      → valuesAllowed tag (l .kind) (l .degree) (valueAt s at) ≡ false → Caused s (valuesNumber tag) at
+
+-- What the table tells of any bytes, a number and the values with it: 0 with kind and degree where the fields go up to the record's very end, or a row's
+-- number with the offset where its cause is there.
+pub data Told (s : List ℕ) : ℕ → List ℕ → Type 0 where
+  accepted : {l : Layout} → Begins s [] (length s) l → Told s 0 (l .kind ∷ l .degree ∷ [])
+  refused : {number offset : ℕ} → Caused s number offset → Told s number (offset ∷ [])
 
 -- What holds of an accepted record: fields 1, 2 and 3 are there, with the lengths and values that the table allows; 4 and 5 have such a length or are
--- absent; and every value lies within the record.
+-- absent; every value lies within the record; and the coefficients are those of the part that begins with field 3's value.
 pub record Sound (s : List ℕ) (l : Layout) : Type 0 where
-  pub degree : degreeAllowed (l .kind) (l .degree) ≡ true
+  pub degree : known (l .kind) (l .degree) ≡ true
   pub frameLong : l .frame .length ≡ frameLength (l .kind)
-  pub frameGood : frameAllowed (l .kind) (bytesOf (l .frame) s) ≡ true
+  pub frameGood : frameIn (vertices (l .kind)) (frameNumbers (bytesOf (l .frame) s)) ≡ true
   pub coefficientsField : l .coefficients .start ≡ l .coefficients .field + 3
   pub coefficientsLong : l .coefficients .length ≡ coefficientsLength (l .kind) (l .degree)
-  pub coefficientsGood : numbersWithin 1048576 4 (bytesOf (l .coefficients) s) ≡ true
+  pub coefficientsGood : coefficientsIn (polynomialsOf (l .kind) (l .degree) (drop (l .coefficients .start) s)) ≡ true
   pub movesLong : movesLengthAllowed (l .moves .length) ≡ true
   pub pointLong : (l .point .length ≡ 0) ⊎ (l .point .length ≡ pointLength (l .kind))
   pub within : (tag : Tag) → extentOf tag l .start + extentOf tag l .length ≤ length s

@@ -1,5 +1,3 @@
-pub mod Numbers
 pub mod Table
 pub mod Reading
-pub mod Moves
 pub mod Causes

@@ -1,11 +1,12 @@
 -- What the reader makes of any bytes at all (document 01, 'The record' and 'Refused, and with which number'): the layout of an accepted record,
 -- or the number and the offset of the first cause of refusal.
 use Prim.Native.Nat.{ℕ, _+_, _-_}
-use mathlib.Core.Bool.{Bool, _&&_, cond}
+use mathlib.Core.Bool.{Bool, true, _&&_, _||_, cond}
 use mathlib.Core.List.{List, [], _∷_, foldl}
 use lib.ListN.{length, getD, take, drop}
 use lib.Dec.{eqb, leb, ltb}
-use Rattle.records.specs.Numbers.{unsignedOf}
+use Rattle.machine.specs.Kinds.{known}
+use Rattle.bytes.specs.Numbers.{unsignedOf}
 use Rattle.records.specs.Table.{tags, tagNumber, required, lengthAllowed, valuesAllowed, valuesNumber}
 use Rattle.records.specs.declared.Tag.{Tag}
 use Rattle.records.specs.declared.Tag.the-variants.{Kind, Frame, Coefficients, Moves, Point}
@@ -49,7 +50,7 @@ fieldRefusal tag l s at =
     firstFailed
     ((lengthAllowed tag (l .kind) (l .degree) (lengthAt s at), 3)
     ∷ (leb (lengthAt s at) (left s (at + 3)), 1)
-    ∷ (valuesAllowed tag (l .kind) (valueAt s at), valuesNumber tag)
+    ∷ (valuesAllowed tag (l .kind) (l .degree) (valueAt s at), valuesNumber tag)
     ∷ [])
 
 -- The refusal where the reader stands at no tag that may come next: too few bytes for a tag and a length is 1, another tag is 2, and so is
@@ -100,6 +101,15 @@ withField tag l s at =
     }
 
 -- ---- the fields, from the first to the last
+
+-- field 1 is the first to be taken: at every other tag kind and degree are known
+abbrev pub headed : Tag → ℕ → ℕ → Bool
+headed tag kind degree = sameTag tag Kind || known kind degree
+
+-- the reader may come to the tag
+abbrev pub ready : Tag → Progress → Bool
+ready tag (Stopped r) = true
+ready tag (At at l) = headed tag (l .kind) (l .degree)
 
 -- past the field with the tag that begins at the offset, or stopped by its refusal
 unfoldable pub passed : Tag → Layout → List ℕ → ℕ → Progress

@@ -28,9 +28,9 @@ pub(crate) fn step(net: Net, a: Asked) -> Step
     ensures { λ b. ⌜ b ≡ stepOf net (callOf a) ⌝ }
 {
     match a {
-        Asked::Replace(vertex, weights) => nets::replace(net, vertex, weights),
-        Asked::Flip(vertex) => nets::flip(net, vertex),
-        Asked::Point(weights) => nets::point(net, weights),
+        Asked::Replace(vertex, weights) => moves::replace(net, vertex, weights),
+        Asked::Flip(vertex) => moves::flip(net, vertex),
+        Asked::Point(weights) => moves::point(net, weights),
     }
 }
 

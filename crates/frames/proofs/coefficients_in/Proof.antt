@@ -27,7 +27,7 @@ returns c =
     sym (ap (λ b. b && coefficientsIn (record { kind = a .kind; degree = a .degree; coefficients = a .t3 })) (found (c .before) false (not-true (c .before .known-kind .result) (c .if1 .taken))))
 
 coefficient-count-requires : tie.Need-coefficient-count-requires
-coefficient-count-requires c κs = passed c
+coefficient-count-requires c κs = search needs
 
 slice-aggregate-all-within : tie.Need-slice-aggregate-all-within
 slice-aggregate-all-within c = search needs

@@ -1,19 +1,20 @@
--- `frame_count` meets its contract, by the kind.
-use Prim.Native.Nat.{suc, _*_}
-use mathlib.Core.Path.{sym, ap}
-use Rattle.machine.specs.Kinds.{further}
-use Rattle.frames.proofs.Counts.{further-none}
+-- `frame_count` meets its contract: there are at most three vertices, so the square fits.
+use Prim.Native.Nat.{_*_}
+use mathlib.Core.Path.{ap}
+use native.Mathlib.Omega.{arith}
+use borrow.Author.Needs.{needs}
+use Rattle.frames.proofs.Counts.{further-low}
 use Rattle.frames.proofs.frame_count.Statement.{statement}
 use Rattle.frames.proofs.frame_count.Tie as tie
 
+vertex-count-requires : tie.Need-vertex-count-requires
+vertex-count-requires c κs = search needs
+
+mul-result : tie.Need-mul-result
+mul-result c = rw (c .vertex-count .ensures) (record { fits = omega (arith, further-low (c .before .args .kind)) })
+
 returns : tie.Need-returns
-returns c = ap (λ k. suc (further k) * suc (further k)) (sym (c .if1 .taken))
-
-returns-2 : tie.Need-returns-2
-returns-2 c = ap (λ k. suc (further k) * suc (further k)) (sym (c .if2 .taken))
-
-returns-3 : tie.Need-returns-3
-returns-3 c = ap (λ k. suc k * suc k) (further-none (c .before .before .args .kind) (c .before .if1 .left) (c .if2 .left))
+returns c = ap (λ d. d * d) (c .vertex-count .ensures)
 
 pub frame-count-spec : {M : Type 1} → statement M
-frame-count-spec = tie.close (tie.spec returns returns-2 returns-3)
+frame-count-spec = tie.close (tie.spec vertex-count-requires mul-result returns)

@@ -1,10 +1,11 @@
--- `project` meets its contract: each return is in the case that the tests before it have settled.
+-- `project` meets its contract: each return is in the case that the tests before it have settled, and number and values follow from the case (`projected`).
 use mathlib.Core.Path.{_≡_, sym, ap, _∙_}
 use mathlib.Core.Bool.{Bool, true}
 use borrow.Author.Needs.{needs}
 use borrow.Author.Tests.{not-true, not-false}
 use Rattle.projection.specs.declared.Projection.the-variants.{Finite, Direction}
 use Rattle.projection.specs.Projection.{allInRange, allZero, isZero, coordsOf, directionOf, projectionBy, projectionOf}
+use Rattle.projection.proofs.Cases.{projected}
 use Rattle.projection.proofs.Signed.{readBack, at-three, at-four, is-zero, not-zero, within}
 use Rattle.projection.proofs.project.Statement.{statement}
 use Rattle.projection.proofs.project.Tie as tie
@@ -19,7 +20,8 @@ returns c =
     let a = start .args in
     let f = start .fits in
     let out = sym (at-four allInRange (a .x) (a .y) (a .z) (a .w) (f .x) (f .y) (f .z) (f .w)) ∙ sym (c .before .all-in-range .ensures) ∙ not-true (c .before .all-in-range .result) (c .if1 .taken) in
-    sym (ap (λ (b : Bool). projectionBy b (isZero (a .w)) (allZero (a .x) (a .y) (a .z)) (a .x) (a .y) (a .z) (a .w)) out)
+    projected (a .x) (a .y) (a .z) (a .w)
+    (sym (ap (λ (b : Bool). projectionBy b (isZero (a .w)) (allZero (a .x) (a .y) (a .z)) (a .x) (a .y) (a .z) (a .w)) out))
 
 -- past the first test the numbers are in range, as they were read and as they are
 read-ranged : (c : tie.Else1) → let a = c .before .before .args in allInRange (readBack (a .x)) (readBack (a .y)) (readBack (a .z)) (readBack (a .w)) ≡ true
@@ -42,9 +44,10 @@ returns-2 c =
     let start = c .before .before .before .before in
     let a = start .args in
     let f = start .fits in
-    ap Finite (c .finite-point .ensures ∙ at-four coordsOf (a .x) (a .y) (a .z) (a .w) (f .x) (f .y) (f .z) (f .w))
+    projected (a .x) (a .y) (a .z) (a .w)
+    (ap Finite (c .finite-point .ensures ∙ at-four coordsOf (a .x) (a .y) (a .z) (a .w) (f .x) (f .y) (f .z) (f .w))
     ∙ sym (ap (λ (b : Bool). projectionBy b (isZero (a .w)) (allZero (a .x) (a .y) (a .z)) (a .x) (a .y) (a .z) (a .w)) (ranged (c .before .before))
-    ∙ ap (λ (b : Bool). projectionBy true b (allZero (a .x) (a .y) (a .z)) (a .x) (a .y) (a .z) (a .w)) (not-zero (a .w) (f .w) (c .before .if2 .taken)))
+    ∙ ap (λ (b : Bool). projectionBy true b (allZero (a .x) (a .y) (a .z)) (a .x) (a .y) (a .z) (a .w)) (not-zero (a .w) (f .w) (c .before .if2 .taken))))
 
 all-zero-requires : tie.Need-all-zero-requires
 all-zero-requires c κs = search needs
@@ -70,8 +73,9 @@ returns-3 : tie.Need-returns-3
 unfolding projectionBy
 returns-3 c =
     let a = c .before .before .before .before .before .args in
-    sym (weightless (c .before .before)
-    ∙ ap (λ (b : Bool). projectionBy true true b (a .x) (a .y) (a .z) (a .w)) (sym (zero-test (c .before)) ∙ c .if3 .taken))
+    projected (a .x) (a .y) (a .z) (a .w)
+    (sym (weightless (c .before .before)
+    ∙ ap (λ (b : Bool). projectionBy true true b (a .x) (a .y) (a .z) (a .w)) (sym (zero-test (c .before)) ∙ c .if3 .taken)))
 
 direction-requires : tie.Need-direction-requires
 direction-requires c κs =
@@ -86,9 +90,10 @@ returns-4 c =
     let start = tested .before .before .before .before in
     let a = start .args in
     let f = start .fits in
-    ap Direction (c .direction .ensures ∙ at-three directionOf (a .x) (a .y) (a .z) (f .x) (f .y) (f .z))
+    projected (a .x) (a .y) (a .z) (a .w)
+    (ap Direction (c .direction .ensures ∙ at-three directionOf (a .x) (a .y) (a .z) (f .x) (f .y) (f .z))
     ∙ sym (weightless (tested .before)
-    ∙ ap (λ (b : Bool). projectionBy true true b (a .x) (a .y) (a .z) (a .w)) (sym (zero-test tested) ∙ c .before .if3 .left))
+    ∙ ap (λ (b : Bool). projectionBy true true b (a .x) (a .y) (a .z) (a .w)) (sym (zero-test tested) ∙ c .before .if3 .left)))
 
 pub project-spec : {M : Type 1} → statement M
 project-spec =

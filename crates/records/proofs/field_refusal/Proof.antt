@@ -53,38 +53,36 @@ add-part-from c = search needs
 part-from-requires : tie.Need-part-from-requires
 part-from-requires c κs = search needs
 
-first-requires : tie.Need-first-requires
-first-requires c κs = search needs
-
 values-allowed-requires : tie.Need-values-allowed-requires
-values-allowed-requires c κs = search needs
+values-allowed-requires c κs =
+    let tested = c .before .before .before in
+    (tested .before .before .before .before .pre .1, sym (tested .before .length-allowed .ensures) ∙ not-false (tested .before .length-allowed .result) (tested .if1 .left))
 
 -- the test of the values, which are all there
-value-is : (c : tie.After-first) → let a = c .before .before .before .before .before .before .before .before .args in
-    now (c .first .result) ≡ valueAt (now (a .input)) (a .at)
-unfolding valueAt
-value-is c =
-    let a = c .before .before .before .before .before .before .before .before .args in
-    c .first .ensures ∙ (λ i. take (c .before .before .before .before .before .before .length-at .ensures .0 i) (c .before .part-from .ensures i))
-
-by-test : (c : tie.After-values-allowed) → let a = c .before .before .before .before .before .before .before .before .before .args in
+by-test : (c : tie.After-values-allowed) → let a = c .before .before .before .before .before .before .before .before .args in
     fieldRefusal (a .tag) (a .layout) (now (a .input)) (a .at) ≡ cond (c .values-allowed .result) 0 (valuesNumber (a .tag))
+unfolding valueAt
 by-test c =
-    let a = c .before .before .before .before .before .before .before .before .before .args in
-    let tested = c .before .before .before in
+    let a = c .before .before .before .before .before .before .before .before .args in
+    let tested = c .before .before in
     let n = tested .before .before .before .before .length-at .ensures .0 in
     let e = tested .before .bytes-left .ensures in
     by-values (a .tag) (a .layout) (now (a .input)) (a .at) (length-right (tested .before .before)) (omega arith)
-    ∙ ap (λ (b : Bool). cond b 0 (valuesNumber (a .tag))) (sym (c .values-allowed .ensures ∙ ap (valuesAllowed (a .tag) (a .layout .kind)) (value-is (c .before))))
+    ∙ ap (λ (b : Bool). cond b 0 (valuesNumber (a .tag)))
+    (sym (c .values-allowed .ensures ∙ (λ i. valuesAllowed (a .tag) (a .layout .kind) (a .layout .degree) (take (n i) (c .before .part-from .ensures i)))))
 
 returns-3 : tie.Need-returns-3
-returns-3 c = sym (by-test (c .before) ∙ ap (λ (b : Bool). cond b 0 (valuesNumber (c .before .before .before .before .before .before .before .before .before .before .args .tag))) (c .if3 .taken))
+returns-3 c =
+    let tag = c .before .before .before .before .before .before .before .before .before .args .tag in
+    sym (by-test (c .before) ∙ ap (λ (b : Bool). cond b 0 (valuesNumber tag)) (c .if3 .taken))
 
 values-number-requires : tie.Need-values-number-requires
 values-number-requires c κs = search needs
 
 returns-4 : tie.Need-returns-4
-returns-4 c = c .values-number .ensures ∙ sym (by-test (c .before .before) ∙ ap (λ (b : Bool). cond b 0 (valuesNumber (c .before .before .before .before .before .before .before .before .before .before .before .args .tag))) (c .before .if3 .left))
+returns-4 c =
+    let tag = c .before .before .before .before .before .before .before .before .before .before .args .tag in
+    c .values-number .ensures ∙ sym (by-test (c .before .before) ∙ ap (λ (b : Bool). cond b 0 (valuesNumber tag)) (c .before .if3 .left))
 
 pub field-refusal-spec : {M : Type 1} → statement M
 field-refusal-spec =
@@ -98,7 +96,6 @@ field-refusal-spec =
     returns-2
     add-part-from
     part-from-requires
-    first-requires
     values-allowed-requires
     returns-3
     values-number-requires

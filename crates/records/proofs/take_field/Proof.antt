@@ -1,9 +1,11 @@
 -- `take_field` meets its contract: the tests lead to the case of the definition.
-use mathlib.Core.Path.{sym, _∙_, ap}
+use mathlib.Core.Bool.{true}
+use mathlib.Core.Path.{_≡_, sym, _∙_, ap, subst}
 use native.Mathlib.Omega.{arith}
 use borrow.Author.Needs.{needs}
 use denote.Ref.{now}
 use Rattle.records.proofs.Fields.{stands-there, stays-stopped, takes, misses, skips}
+use Rattle.records.specs.Reading.{ready}
 use Rattle.records.specs.declared.Progress.the-variants.{Stopped}
 use Rattle.records.proofs.take_field.Statement.{statement}
 use Rattle.records.proofs.take_field.Tie as tie
@@ -27,7 +29,8 @@ pass-field-requires c κs =
     let a = c .before .before .before .before .before .before .args in
     let at = c .before .before .before .progress .given .0 .0 in
     let there = stands-there (a .tag) (now (a .input)) at (sym (c .before .stands-at .ensures) ∙ c .if1 .taken) in
-    omega arith
+    let start = c .before .before .before .before .before .before in
+    (omega arith, subst (λ p. ready (a .tag) p ≡ true) (c .before .before .before .progress .given .1) (start .pre))
 
 returns-2 : tie.Need-returns-2
 returns-2 c =

@@ -1,9 +1,22 @@
--- `values_allowed` meets its contract: each arm is the row of its tag.
-use mathlib.Core.Path.{refl, _∙_}
+-- `values_allowed` meets its contract: each arm is the row of its tag. The coefficients are read from the part that begins with the value, and are those of
+-- the value, since its length is the table's.
+use mathlib.Core.Bool.{true, _&&_}
+use mathlib.Core.Path.{_≡_, refl, sym, _∙_, ap, subst}
+use borrow.Author.Tests.{eqb-true}
+use lib.ListN.{getD}
+use denote.Ref.{now}
+use Rattle.machine.specs.Kinds.{known}
+use Rattle.machine.specs.First.{frameIn, coefficientsIn}
+use Rattle.bytes.specs.Numbers.{frameNumbers, coefficientsOf}
+use Rattle.records.specs.Table.{vertices, coefficientsLength, lengthAllowed, valuesAllowed}
+use Rattle.records.specs.Reading.{headed}
+use Rattle.records.proofs.Fields.{same-polynomials}
 use borrow.Author.Needs.{needs}
-use Rattle.records.specs.Table.{degreeAllowed, valuesAllowed}
 use Rattle.records.proofs.values_allowed.Statement.{statement}
 use Rattle.records.proofs.values_allowed.Tie as tie
+
+first-part-requires : tie.Need-first-part-requires
+first-part-requires c κs = search needs
 
 enum-told : tie.Need-enum-told
 enum-told c = search needs
@@ -14,20 +27,29 @@ byte-at-requires c κs = search needs
 byte-at-requires-2 : tie.Need-byte-at-requires-2
 byte-at-requires-2 c κs = search needs
 
-degree-allowed-requires : tie.Need-degree-allowed-requires
-degree-allowed-requires c κs = search needs
+known-kind-requires : tie.Need-known-kind-requires
+known-kind-requires c κs = search needs
 
 enum-told-2 : tie.Need-enum-told-2
 enum-told-2 c = search needs
 
-frame-allowed-requires : tie.Need-frame-allowed-requires
-frame-allowed-requires c κs = search needs
+frame-numbers-requires : tie.Need-frame-numbers-requires
+frame-numbers-requires c κs = search needs
+
+frame-in-requires : tie.Need-frame-in-requires
+frame-in-requires c κs = search needs
 
 enum-told-3 : tie.Need-enum-told-3
 enum-told-3 c = search needs
 
-all-within-requires : tie.Need-all-within-requires
-all-within-requires c κs = search needs
+coefficient-count-requires : tie.Need-coefficient-count-requires
+coefficient-count-requires c κs = search needs
+
+coefficients-requires : tie.Need-coefficients-requires
+coefficients-requires c κs = search needs
+
+coefficients-in-requires : tie.Need-coefficients-in-requires
+coefficients-in-requires c κs = search needs
 
 enum-told-4 : tie.Need-enum-told-4
 enum-told-4 c = search needs
@@ -37,16 +59,36 @@ enum-told-5 c = search needs
 
 returns : tie.Need-returns
 unfolding valuesAllowed
-returns c = rw (c .before .before .before .enum-told .given .1)
-    (c .degree-allowed .ensures ∙ (λ i. degreeAllowed (c .before .before .byte-at .ensures i) (c .before .byte-at2 .ensures i)))
+returns c =
+    let whole = c .before .before .before .before .before .first-part .ensures in
+    rw (c .before .before .before .enum-told .given .1)
+    (c .known-kind .ensures
+    ∙ (λ i.
+    known
+    ((c .before .before .byte-at .ensures ∙ ap (λ l. getD l 0 0) whole) i)
+    ((c .before .byte-at2 .ensures ∙ ap (λ l. getD l 1 0) whole) i)))
 
 returns-2 : tie.Need-returns-2
 unfolding valuesAllowed
-returns-2 c = rw (c .before .enum-told2 .given .1) (c .frame-allowed .ensures)
+returns-2 c =
+    let found = c .before .before .before .before in
+    rw (c .before .before .enum-told2 .given .1)
+    (c .frame-in .ensures
+    ∙ ap (frameIn (vertices (found .before .before .args .kind))) (c .before .frame-numbers .ensures ∙ ap frameNumbers (found .first-part .ensures)))
 
 returns-3 : tie.Need-returns-3
-unfolding valuesAllowed
-returns-3 c = rw (c .before .enum-told3 .given .1) (c .all-within .ensures)
+unfolding valuesAllowed lengthAllowed
+returns-3 c =
+    let start = c .before .before .before .before .before .before .before in
+    let a = start .args in
+    let is = c .before .before .before .enum-told3 .given .1 in
+    let right : known (a .kind) (a .degree) ≡ true = subst (λ t. headed t (a .kind) (a .degree) ≡ true) is (start .pre .0) in
+    let long = eqb-true (a .n) (coefficientsLength (a .kind) (a .degree)) (subst (λ t. lengthAllowed t (a .kind) (a .degree) (a .n) ≡ true) is (start .pre .1)) in
+    let read = c .before .coefficients .ensures ∙ ap (coefficientsOf (now (a .part))) (c .before .before .coefficient-count .ensures) in
+    rw is
+    (c .coefficients-in .ensures
+    ∙ (λ i. right i && coefficientsIn (record { kind = a .kind; degree = a .degree; coefficients = read i }))
+    ∙ ap coefficientsIn (sym (same-polynomials (a .kind) (a .degree) (a .n) (now (a .part)) long)))
 
 returns-4 : tie.Need-returns-4
 unfolding valuesAllowed
@@ -60,14 +102,18 @@ pub values-allowed-spec : {M : Type 1} → statement M
 values-allowed-spec =
     tie.close
     (tie.spec
+    first-part-requires
     enum-told
     byte-at-requires
     byte-at-requires-2
-    degree-allowed-requires
+    known-kind-requires
     enum-told-2
-    frame-allowed-requires
+    frame-numbers-requires
+    frame-in-requires
     enum-told-3
-    all-within-requires
+    coefficient-count-requires
+    coefficients-requires
+    coefficients-in-requires
     enum-told-4
     enum-told-5
     returns

@@ -119,7 +119,7 @@ returns-3 c =
     let long : length (s .args .net .entries) ≡ 180 = search needs in
     let k = c .before .before .before .before .before .before .before .descend in
     let ok = not-false (k .result) (c .before .before .before .before .before .if2 .left) in
-    read-back (s .args .net) (getD (k .last .0) 0 (pos 0)) (getD (k .last .0) 1 (pos 0)) (getD (k .last .0) 2 (pos 0)) (getD (k .last .0) 3 (pos 0)) (c .before .before .before .before .x .given) (c .before .before .before .y .given) (c .before .before .z .given) (c .before .w .given) (c .project .result) (c .project .ensures)
+    read-back (s .args .net) (getD (k .last .0) 0 (pos 0)) (getD (k .last .0) 1 (pos 0)) (getD (k .last .0) 2 (pos 0)) (getD (k .last .0) 3 (pos 0)) (c .before .before .before .before .x .given) (c .before .before .before .y .given) (c .before .before .z .given) (c .before .w .given) (c .project .result) (c .project .ensures .0)
     ∙ found-point (s .args .net) (s .pre) long (s .args .r) (s .args .s) (s .args .t) (judged-none (c .before .before .before .before .before .before .before .before .before .before)) (sym ok ∙ named (c .before .before .before .before .before .before .before)) (k .last .0)
     (k .ensures .1 ok ∙ ap (λ ws. level (further (s .args .net .kind)) (s .args .net .degree) ws (s .args .net .degree) (s .args .net .entries)) (seen-list (s .args .r) (s .args .s) (s .args .t) (s .fits .r) (s .fits .s) (s .fits .t)))
 

@@ -7,9 +7,9 @@ use Rattle.samples.proofs.asked.step.Statement.{statement}
 use Rattle.samples.proofs.asked.step.Tie as tie
 use Rattle.samples.proofs.asked.step.Reads as reads
 use Rattle.samples.proofs.asked.step.Lts as lts
-use Rattle.nets.proofs.flip.Reads as flip-reads
-use Rattle.nets.proofs.point.Reads as point-reads
-use Rattle.nets.proofs.replace.Reads as replace-reads
+use Rattle.moves.proofs.flip.Reads as flip-reads
+use Rattle.moves.proofs.point.Reads as point-reads
+use Rattle.moves.proofs.replace.Reads as replace-reads
 
 enum-known-a : tie.Need-enum-known-a
 enum-known-a c = search needs

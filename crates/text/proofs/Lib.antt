@@ -1,0 +1,9 @@
+pub mod Decimal
+pub mod Over
+pub mod Samples
+pub mod Then
+pub mod Grouped
+pub mod NetRows
+pub mod Made
+pub mod Room
+pub mod Whole

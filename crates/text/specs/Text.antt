@@ -1,0 +1,134 @@
+-- The text of netprint (document 01, 'The program netprint'), line by line, from what the comparison machine answers and from the net over the frame that it reaches.
+use Prim.Native.Nat.{ℕ, zero, suc}
+use Prim.Native.Char.{code}
+use Prim.Native.String.{String, [] as none, _∷_ as _then_}
+use mathlib.Core.Bool.{Bool, cond}
+use mathlib.Core.List.{List, [], _∷_, _++_, map}
+use lib.Dec.{eqb, leb}
+use lib.IntN.{ℤ}
+use lib.Ieee.{Float, binary64, toBits}
+use lib.ListN.{length, take, drop}
+use Rattle.polar.specs.Order.{joined, counts}
+use Rattle.projection.specs.Projection.{refusal}
+use Rattle.projection.specs.declared.Projection.{Projection}
+use Rattle.projection.specs.declared.Projection.the-variants.{Finite, Direction, Nowhere, OutOfRange}
+use Rattle.machine.specs.Kinds.{further}
+use Rattle.machine.specs.Answers.{refusalNumber}
+use Rattle.machine.specs.Comparison.{Polynomials, Frame, netOver}
+use Rattle.machine.specs.Lists.{frameAfter, machineAnswers}
+use Rattle.machine.specs.declared.Net.{Net}
+use Rattle.machine.specs.declared.Call.{Call}
+use Rattle.machine.specs.declared.Answer.{Answer}
+use Rattle.machine.specs.declared.Answer.the-variants as answer
+use Rattle.scales.specs.Scales.{scaleOf}
+use Rattle.opening.specs.Opening.{polynomialsIn, frameIn, movesIn, pointIn, refusalIn}
+use Rattle.text.specs.Words.{decimal, signedDecimal, hexBits, line}
+use Rattle.text.specs.declared.Written.{Written}
+use Rattle.text.specs.declared.Written.the-variants.{Bytes, Refused}
+
+-- a word's bytes, from its letters
+abbrev pub word : String → List ℕ
+word none = []
+word (c then s) = code c ∷ word s
+
+-- ---- a refused record
+
+unfoldable pub refusedLine : ℕ → ℕ → List ℕ
+refusedLine number offset = line (word "refused" ∷ decimal number ∷ word "at" ∷ decimal offset ∷ [])
+
+-- ---- the first line: kind word, degree, scale
+
+abbrev pub kindWord : ℕ → List ℕ
+kindWord kind = cond (eqb kind 1) (word "curve") (word "patch")
+
+unfoldable pub headLine : ℕ → ℕ → List ℕ
+headLine kind degree = line (kindWord kind ∷ decimal degree ∷ decimal (scaleOf kind degree) ∷ [])
+
+-- ---- the moves: a line for each refused one, the moves being counted from k
+
+unfoldable pub moveLine : ℕ → ℕ → List ℕ
+moveLine k zero = []
+moveLine k (suc number) = line (word "move" ∷ decimal k ∷ word "refused" ∷ decimal (suc number) ∷ [])
+
+unfoldable pub moveLines : ℕ → List Answer → List ℕ
+moveLines k [] = []
+moveLines k (a ∷ answers) = moveLine k (refusalNumber a) ++ moveLines (suc k) answers
+
+-- ---- the net: a line for each entry, its place and its four numbers
+
+-- of a curve's entry the copies of s, of a patch's the copies of r, s and t
+abbrev pub indices : ℕ → List ℕ → List ℕ
+indices kind e = cond (eqb kind 1) (drop 1 e) e
+
+unfoldable pub entryLine : ℕ → List ℕ → List ℤ → List ℕ
+entryLine kind e numbers = line (map decimal (indices kind e) ++ map signedDecimal numbers)
+
+-- the entries with their numbers, four to an entry
+unfoldable pub entryLines : ℕ → List (List ℕ) → List ℤ → List ℕ
+entryLines kind [] numbers = []
+entryLines kind (e ∷ es) numbers = entryLine kind e (take 4 numbers) ++ entryLines kind es (drop 4 numbers)
+
+unfoldable pub netLines : Net → List ℕ
+netLines net = entryLines (net .kind) (counts (further (net .kind)) (net .degree)) (net .entries)
+
+-- ---- the point
+
+unfoldable pub pointRefusedLine : ℕ → List ℕ
+pointRefusedLine number = line (word "point" ∷ word "refused" ∷ decimal number ∷ [])
+
+abbrev pub coordinateWord : Float → List ℕ
+coordinateWord x = hexBits (toBits binary64 x)
+
+-- a found point by its projection
+unfoldable pub projectionLine : Projection → List ℕ
+projectionLine (Finite p) = line (word "at" ∷ coordinateWord (p .x) ∷ coordinateWord (p .y) ∷ coordinateWord (p .z) ∷ [])
+projectionLine (Direction d) = line (word "far" ∷ signedDecimal (d .x) ∷ signedDecimal (d .y) ∷ signedDecimal (d .z) ∷ [])
+projectionLine Nowhere = line (word "nowhere" ∷ [])
+projectionLine OutOfRange = pointRefusedLine (refusal OutOfRange)
+
+unfoldable pub pointLine : Answer → List ℕ
+pointLine answer.Taken = []
+pointLine (answer.Point p at) = projectionLine at
+pointLine (answer.Refused number) = pointRefusedLine number
+
+-- ---- the whole text of an accepted record: f are its polynomials, `frame` its frame, `moves` its moves, and `points` its point, or nothing where it has none
+
+unfoldable pub acceptedText : Polynomials → Frame → List Call → List Call → List ℕ
+acceptedText f frame moves points =
+    let reached = frameAfter f frame moves in
+    headLine (f .kind) (f .degree)
+    ++ (moveLines 1 (machineAnswers f frame moves)
+    ++ (netLines (netOver f reached) ++ joined pointLine (machineAnswers f reached points)))
+
+-- ---- the text of any bytes
+
+-- by the number of the record's refusal: a refused record has one line
+abbrev pub textBy : ℕ → List ℕ → List ℕ
+textBy zero s = acceptedText (polynomialsIn s) (frameIn s) (movesIn s) (pointIn s)
+textBy (suc k) s = refusedLine (suc k) (refusalIn s .offset)
+
+unfoldable pub textOf : List ℕ → List ℕ
+textOf s = textBy (refusalIn s .number) s
+
+-- ---- what is answered and left of a lent buffer
+
+-- a text goes into a buffer that is no shorter
+abbrev pub fits : List ℕ → List ℕ → Bool
+fits text out = leb (length text) (length out)
+
+-- how many bytes are written, or 11
+unfoldable pub writtenOf : List ℕ → List ℕ → Written
+writtenOf text out = cond (fits text out) (Bytes (length text)) (Refused 11)
+
+-- the whole buffer: the text, and behind it what was there; or all of what was there
+unfoldable pub bufferOf : List ℕ → List ℕ → List ℕ
+bufferOf text out = cond (fits text out) (text ++ drop (length text) out) out
+
+-- number and values of each answer: the table's number, and how many bytes of a buffer hold the text
+abbrev pub writtenNumber : Written → ℕ
+writtenNumber (Bytes n) = 0
+writtenNumber (Refused k) = k
+
+abbrev pub writtenBytes : Written → ℕ
+writtenBytes (Bytes n) = n
+writtenBytes (Refused k) = 0

@@ -1,0 +1,54 @@
+// Words and numbers written into a lent buffer. Each function writes from place `at` on, leaves the
+// other places as they were, and answers the place after what it wrote. That there is room is the
+// caller's to show: whether a whole text fits is known before its first byte is written.
+ghost use Prim.Native.Nat.{_+_, _≤_};
+ghost use lib.ListN.{length};
+ghost use lib.Ieee.{binary64, toBits};
+ghost use Rattle.text.specs.Words.{Wrote, decimal, signedDecimal, hexBits};
+use integers::magnitude;
+use projection::bits;
+
+// A word, byte by byte.
+pub(crate) fn put(out: &mut [u8], at: usize, word: &[u8]) -> usize
+    requires { ⌜ at + length (now word) ≤ length (now out) ⌝ }
+    ensures { λ r. ⌜ Wrote (now (out .entry)) at (now (word .entry)) (now (out .exit)) r ⌝ }
+{
+    let mut i = 0;
+    while i < word.len() {
+        out[at + i] = word[i];
+        i += 1;
+    }
+    at + i
+}
+
+// A number in base ten.
+pub(crate) fn put_decimal(out: &mut [u8], at: usize, n: u64) -> usize
+    requires { ⌜ at + length (decimal n) ≤ length (now out) ⌝ }
+    ensures { λ r. ⌜ Wrote (now (out .entry)) at (decimal n) (now (out .exit)) r ⌝ }
+{
+    let mut digits = [0u8; 20];
+    let k = io::decimal(n, &mut digits);
+    put(out, at, &digits[..k])
+}
+
+// The same with a minus sign where the number is negative.
+pub(crate) fn put_signed(out: &mut [u8], at: usize, v: i64) -> usize
+    requires { ⌜ at + length (signedDecimal v) ≤ length (now out) ⌝ }
+    ensures { λ r. ⌜ Wrote (now (out .entry)) at (signedDecimal v) (now (out .exit)) r ⌝ }
+{
+    if v < 0 {
+        let after_sign = put(out, at, b"-");
+        return put_decimal(out, after_sign, magnitude(v));
+    }
+    put_decimal(out, at, magnitude(v))
+}
+
+// The bit pattern of a float in 16 hexadecimal digits.
+pub(crate) fn put_bits(out: &mut [u8], at: usize, x: f64) -> usize
+    requires { ⌜ at + 16 ≤ length (now out) ⌝ }
+    ensures { λ r. ⌜ Wrote (now (out .entry)) at (hexBits (toBits binary64 x)) (now (out .exit)) r ⌝ }
+{
+    let mut digits = [0u8; 16];
+    let k = io::hex(bits(x), 16, &mut digits);
+    put(out, at, &digits[..k])
+}
