@@ -1,0 +1,50 @@
+-- `put_bits` meets its contract: three writes into the first three places.
+use borrow.Author.Needs.{needs}
+use native.Mathlib.Omega.{arith}
+use mathlib.Core.Path.{_∙_}
+use lib.Ieee.{binary64, toBits}
+use lib.ListN.{set, length-set}
+use Rattle.exports.proofs.Places.{three-set}
+use Rattle.exports.proofs.answers.put_bits.Statement.{statement}
+use Rattle.exports.proofs.answers.put_bits.Tie as tie
+
+bits-requires : tie.Need-bits-requires
+bits-requires c κs = search needs
+
+slice-write-patterns : tie.Need-slice-write-patterns
+slice-write-patterns c = search needs
+
+bits-requires-2 : tie.Need-bits-requires-2
+bits-requires-2 c κs = search needs
+
+slice-write-patterns-2 : tie.Need-slice-write-patterns-2
+slice-write-patterns-2 c = simp length-set (omega arith)
+
+bits-requires-3 : tie.Need-bits-requires-3
+bits-requires-3 c κs = search needs
+
+slice-write-patterns-3 : tie.Need-slice-write-patterns-3
+slice-write-patterns-3 c = search needs
+
+same-length : tie.Need-same-length
+same-length c = search needs
+
+returns : tie.Need-returns
+returns c =
+    let s = c .before .before .before .before in
+    let p = s .args .p in
+    (λ i. set (set (set (s .args .patterns .now) 0 (c .before .before .bits .ensures i)) 1 (c .before .bits2 .ensures i)) 2 (c .bits3 .ensures i))
+    ∙ three-set (s .args .patterns .now) (toBits binary64 (p .x)) (toBits binary64 (p .y)) (toBits binary64 (p .z)) (s .pre)
+
+pub put-bits-spec : {M : Type 1} → statement M
+put-bits-spec =
+    tie.close
+    (tie.spec
+    bits-requires
+    slice-write-patterns
+    bits-requires-2
+    slice-write-patterns-2
+    bits-requires-3
+    slice-write-patterns-3
+    same-length
+    returns)

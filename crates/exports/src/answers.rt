@@ -1,0 +1,96 @@
+// Answers told as numbers: the table's number, or the case, with the values in lent places.
+ghost use mathlib.Core.Path.{_≡_};
+ghost use Prim.Native.Nat.{_≤_};
+ghost use mathlib.Core.List.{[], _∷_};
+ghost use lib.ListN.{length};
+ghost use lib.Ieee.{binary64, toBits};
+ghost use Rattle.projection.specs.Projection.{coordinateBits, directionNumbers};
+ghost use Rattle.machine.specs.Answers.{refusalNumber, pointValues};
+ghost use Rattle.exports.specs.Lent.{placed, projectionNumber};
+use machine::Answer;
+use projection::Coords;
+use projection::Projection;
+use projection::bits;
+
+// The table's number of an answer, 0 where nothing is refused.
+pub(crate) fn number_of(answer: Answer) -> u8
+    ensures { λ r. ⌜ r ≡ refusalNumber answer ⌝ }
+{
+    match answer {
+        Answer::Taken => 0,
+        Answer::Point(_, _) => 0,
+        Answer::Refused(number) => number,
+    }
+}
+
+// The numbers of a found point, into the first four places.
+fn put_point(found: &mut [i64], x: i64, y: i64, z: i64, w: i64)
+    requires { ⌜ 4 ≤ length (now found) ⌝ }
+    ensures { λ _. ⌜ now (found .exit) ≡ placed (x ∷ y ∷ z ∷ w ∷ []) (now (found .entry)) ⌝ }
+{
+    found[0] = x;
+    found[1] = y;
+    found[2] = z;
+    found[3] = w;
+}
+
+// The same, with a found point's numbers put into the first four places.
+pub(crate) fn write_found(found: &mut [i64], answer: Answer) -> u8
+    requires { ⌜ 4 ≤ length (now found) ⌝ }
+    ensures number { λ r. ⌜ r ≡ refusalNumber answer ⌝ }
+    ensures found { λ _. ⌜ now (found .exit) ≡ placed (pointValues answer) (now (found .entry)) ⌝ }
+{
+    match answer {
+        Answer::Taken => 0,
+        Answer::Point(p, _) => {
+            put_point(found, p.x, p.y, p.z, p.w);
+            0
+        }
+        Answer::Refused(number) => number,
+    }
+}
+
+// The bit patterns of a finite point, into the first three places.
+fn put_bits(patterns: &mut [u64], p: Coords)
+    requires { ⌜ 3 ≤ length (now patterns) ⌝ }
+    ensures { λ _. ⌜ now (patterns .exit) ≡ placed (toBits binary64 (p .x) ∷ toBits binary64 (p .y) ∷ toBits binary64 (p .z) ∷ []) (now (patterns .entry)) ⌝ }
+{
+    patterns[0] = bits(p.x);
+    patterns[1] = bits(p.y);
+    patterns[2] = bits(p.z);
+}
+
+// The numbers of a direction, into the first three places.
+fn put_direction(direction: &mut [i64], x: i64, y: i64, z: i64)
+    requires { ⌜ 3 ≤ length (now direction) ⌝ }
+    ensures { λ _. ⌜ now (direction .exit) ≡ placed (x ∷ y ∷ z ∷ []) (now (direction .entry)) ⌝ }
+{
+    direction[0] = x;
+    direction[1] = y;
+    direction[2] = z;
+}
+
+// The number of a projection's case, with its bit patterns or its direction put into their places.
+pub(crate) fn write_projection(
+    patterns: &mut [u64],
+    direction: &mut [i64],
+    projection: Projection,
+) -> u8
+    requires { ⌜ (3 ≤ length (now patterns)) × (3 ≤ length (now direction)) ⌝ }
+    ensures number { λ r. ⌜ r ≡ projectionNumber projection ⌝ }
+    ensures patterns { λ _. ⌜ now (patterns .exit) ≡ placed (coordinateBits projection) (now (patterns .entry)) ⌝ }
+    ensures direction { λ _. ⌜ now (direction .exit) ≡ placed (directionNumbers projection) (now (direction .entry)) ⌝ }
+{
+    match projection {
+        Projection::Finite(p) => {
+            put_bits(patterns, p);
+            1
+        }
+        Projection::Direction(d) => {
+            put_direction(direction, d.x, d.y, d.z);
+            2
+        }
+        Projection::Nowhere => 3,
+        Projection::OutOfRange => 10,
+    }
+}
