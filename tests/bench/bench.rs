@@ -1,0 +1,131 @@
+//! Times of the static library beside the plain Rust version, in one run: each row alternates the two
+//! and takes the best of many rounds. The figure is the ratio of the two times.
+mod plain;
+mod records;
+
+use records::record;
+use std::fs::File;
+use std::hint::black_box;
+use std::process::{Command, Stdio};
+use std::time::Instant;
+
+#[link(name = "exports", kind = "static")]
+extern "C" {
+    fn gadwemosh_open(input: *const u8, input_len: usize, net: *mut i64, net_len: usize, offset: *mut u64) -> u8;
+    fn gadwemosh_move(net: *mut i64, net_len: usize, operation: u8, vertex: u8, r: i64, s: i64, t: i64) -> u8;
+    fn gadwemosh_point(net: *const i64, net_len: usize, r: i64, s: i64, t: i64, found: *mut i64, found_len: usize) -> u8;
+    fn gadwemosh_text(input: *const u8, input_len: usize, out: *mut u8, out_len: usize, length: *mut u64) -> u8;
+}
+
+/// The best time of a call in nanoseconds, of both, in turn.
+fn both(mut ours: impl FnMut(), mut theirs: impl FnMut()) -> (f64, f64) {
+    let mut best = (f64::MAX, f64::MAX);
+    let turns = 2000;
+    for _ in 0..60 {
+        let t = Instant::now();
+        for _ in 0..turns {
+            ours();
+        }
+        best.0 = best.0.min(t.elapsed().as_nanos() as f64 / turns as f64);
+        let t = Instant::now();
+        for _ in 0..turns {
+            theirs();
+        }
+        best.1 = best.1.min(t.elapsed().as_nanos() as f64 / turns as f64);
+    }
+    best
+}
+
+fn row(name: &str, t: (f64, f64)) {
+    println!("{name:<28} {:>9.1} ns {:>9.1} ns   ratio {:.2}", t.0, t.1, t.0 / t.1);
+}
+
+/// The mean time of a whole process on the circle record, in microseconds.
+fn process(program: &str, record: &str) -> f64 {
+    let turns = 400;
+    let t = Instant::now();
+    for _ in 0..turns {
+        let input = File::open(record).unwrap();
+        let status = Command::new(program).stdin(input).stdout(Stdio::null()).status().unwrap();
+        assert!(status.success());
+    }
+    t.elapsed().as_micros() as f64 / turns as f64
+}
+
+fn main() {
+    let words: Vec<String> = std::env::args().collect();
+    println!("{:<28} {:>12} {:>12}", "", "library", "plain Rust");
+    for (kind, degree) in [(1u8, 1u8), (1, 3), (1, 10), (2, 1), (2, 3), (2, 8)] {
+        let word = if kind == 1 { "curve" } else { "patch" };
+        let s = record(kind, degree);
+        let mut lent = [0i64; 182];
+        let mut offset = 0u64;
+        let mut net = plain::Net { kind: 0, degree: 0, entries: [0; plain::PLACES] };
+        let mut layout = plain::Layout::default();
+        unsafe {
+            assert_eq!(gadwemosh_open(s.as_ptr(), s.len(), lent.as_mut_ptr(), 182, &mut offset), 0);
+        }
+        assert_eq!(plain::open(&s, &mut net, &mut layout), (0, 0));
+        assert_eq!(lent[2..], net.entries[..]);
+        row(
+            &format!("open {word} {degree}"),
+            both(
+                || unsafe {
+                    black_box(gadwemosh_open(black_box(s.as_ptr()), s.len(), lent.as_mut_ptr(), 182, &mut offset));
+                },
+                || {
+                    black_box(plain::open(black_box(&s), &mut net, &mut layout));
+                },
+            ),
+        );
+        let (mut a, mut b) = (lent, net);
+        row(
+            &format!("replace {word} {degree}"),
+            both(
+                || unsafe {
+                    black_box(gadwemosh_move(black_box(a.as_mut_ptr()), 182, 1, 1, 1, 0, 0));
+                },
+                || {
+                    black_box(plain::replace(black_box(&mut b), 1, black_box([1, 0, 0])));
+                },
+            ),
+        );
+        assert_eq!(a[2..], b.entries[..]);
+        let t = if kind == 1 { 0 } else { 1 };
+        let (mut f, mut g) = ([0i64; 4], [0i64; 4]);
+        row(
+            &format!("point {word} {degree}"),
+            both(
+                || unsafe {
+                    black_box(gadwemosh_point(black_box(lent.as_ptr()), 182, 1, 1, t, f.as_mut_ptr(), 4));
+                },
+                || {
+                    black_box(plain::point(black_box(&net), black_box([1, 1, t]), &mut g));
+                },
+            ),
+        );
+        assert_eq!(f, g);
+        let (mut o, mut p) = ([0u8; 4096], [0u8; 4096]);
+        let mut n = 0u64;
+        row(
+            &format!("text {word} {degree}"),
+            both(
+                || unsafe {
+                    black_box(gadwemosh_text(black_box(s.as_ptr()), s.len(), o.as_mut_ptr(), 4096, &mut n));
+                },
+                || {
+                    black_box(plain::text(black_box(&s), &mut p));
+                },
+            ),
+        );
+        assert_eq!(o[..], p[..]);
+    }
+    if let [_, netprint, copy, record] = &words[..] {
+        let (mut a, mut b) = (f64::MAX, f64::MAX);
+        for _ in 0..5 {
+            a = a.min(process(netprint, record));
+            b = b.min(process(copy, record));
+        }
+        println!("{:<28} {a:>9.1} us {b:>9.1} us   ratio {:.2}   (netprint beside a C program that copies)", "process", a / b);
+    }
+}
