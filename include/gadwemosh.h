@@ -40,6 +40,14 @@ extern "C" {
 uint8_t gadwemosh_open(const uint8_t *record, size_t record_length, int64_t *net, size_t net_length,
                        uint64_t *offset);
 
+/* Makes the first net of polynomials over a frame, without a record. The frame has nine numbers, of
+ * which a curve takes the first four; the coefficients are 180, four to a monomial in the record's order,
+ * of which the kind and degree take the first ones. A refusal is 4, 5, 6 or 7, or 11 where one of the
+ * three buffers is too short, and writes nothing. */
+uint8_t gadwemosh_first(uint8_t kind, uint8_t degree, const int64_t *frame, size_t frame_length,
+                        const int64_t *coefficients, size_t coefficients_length, int64_t *net,
+                        size_t net_length);
+
 /* Replaces (1) or flips (2) a vertex: 1 is r, 2 is s, 3 is the t of a patch. The weights are those of
  * r, s and t; unused ones are 0. A refused move leaves the net as it was. */
 uint8_t gadwemosh_move(int64_t *net, size_t net_length, uint8_t operation, uint8_t vertex, int64_t r,

@@ -14,6 +14,16 @@ extern "C" {
     fn gadwemosh_open(input: *const u8, input_len: usize, net: *mut i64, net_len: usize, offset: *mut u64) -> u8;
     fn gadwemosh_move(net: *mut i64, net_len: usize, operation: u8, vertex: u8, r: i64, s: i64, t: i64) -> u8;
     fn gadwemosh_point(net: *const i64, net_len: usize, r: i64, s: i64, t: i64, found: *mut i64, found_len: usize) -> u8;
+    fn gadwemosh_first(
+        kind: u8,
+        degree: u8,
+        frame: *const i64,
+        frame_len: usize,
+        coefficients: *const i64,
+        coefficients_len: usize,
+        net: *mut i64,
+        net_len: usize,
+    ) -> u8;
     fn gadwemosh_text(input: *const u8, input_len: usize, out: *mut u8, out_len: usize, length: *mut u64) -> u8;
 }
 
@@ -78,19 +88,47 @@ fn main() {
                 },
             ),
         );
-        let (mut a, mut b) = (lent, net);
+        let (mut frame, mut coefficients) = ([0; 9], [0; plain::PLACES]);
+        assert_eq!(plain::read(&s, &mut frame, &mut coefficients).0, 0);
+        let mut made = net;
         row(
-            &format!("replace {word} {degree}"),
+            &format!("first net {word} {degree}"),
             both(
                 || unsafe {
-                    black_box(gadwemosh_move(black_box(a.as_mut_ptr()), 182, 1, 1, 1, 0, 0));
+                    black_box(gadwemosh_first(
+                        kind,
+                        degree,
+                        black_box(frame.as_ptr()),
+                        9,
+                        coefficients.as_ptr(),
+                        180,
+                        lent.as_mut_ptr(),
+                        182,
+                    ));
                 },
                 || {
-                    black_box(plain::replace(black_box(&mut b), 1, black_box([1, 0, 0])));
+                    black_box(plain::first_of(kind, degree, black_box(&frame), &coefficients, &mut made));
                 },
             ),
         );
-        assert_eq!(a[2..], b.entries[..]);
+        assert_eq!(lent[2..], made.entries[..]);
+        let (mut a, mut b) = (lent, net);
+        for vertex in 1..=kind + 1 {
+            let mut w = [0; 3];
+            w[vertex as usize - 1] = 1;
+            row(
+                &format!("replace {word} {degree} vertex {vertex}"),
+                both(
+                    || unsafe {
+                        black_box(gadwemosh_move(black_box(a.as_mut_ptr()), 182, 1, vertex, w[0], w[1], w[2]));
+                    },
+                    || {
+                        black_box(plain::replace(black_box(&mut b), vertex, black_box(w)));
+                    },
+                ),
+            );
+            assert_eq!(a[2..], b.entries[..]);
+        }
         let t = if kind == 1 { 0 } else { 1 };
         let (mut f, mut g) = ([0i64; 4], [0i64; 4]);
         row(

@@ -1,6 +1,6 @@
-//! The same work in plain Rust: a reader, first nets, replace, flip and point by blends of 64-bit
-//! numbers with the same limits and the same order of tests, and the text. It is the yardstick of the
-//! benchmark, not a reference: nothing here is proved.
+//! The same work in plain Rust, by the same steps: a reader, first nets, replace, flip and point by blends
+//! of 64-bit numbers with the same limits, the same tests and the same rooms, and the text. It is the
+//! yardstick of the benchmark, not a reference: nothing here is proved.
 
 pub const LIMIT: i64 = 1 << 48;
 pub const PLACES: usize = 180;
@@ -34,22 +34,38 @@ fn in_range(v: i64) -> bool {
 }
 
 /// One blend, from degree m to m - 1, in place: a curve takes places j and j + 1, a patch the three
-/// corners of each small triangle.
-fn blend(xs: &mut [i64; PLACES], kind: u8, m: usize, w: [i64; 3]) {
+/// corners of each small triangle. Says whether the blended numbers are in range.
+fn blend(xs: &mut [i64; PLACES], kind: u8, m: usize, w: [i64; 3]) -> bool {
+    let mut good = true;
     if kind == 1 {
         for i in 0..4 * m {
-            xs[i] = w[0] * xs[i] + w[1] * xs[i + 4];
+            let v = w[0] * xs[i] + w[1] * xs[i + 4];
+            xs[i] = v;
+            good &= in_range(v);
         }
-        return;
+        return good;
     }
     let mut p = 0;
     for n in 0..m {
         let d = 4 * (n + 1);
         for _ in 0..4 * (n + 1) {
-            xs[p] = w[0] * xs[p] + w[1] * xs[p + d] + w[2] * xs[p + d + 4];
+            let v = w[0] * xs[p] + w[1] * xs[p + d] + w[2] * xs[p + d + 4];
+            xs[p] = v;
+            good &= in_range(v);
             p += 1;
         }
     }
+    good
+}
+
+/// All blends down to one entry, as far as they are in range.
+fn descend(xs: &mut [i64; PLACES], kind: u8, m: usize, w: [i64; 3]) -> bool {
+    for h in 0..m {
+        if !blend(xs, kind, m - h, w) {
+            return false;
+        }
+    }
+    true
 }
 
 fn all_in_range(xs: &[i64; PLACES], n: usize) -> bool {
@@ -71,40 +87,34 @@ fn weights_in(kind: u8, w: [i64; 3]) -> bool {
     w.iter().all(|v| (-4096..=4096).contains(v)) && (kind == 2 || w[2] == 0)
 }
 
-/// Places of the entries with h copies of vertex v, and where a level keeps their values: the counts
-/// of the other vertices stay, those of v come from the level.
-fn collect(out: &mut [i64; PLACES], level: &[i64; PLACES], kind: u8, m: usize, h: usize, v: usize) {
-    let rest = m - h;
-    if kind == 1 {
-        let to = if v == 0 { rest } else { h };
-        let from = if v == 0 { rest } else { 0 };
-        out[4 * to..4 * to + 4].copy_from_slice(&level[4 * from..4 * from + 4]);
-        return;
-    }
-    // the two other vertices share `rest` copies
-    for x in 0..=rest {
-        let (i, j, k) = match v {
-            0 => (h, rest - x, x),
-            1 => (rest - x, h, x),
-            _ => (rest - x, x, h),
-        };
-        let (li, lj, lk) = match v {
-            0 => (0, rest - x, x),
-            1 => (rest - x, 0, x),
-            _ => (rest - x, x, 0),
-        };
-        let _ = (i, li);
-        let to = place(j + k, k);
-        let from = place(lj + lk, lk);
-        out[4 * to..4 * to + 4].copy_from_slice(&level[4 * from..4 * from + 4]);
-    }
-}
-
 fn place(n: usize, k: usize) -> usize {
     n * (n + 1) / 2 + k
 }
 
-/// A replace: the number of the refusal, and the net is changed only where it is 0.
+/// Copies the entries, the copies of the first vertex and of vertex v exchanged.
+fn rename(out: &mut [i64; PLACES], xs: &[i64; PLACES], kind: u8, m: usize, v: usize) {
+    if kind == 1 {
+        for n in 0..=m {
+            let from = if v == 0 { n } else { m - n };
+            out[4 * n..4 * n + 4].copy_from_slice(&xs[4 * from..4 * from + 4]);
+        }
+        return;
+    }
+    for n in 0..=m {
+        for k in 0..=n {
+            let to = place(n, k);
+            let from = match v {
+                0 => to,
+                1 => place(m - n + k, k),
+                _ => place(m - k, m - n),
+            };
+            out[4 * to..4 * to + 4].copy_from_slice(&xs[4 * from..4 * from + 4]);
+        }
+    }
+}
+
+/// A replace: the number of the refusal, and the net is changed only where it is 0. The vertex comes
+/// first in a room of its own, where the blends in place leave the new net.
 pub fn replace(net: &mut Net, vertex: u8, w: [i64; 3]) -> u8 {
     let number = handed(net);
     if number != 0 {
@@ -119,16 +129,14 @@ pub fn replace(net: &mut Net, vertex: u8, w: [i64; 3]) -> u8 {
         return 9;
     }
     let m = net.degree as usize;
-    let mut level = net.entries;
-    let mut out = net.entries;
-    for h in 1..=m {
-        blend(&mut level, net.kind, m - h + 1, w);
-        if !all_in_range(&level, 4 * count(net.kind, m - h)) {
-            return 10;
-        }
-        collect(&mut out, &level, net.kind, m, h, v);
+    let mut room = [0; PLACES];
+    rename(&mut room, &net.entries, net.kind, m, v);
+    let mut first = w;
+    first.swap(0, v);
+    if !descend(&mut room, net.kind, m, first) {
+        return 10;
     }
-    net.entries = out;
+    rename(&mut net.entries, &room, net.kind, m, v);
     0
 }
 
@@ -186,19 +194,18 @@ pub fn point(net: &Net, w: [i64; 3], found: &mut [i64; 4]) -> u8 {
         return 9;
     }
     let m = net.degree as usize;
-    let mut level = net.entries;
-    for h in 1..=m {
-        blend(&mut level, net.kind, m - h + 1, w);
-        if !all_in_range(&level, 4 * count(net.kind, m - h)) {
-            return 10;
-        }
+    let n = 4 * count(net.kind, m);
+    let mut room = [0; PLACES];
+    room[..n].copy_from_slice(&net.entries[..n]);
+    if !descend(&mut room, net.kind, m, w) {
+        return 10;
     }
-    found.copy_from_slice(&level[..4]);
+    found.copy_from_slice(&room[..4]);
     0
 }
 
-/// The first net of judged polynomials over a judged frame: scaled coefficients, then for each entry
-/// one blend for each of its points.
+/// The first net of judged polynomials over a judged frame: scaled coefficients, then blends with the
+/// frame's vertices, the last row first, each shared by all entries that have its points.
 pub fn first(kind: u8, degree: u8, frame: &[i64; 9], coefficients: &[i64; PLACES]) -> (u8, Net) {
     let m = degree as usize;
     let mut base = [0i64; PLACES];
@@ -218,28 +225,55 @@ pub fn first(kind: u8, degree: u8, frame: &[i64; 9], coefficients: &[i64; PLACES
     }
     let mut net = Net { kind, degree, entries: [0; PLACES] };
     let d = kind as usize + 1;
-    p = 0;
-    for n in 0..=m {
-        for k in 0..=(if kind == 1 { 0 } else { n }) {
-            let counts = if kind == 1 { [m - n, n, 0] } else { [m - n, n - k, k] };
-            let mut cur = base;
-            let mut left = m;
-            for v in (0..3).rev() {
-                for _ in 0..counts[v] {
-                    let row = &frame[d * v..d * v + d];
-                    let w = if kind == 1 { [row[1], row[0], 0] } else { [row[2], row[0], row[1]] };
-                    blend(&mut cur, kind, left, w);
-                    left -= 1;
-                }
+    let weights = |v: usize| {
+        let row = &frame[d * v..d * v + d];
+        if kind == 1 { [row[1], row[0], 0] } else { [row[2], row[0], row[1]] }
+    };
+    let mut row = [0; PLACES];
+    let mut one = [0; PLACES];
+    for n in (0..=m).rev() {
+        let used = 4 * count(kind, n);
+        row[..used].copy_from_slice(&base[..used]);
+        let last = if kind == 1 { 0 } else { n };
+        for k in 0..=last {
+            let used = 4 * count(kind, n - k);
+            one[..used].copy_from_slice(&row[..used]);
+            for left in (1..=n - k).rev() {
+                blend(&mut one, kind, left, weights(1));
             }
-            net.entries[4 * p..4 * p + 4].copy_from_slice(&cur[..4]);
-            p += 1;
+            let p = if kind == 1 { n } else { place(n, k) };
+            net.entries[4 * p..4 * p + 4].copy_from_slice(&one[..4]);
+            if k < last {
+                blend(&mut row, kind, n - k, weights(2));
+            }
+        }
+        if n > 0 {
+            blend(&mut base, kind, n, weights(0));
         }
     }
     if !all_in_range(&net.entries, 4 * count(kind, m)) {
         return (7, net);
     }
     (0, net)
+}
+
+/// The same with its judgements, for polynomials that come from elsewhere.
+pub fn first_of(kind: u8, degree: u8, frame: &[i64; 9], coefficients: &[i64; PLACES], net: &mut Net) -> u8 {
+    if !known(kind, degree) {
+        return 4;
+    }
+    let d = kind as usize + 1;
+    if frame[..d * d].iter().any(|v| v.abs() > 4) || determinant(d, frame) == 0 {
+        return 5;
+    }
+    if coefficients[..4 * count(kind, degree as usize)].iter().any(|v| v.abs() > 1 << 20) {
+        return 6;
+    }
+    let (number, made) = first(kind, degree, frame, coefficients);
+    if number == 0 {
+        *net = made;
+    }
+    number
 }
 
 // ---- records
@@ -404,11 +438,23 @@ fn quotient(v: i64, w: i64) -> u64 {
     if v == 0 { 0 } else { (v as f64 / w as f64).to_bits() }
 }
 
-/// The text of a record into a buffer of its own, then into the lent one: the number of bytes, or
-/// nothing where the buffer is too short.
+/// The text of a record: straight into the lent buffer where that has room for every text, or into a
+/// buffer of its own and then into the lent one. The number of bytes, or nothing where it is too short.
 pub fn text(s: &[u8], lent: &mut [u8]) -> Option<usize> {
+    if lent.len() >= 4096 {
+        return Some(make(s, lent));
+    }
     let mut buffer = [0u8; 4096];
-    let mut out = Out { bytes: &mut buffer, at: 0 };
+    let n = make(s, &mut buffer);
+    if lent.len() < n {
+        return None;
+    }
+    lent[..n].copy_from_slice(&buffer[..n]);
+    Some(n)
+}
+
+fn make(s: &[u8], bytes: &mut [u8]) -> usize {
+    let mut out = Out { bytes, at: 0 };
     let mut net = Net { kind: 0, degree: 0, entries: [0; PLACES] };
     let mut l = Layout::default();
     let (number, offset) = open(s, &mut net, &mut l);
@@ -421,12 +467,7 @@ pub fn text(s: &[u8], lent: &mut [u8]) -> Option<usize> {
     } else {
         accepted(s, &mut out, &mut net, &l);
     }
-    let n = out.at;
-    if lent.len() < n {
-        return None;
-    }
-    lent[..n].copy_from_slice(&buffer[..n]);
-    Some(n)
+    out.at
 }
 
 fn accepted(s: &[u8], out: &mut Out, net: &mut Net, l: &Layout) {

@@ -48,6 +48,27 @@ static void test_open(void) {
     EXPECT(net[14] == 0 && net[181] == 0 && net[182] == old[182] && net[183] == old[183]);
 }
 
+static void test_first(void) {
+    const int64_t frame[9] = {0, 1, 1, 1};
+    const int64_t line[9] = {1, 1, 1, 1};
+    int64_t coefficients[180] = {1, 0, 0, 1, 0, 2, 0, 0, -1, 0, 0, 1};
+    int64_t net[MORE], old[MORE], opened[MORE];
+    uint64_t offset;
+    fill(net);
+    fill(old);
+    fill(opened);
+    EXPECT(gadwemosh_first(1, 2, frame, 8, coefficients, 180, net, MORE) == 11 && same(net, old));
+    EXPECT(gadwemosh_first(1, 2, frame, 9, coefficients, 179, net, MORE) == 11 && same(net, old));
+    EXPECT(gadwemosh_first(1, 2, frame, 9, coefficients, 180, net, 181) == 11 && same(net, old));
+    EXPECT(gadwemosh_first(3, 2, frame, 9, coefficients, 180, net, MORE) == 4 && same(net, old));
+    EXPECT(gadwemosh_first(1, 2, line, 9, coefficients, 180, net, MORE) == 5 && same(net, old));
+    coefficients[11] = 1048577;
+    EXPECT(gadwemosh_first(1, 2, frame, 9, coefficients, 180, net, MORE) == 6 && same(net, old));
+    coefficients[11] = 1;
+    gadwemosh_open(record, length, opened, MORE, &offset);
+    EXPECT(gadwemosh_first(1, 2, frame, 9, coefficients, 180, net, MORE) == 0 && same(net, opened));
+}
+
 static void test_move(void) {
     int64_t net[MORE], old[MORE];
     uint64_t offset;
@@ -120,6 +141,7 @@ static void test_text(void) {
 int main(void) {
     length = fread(record, 1, sizeof record, stdin);
     test_open();
+    test_first();
     test_move();
     test_point();
     test_project();

@@ -13,6 +13,16 @@ mod raw {
             net_length: usize,
             offset: *mut u64,
         ) -> u8;
+        pub fn gadwemosh_first(
+            kind: u8,
+            degree: u8,
+            frame: *const i64,
+            frame_length: usize,
+            coefficients: *const i64,
+            coefficients_length: usize,
+            net: *mut i64,
+            net_length: usize,
+        ) -> u8;
         pub fn gadwemosh_move(
             net: *mut i64,
             net_length: usize,
@@ -112,6 +122,25 @@ pub fn open(record: &[u8]) -> Result<Net, RecordRefused> {
         0 => Ok(Net(net)),
         _ => Err(RecordRefused { number, offset }),
     }
+}
+
+/// The first net of polynomials over a frame. The frame's numbers stand vertex by vertex, a curve has four
+/// of them; the coefficients stand four to a monomial in the record's order, and the rest is 0.
+pub fn first(kind: u8, degree: u8, frame: &[i64; 9], coefficients: &[i64; PLACES - 2]) -> Result<Net, Refused> {
+    let mut net = [0; PLACES];
+    answer(unsafe {
+        raw::gadwemosh_first(
+            kind,
+            degree,
+            frame.as_ptr(),
+            frame.len(),
+            coefficients.as_ptr(),
+            coefficients.len(),
+            net.as_mut_ptr(),
+            net.len(),
+        )
+    })?;
+    Ok(Net(net))
 }
 
 impl Net {

@@ -1,17 +1,17 @@
 -- Laws of the numbers in a part: parts of lists, items, digits to base 256, and lists of numbers.
 -- Each law is over the width n, so that 16-bit and 32-bit numbers have the same proofs.
-use mathlib.Core.Path.{_≡_, refl, sym, _∙_, ap}
+use mathlib.Core.Path.{_≡_, refl, sym, _∙_, ap, ap₂, subst}
 use mathlib.Core.Bool.{Bool, true, false, cond}
-use mathlib.Core.List.{List, [], foldl, map-map}
-use Prim.Native.Nat.{ℕ, zero, suc, _+_, _-_, _*_, _/_, _^_, _≤_, _<_, zero-le}
-use native.Mathlib.Nat.{le-div-iff-mul-le, pow-suc, pow-le-pow-right, add-mul, one-mul, mul-comm, mul-div-right, le-trans}
+use mathlib.Core.List.{List, [], _∷_, foldl, map-map}
+use Prim.Native.Nat.{ℕ, zero, suc, _+_, _-_, _*_, _/_, _≤_, _<_}
+use native.Mathlib.Nat.{le-div-iff-mul-le, add-mul, one-mul, mul-comm, mul-div-right, le-trans}
 use native.Mathlib.Numerals.{add-one}
 use native.Mathlib.Omega.{arith}
-use borrow.Author.Tests.{ltb-true, ltb-false, lt-ltb, le-ltb}
-use lib.ListN.{length, getD, take, drop, length-take, length-drop, drop-of-length-le, length-map}
-use lib.Seq.{take-add, drop-at, length-take-le, take-take, take-all, drop-length, take-nil, drop-cons, ext-getD}
-use lib.Dec.{ltb}
-use lib.IntN.{ℤ, pos, negℤ}
+use borrow.Author.Tests.{eqb-true, eqb-false, ltb-true, ltb-false, lt-ltb, le-ltb}
+use lib.ListN.{length, getD, set, take, drop, length-drop, drop-of-length-le, length-map}
+use lib.Seq.{take-add, drop-at, length-take-le, take-take, take-all, drop-length, take-nil, drop-cons, ext-getD, getD-set-same, getD-set-other}
+use lib.Dec.{eqb, ltb}
+use lib.IntN.{ℤ, pos}
 use Rattle.integers.specs.Sum.{upto}
 use Rattle.integers.proofs.Sums.{length-upto}
 use Rattle.bytes.specs.Numbers.{item, unsignedOf, twosComplement, signedOf, numberAt, numbersTo, numberBelow, coefficientsOf}
@@ -62,44 +62,64 @@ item-of-value n part m k h b t =
 
 -- ---- digits to base 256
 
-abbrev pub digit : ℕ → ℕ → ℕ
+abbrev digit : ℕ → ℕ → ℕ
 digit v b = v * 256 + b
 
--- the digits from one place on, after the digit at that place
-pub one-digit : (bytes : List ℕ) (i v : ℕ) → i < length bytes → foldl digit (v * 256 + getD bytes i 0) (drop (i + 1) bytes) ≡ foldl digit v (drop i bytes)
-one-digit bytes i v h =
-    ap (λ (k : ℕ). foldl digit (v * 256 + getD bytes i 0) (drop k bytes)) (add-one i) ∙ sym (ap (foldl digit v) (drop-cons bytes i 0 h))
+-- one digit more, of at least one that is left
+next-digit : (part : List ℕ) (v n at : ℕ) → at < length part
+    → foldl digit v (take (suc n) (drop at part)) ≡ foldl digit (v * 256 + getD part at 0) (take n (drop (at + 1) part))
+next-digit part v n at h =
+    ap (λ (l : List ℕ). foldl digit v (take (suc n) l)) (drop-cons part at 0 h)
+    ∙ ap (λ (j : ℕ). foldl digit (v * 256 + getD part at 0) (take n (drop j part))) (sym (add-one at))
 
-pub all-digits : (bytes : List ℕ) (i v : ℕ) → length bytes ≤ i → foldl digit v (drop i bytes) ≡ v
-all-digits bytes i v h = ap (foldl digit v) (drop-of-length-le bytes {i = i} h)
+two-digits : (part : List ℕ) (v at : ℕ) → at + 2 ≤ length part
+    → foldl digit v (take 2 (drop at part)) ≡ 65536 * v + (256 * getD part at 0 + getD part (at + 1) 0)
+two-digits part v at h = next-digit part v 1 at (omega arith) ∙ next-digit part (v * 256 + getD part at 0) 0 (at + 1) (omega arith) ∙ omega arith
 
-pub power-suc : (i : ℕ) → 256 ^ (i + 1) ≡ 256 ^ i * 256
-power-suc i = ap (λ (k : ℕ). 256 ^ k) (add-one i) ∙ pow-suc 256 i
+pub two-bytes : (part : List ℕ) (at : ℕ) → at + 2 ≤ length part → unsignedOf (take 2 (drop at part)) ≡ 256 * getD part at 0 + getD part (at + 1) 0
+unfolding unsignedOf
+two-bytes part at h = two-digits part 0 at h ∙ omega arith
 
-pub digit-below : (i : ℕ) {v b : ℕ} → v < 256 ^ i → b < 256 → v * 256 + b < 256 ^ (i + 1)
-digit-below i h k = rw (power-suc i) (omega arith)
+-- four bytes are two digits to base 65536
+pub four-bytes : (part : List ℕ) (at : ℕ) → at + 4 ≤ length part
+    → unsignedOf (take 4 (drop at part)) ≡ 65536 * unsignedOf (take 2 (drop at part)) + unsignedOf (take 2 (drop (at + 2) part))
+unfolding unsignedOf
+four-bytes part at h =
+    next-digit part 0 3 at (omega arith)
+    ∙ next-digit part (0 * 256 + getD part at 0) 2 (at + 1) (omega arith)
+    ∙ two-digits part high (at + 1 + 1) (omega arith)
+    ∙ ap (λ (v : ℕ). 65536 * v + (256 * getD part (at + 1 + 1) 0 + getD part (at + 1 + 1 + 1) 0)) (sym (two-digits part 0 at (omega arith) ∙ omega arith))
+    ∙ ap (λ (v : ℕ). 65536 * foldl digit 0 (take 2 (drop at part)) + v) (sym (two-digits part 0 (at + 1 + 1) (omega arith) ∙ omega arith))
+    ∙ ap (λ (j : ℕ). 65536 * foldl digit 0 (take 2 (drop at part)) + foldl digit 0 (take 2 (drop j part))) on
+  where
+    on : at + 1 + 1 ≡ at + 2
+    on = omega arith
 
-pub power-le : (i j : ℕ) → i ≤ j → 256 ^ i ≤ 256 ^ j
-power-le i j h = pow-le-pow-right {n = 256} (omega arith) h
+    high : ℕ
+    high = (0 * 256 + getD part at 0) * 256 + getD part (at + 1) 0
+
+-- one byte, or none
+pub few-bytes : (part : List ℕ) → length part < 2 → unsignedOf (take 2 part) ≡ getD part 0 0
+unfolding unsignedOf
+few-bytes [] h = refl
+few-bytes (b ∷ []) h = omega arith
+few-bytes (b ∷ c ∷ part) h = absurd (omega arith)
 
 -- ---- two's complement
 
-module _ (bytes : List ℕ) (v : ℕ) (is : v ≡ unsignedOf bytes) where
-  pub signed-low : 2 * v < 256 ^ length bytes → signedOf bytes ≡ pos v
-  unfolding signedOf twosComplement
-  signed-low h = rw (← is, lt-ltb (2 * v) (256 ^ length bytes) h) refl
+-- a number that the part has, from the unsigned number in its bytes
+pub number-there : (n : ℕ) (part : List ℕ) (k v : ℕ) → 0 < n → k < length part / n → v ≡ unsignedOf (take n (drop (n * k) part)) → numberAt n part k ≡ twosComplement n v
+unfolding numberAt signedOf
+number-there n part k v h t is =
+    let ends : n * k + n ≤ length part = item-end n k (length part) h t in
+    let bytes = take n (drop (n * k) part) in
+    let long : length bytes ≡ n = length-take-le n (drop (n * k) part) (simp length-drop (omega arith)) in
+    ap signedOf (item-there n part k t) ∙ ap₂ twosComplement long (sym is)
 
-  pub signed-high : 256 ^ length bytes ≤ 2 * v → signedOf bytes ≡ negℤ (pos (256 ^ length bytes - v))
-  unfolding signedOf twosComplement
-  signed-high h = rw (← is, le-ltb (2 * v) (256 ^ length bytes) h) refl
-
-item-size-by : (t : Bool) (n : ℕ) (bytes : List ℕ) → length (cond t (take n bytes) []) ≤ n
-item-size-by true n bytes = simp length-take (omega arith)
-item-size-by false n bytes = zero-le
-
-pub item-size : (n : ℕ) (part : List ℕ) (k : ℕ) → length (item n part k) ≤ n
-unfolding item
-item-size n part k = item-size-by (ltb k (length part / n)) n (drop (n * k) part)
+-- no bytes are the number 0
+pub number-lacking : (n : ℕ) (part : List ℕ) (k : ℕ) → length part / n ≤ k → numberAt n part k ≡ pos 0
+unfolding numberAt signedOf unsignedOf twosComplement
+number-lacking n part k h = ap signedOf (item-lacking n part k h)
 
 pub number-of-value : (n : ℕ) (part : List ℕ) (m k : ℕ) → 0 < n → m ≤ length part → k < m / n → numberAt n (take m part) k ≡ numberAt n part k
 unfolding numberAt
@@ -121,6 +141,47 @@ getD-numbersTo (suc n) f (suc k) h = ap (λ (l : List ℤ). getD l k (pos 0)) (m
 pub numbersTo-by : (l : List ℤ) (f : ℕ → ℤ) → ((k : ℕ) → k < length l → getD l k (pos 0) ≡ f k) → l ≡ numbersTo (length l) f
 numbersTo-by l f h =
     ext-getD (pos 0) l (numbersTo (length l) f) (sym (length-numbersTo (length l) f)) (λ k b. h k b ∙ sym (getD-numbersTo (length l) f k b))
+
+-- What is so at each place below i is so below i + 1 after a number is put in place i.
+pub one-more : (out : List ℤ) (P : ℕ → ℤ → Type 0) (i : ℕ) (v : ℤ) → i < length out → ((k : ℕ) → k < i → P k (getD out k (pos 0))) → P i v
+    → (k : ℕ) → k < i + 1 → P k (getD (set out i v) k (pos 0))
+one-more out P i v h before is k below = by-case (eqb k i) refl
+  where
+    by-case : (t : Bool) → eqb k i ≡ t → P k (getD (set out i v) k (pos 0))
+    by-case true e =
+        let same = eqb-true k i e in
+        subst (λ (j : ℕ). P j (getD (set out i v) j (pos 0))) (sym same) (subst (P i) (sym (getD-set-same out i v (pos 0) h)) is)
+    by-case false e =
+        let other = eqb-false k i e in
+        subst (P k) (sym (getD-set-other out i k v (pos 0) other)) (before k (omega arith))
+
+-- ---- the first `count` numbers
+
+module _ (n : ℕ) (part : List ℕ) (count k : ℕ) where
+  pub below-count : k < count → numberBelow n part count k ≡ numberAt n part k
+  unfolding numberBelow
+  below-count h = rw (lt-ltb k count h) refl
+
+  pub past-count : count ≤ k → numberBelow n part count k ≡ pos 0
+  unfolding numberBelow
+  past-count h = rw (le-ltb k count h) refl
+
+  pub past-part : length part / n ≤ k → numberBelow n part count k ≡ pos 0
+  unfolding numberBelow
+  past-part h = by-case (ltb k count)
+    where
+      by-case : (t : Bool) → cond t (numberAt n part k) (pos 0) ≡ pos 0
+      by-case true = number-lacking n part k h
+      by-case false = refl
+
+-- the 180 places of the coefficients, and one of those that are read
+pub length-coefficients : (part : List ℕ) (count : ℕ) → length (coefficientsOf part count) ≡ 180
+unfolding coefficientsOf
+length-coefficients part count = length-numbersTo 180 (numberBelow 4 part count)
+
+pub coefficient-is : (part : List ℕ) (count k : ℕ) → k < count → count ≤ 180 → getD (coefficientsOf part count) k (pos 0) ≡ numberAt 4 part k
+unfolding coefficientsOf
+coefficient-is part count k h room = getD-numbersTo 180 (numberBelow 4 part count) k (omega arith) ∙ below-count 4 part count k h
 
 -- ---- the numbers of a value, in the part that begins with it
 

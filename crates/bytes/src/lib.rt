@@ -4,17 +4,18 @@
 // The definitions are those of specs/: Numbers (how bytes make numbers) and Moves (how they make a
 // move or the weights of a point).
 ghost use mathlib.Core.Path.{_≡_};
-ghost use Prim.Native.Nat.{_+_, _<_, _≤_, _^_};
+ghost use mathlib.Core.Bool.{cond};
+ghost use Prim.Native.Nat.{ℕ, _+_, _-_, _*_, _/_, _<_, _≤_};
+ghost use lib.Dec.{ltb};
+ghost use lib.IntN.{pos, negℤ};
 ghost use lib.ListN.{length, drop, take, getD};
 ghost use Rattle.bytes.specs.Numbers.{
   item,
   unsignedOf,
-  signedOf,
   numberAt,
   numberBelow,
   numbersTo,
   frameNumbers,
-  coefficientsOf,
 };
 ghost use Rattle.bytes.specs.Moves.{weightsOf, proper, moveAt, callAt, callOf};
 use machine::Weights;
@@ -66,16 +67,15 @@ pub fn byte_at(part: &[u8], k: usize) -> u8
     part[k]
 }
 
-// Item k of the part, which holds items of `width` bytes; empty where the part does not have it whole.
-fn item(part: &[u8], width: usize, k: usize) -> &[u8]
-    requires { ⌜ 0 < width ⌝ }
-    ensures { λ r. ⌜ now r ≡ item width (now (part .entry)) k ⌝ }
+// The eight bytes of move k; none where the part does not have them all.
+fn move_bytes(part: &[u8], k: usize) -> &[u8]
+    ensures { λ r. ⌜ now r ≡ item 8 (now (part .entry)) k ⌝ }
 {
-    if part.len() / width <= k {
+    if part.len() / 8 <= k {
         return &part[0..0];
     }
-    let start = width * k;
-    &part[start..start + width]
+    let start = 8 * k;
+    &part[start..start + 8]
 }
 
 // ---- numbers
@@ -87,19 +87,22 @@ fn wide(b: u8) -> usize
     b as usize
 }
 
-// The big-endian number in the bytes: each turn makes room for one more digit to base 256.
-fn unsigned(bytes: &[u8]) -> usize
-    requires { ⌜ length (now bytes) ≤ 4 ⌝ }
-    ensures value { λ r. ⌜ r ≡ unsignedOf (now (bytes .entry)) ⌝ }
-    ensures below { λ r. ⌜ r < 256 ^ length (now (bytes .entry)) ⌝ }
+// The number in the two bytes from `at` on, the higher one first.
+fn two_bytes(part: &[u8], at: usize) -> usize
+    requires { ⌜ at + 2 ≤ length (now part) ⌝ }
+    ensures value { λ r. ⌜ r ≡ unsignedOf (take 2 (drop at (now (part .entry)))) ⌝ }
+    ensures below { λ r. ⌜ r < 65536 ⌝ }
 {
-    let mut v: usize = 0;
-    let mut i: usize = 0;
-    while i < bytes.len() {
-        v = v * 256 + wide(bytes[i]);
-        i = i + 1;
-    }
-    v
+    256 * wide(part[at]) + wide(part[at + 1])
+}
+
+// The number in the four bytes from `at` on: two digits to base 65536.
+fn four_bytes(part: &[u8], at: usize) -> usize
+    requires { ⌜ at + 4 ≤ length (now part) ⌝ }
+    ensures value { λ r. ⌜ r ≡ unsignedOf (take 4 (drop at (now (part .entry)))) ⌝ }
+    ensures below { λ r. ⌜ r < 4294967296 ⌝ }
+{
+    65536 * two_bytes(part, at) + two_bytes(part, at + 2)
 }
 
 // The two-byte number that the part begins with; of fewer bytes, the number that they are.
@@ -107,65 +110,39 @@ pub fn length_of(part: &[u8]) -> usize
     ensures value { λ r. ⌜ r ≡ unsignedOf (take 2 (now (part .entry))) ⌝ }
     ensures below { λ r. ⌜ r < 65536 ⌝ }
 {
-    unsigned(first_part(part, 2))
-}
-
-// 256 to the power n.
-fn power(n: usize) -> usize
-    requires { ⌜ n ≤ 4 ⌝ }
-    ensures { λ r. ⌜ r ≡ 256 ^ n ⌝ }
-{
-    let mut p: usize = 1;
-    let mut i: usize = 0;
-    while i < n {
-        p = p * 256;
-        i = i + 1;
+    if part.len() < 2 {
+        return wide(byte_at(part, 0));
     }
-    p
+    two_bytes(part, 0)
 }
 
-// The two's complement number in the bytes: from the half of 256 ^ n on they stand for a negative one.
-fn signed(bytes: &[u8]) -> i64
-    requires { ⌜ length (now bytes) ≤ 4 ⌝ }
-    ensures { λ r. ⌜ r ≡ signedOf (now (bytes .entry)) ⌝ }
+// What v stands for among the numbers below `full`: from the half of `full` on, for v - full.
+fn signed(v: usize, full: usize) -> i64
+    requires { ⌜ (v < full) × (full ≤ 4294967296) ⌝ }
+    ensures { λ r. ⌜ r ≡ cond (ltb (2 * v) full) (pos v) (negℤ (pos (full - v))) ⌝ }
 {
-    let v = unsigned(bytes);
-    let full = power(bytes.len());
     if 2 * v < full {
         return v as i64;
     }
     -((full - v) as i64)
 }
 
-// Signed number k of the part, 0 where the part does not have its bytes.
-fn number_at(part: &[u8], width: usize, k: usize) -> i64
-    requires { ⌜ (0 < width) × (width ≤ 4) ⌝ }
-    ensures { λ r. ⌜ r ≡ numberAt width (now (part .entry)) k ⌝ }
+// Signed number k of two bytes, 0 where the part does not have them.
+fn short_at(part: &[u8], k: usize) -> i64
+    ensures { λ r. ⌜ r ≡ numberAt 2 (now (part .entry)) k ⌝ }
 {
-    signed(item(part, width, k))
+    if part.len() / 2 <= k {
+        return 0;
+    }
+    signed(two_bytes(part, 2 * k), 65536)
 }
 
-// The same, and 0 from `count` on.
-fn number_below(part: &[u8], width: usize, count: usize, k: usize) -> i64
-    requires { ⌜ (0 < width) × (width ≤ 4) ⌝ }
-    ensures { λ r. ⌜ r ≡ numberBelow width (now (part .entry)) count k ⌝ }
+// Signed number k of four bytes, which the part has.
+fn long_at(part: &[u8], k: usize) -> i64
+    requires { ⌜ k < length (now part) / 4 ⌝ }
+    ensures { λ r. ⌜ r ≡ numberAt 4 (now (part .entry)) k ⌝ }
 {
-    if k < count {
-        return number_at(part, width, k);
-    }
-    0
-}
-
-// Writes the first `count` numbers of the part into the lent places, and 0 into all places after them.
-fn fill(out: &mut [i64], part: &[u8], width: usize, count: usize)
-    requires { ⌜ (0 < width) × (width ≤ 4) ⌝ }
-    ensures { λ _. ⌜ now (out .exit) ≡ numbersTo (length (now (out .entry))) (numberBelow width (now (part .entry)) count) ⌝ }
-{
-    let mut i: usize = 0;
-    while i < out.len() {
-        out[i] = number_below(part, width, count, i);
-        i = i + 1;
-    }
+    signed(four_bytes(part, 4 * k), 4294967296)
 }
 
 // The numbers of a frame, where the part begins with field 2's value. A place whose two bytes the part
@@ -173,18 +150,84 @@ fn fill(out: &mut [i64], part: &[u8], width: usize, count: usize)
 pub fn frame_numbers(part: &[u8]) -> [i64; 9]
     ensures { λ r. ⌜ r ≡ frameNumbers (now (part .entry)) ⌝ }
 {
-    let mut out = [0i64; 9];
-    fill(&mut out, part, 2, 9);
-    out
+    [
+        short_at(part, 0),
+        short_at(part, 1),
+        short_at(part, 2),
+        short_at(part, 3),
+        short_at(part, 4),
+        short_at(part, 5),
+        short_at(part, 6),
+        short_at(part, 7),
+        short_at(part, 8),
+    ]
 }
 
-// The first `count` coefficients, where the part begins with field 3's value. All other places are 0.
-pub fn coefficients(part: &[u8], count: usize) -> [i64; 180]
-    ensures { λ r. ⌜ r ≡ coefficientsOf (now (part .entry)) count ⌝ }
+// ---- coefficients
+
+// Coefficient k, where the part begins with field 3's value; 0 where the part does not have its bytes.
+pub fn coefficient_at(part: &[u8], k: usize) -> i64
+    ensures { λ r. ⌜ r ≡ numberAt 4 (now (part .entry)) k ⌝ }
 {
-    let mut out = [0i64; 180];
-    fill(&mut out, part, 4, count);
-    out
+    if part.len() / 4 <= k {
+        return 0;
+    }
+    long_at(part, k)
+}
+
+// How many of the first `count` coefficients the part has and `room` places can take. Every place
+// from there on is to be 0.
+fn number_count(part: &[u8], count: usize, room: usize) -> usize
+    ensures there { λ r. ⌜ (r ≤ count) × (r ≤ room) × (r ≤ length (now (part .entry)) / 4) ⌝ }
+    ensures rest { λ r. ⌜ ((k : ℕ) → r ≤ k → k < room → numberBelow 4 (now (part .entry)) count k ≡ pos 0) ⌝ }
+{
+    let whole = part.len() / 4;
+    if count <= whole {
+        if count <= room {
+            return count;
+        }
+        return room;
+    }
+    if whole <= room {
+        return whole;
+    }
+    room
+}
+
+// Writes the first n coefficients, which the part has, into the first n places.
+fn put_numbers(out: &mut [i64], part: &[u8], n: usize)
+    requires { ⌜ (n ≤ length (now out)) × (n ≤ length (now part) / 4) ⌝ }
+    ensures size { λ _. ⌜ length (now (out .exit)) ≡ length (now (out .entry)) ⌝ }
+    ensures numbers { λ _. ⌜ ((k : ℕ) → k < n → getD (now (out .exit)) k (pos 0) ≡ numberAt 4 (now (part .entry)) k) ⌝ }
+{
+    let mut i: usize = 0;
+    while i < n {
+        out[i] = long_at(part, i);
+        i = i + 1;
+    }
+}
+
+// Writes 0 into every place from `start` on.
+fn put_zeros(out: &mut [i64], start: usize)
+    ensures size { λ _. ⌜ length (now (out .exit)) ≡ length (now (out .entry)) ⌝ }
+    ensures kept { λ _. ⌜ ((k : ℕ) → k < start → getD (now (out .exit)) k (pos 0) ≡ getD (now (out .entry)) k (pos 0)) ⌝ }
+    ensures zeros { λ _. ⌜ ((k : ℕ) → start ≤ k → k < length (now (out .entry)) → getD (now (out .exit)) k (pos 0) ≡ pos 0) ⌝ }
+{
+    let mut i = start;
+    while i < out.len() {
+        out[i] = 0;
+        i = i + 1;
+    }
+}
+
+// Writes the first `count` coefficients into the lent places, where the part begins with field 3's
+// value, and 0 into every other place. What the places held before does not matter.
+pub fn read_coefficients(part: &[u8], count: usize, out: &mut [i64])
+    ensures { λ _. ⌜ now (out .exit) ≡ numbersTo (length (now (out .entry))) (numberBelow 4 (now (part .entry)) count) ⌝ }
+{
+    let n = number_count(part, count, out.len());
+    put_numbers(&mut *out, part, n);
+    put_zeros(&mut *out, n);
 }
 
 // ---- moves and points
@@ -195,9 +238,9 @@ pub fn point_weights(part: &[u8]) -> Weights
     ensures { λ r. ⌜ r ≡ weightsOf (now (part .entry)) ⌝ }
 {
     Weights {
-        r: number_at(part, 2, 0),
-        s: number_at(part, 2, 1),
-        t: number_at(part, 2, 2),
+        r: short_at(part, 0),
+        s: short_at(part, 1),
+        t: short_at(part, 2),
     }
 }
 
@@ -222,7 +265,7 @@ pub fn move_at(value: &[u8], k: usize) -> Move
     ensures decoded { λ r. ⌜ r ≡ moveAt (now (value .entry)) k ⌝ }
     ensures numbers { λ r. ⌜ callOf r ≡ callAt (now (value .entry)) k ⌝ }
 {
-    let bytes = item(value, 8, k);
+    let bytes = move_bytes(value, k);
     let operation = byte_at(bytes, 0);
     let vertex = byte_at(bytes, 1);
     let weights = point_weights(part_from(bytes, 2));

@@ -3,3 +3,4 @@ pub mod Polar
 pub mod Places
 pub mod Listed
 pub mod Standard
+pub mod Renamed

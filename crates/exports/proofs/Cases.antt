@@ -2,26 +2,48 @@
 -- ends in the clauses of the contract.
 use Prim.Native.Nat.{ℕ, _≤_, _<_}
 use native.Mathlib.Omega.{arith}
-use mathlib.Core.Path.{_≡_, sym, ap, ap₂, _∙_}
-use mathlib.Core.Bool.{Bool, true, false, cond, _||_}
-use mathlib.Core.List.{List}
+use mathlib.Core.Path.{_≡_, refl, sym, ap, ap₂, _∙_}
+use mathlib.Core.Bool.{Bool, true, false, cond, _&&_, _||_}
+use mathlib.Core.List.{List, [], _∷_, _++_}
 use borrow.Author.Tests.{lt-ltb, le-ltb, eq-eqb, ne-eqb}
-use lib.Dec.{ltb}
-use lib.IntN.{ℤ}
-use lib.ListN.{length}
+use borrow.Rule.Slice.PartMut.{putMid, put-same, post-is}
+use lib.Dec.{eqb, ltb}
+use lib.IntN.{ℤ, pos}
+use lib.ListN.{length, getD, take, drop}
+use lib.Seq.{length-take-le}
 use Rattle.projection.specs.Projection.{coordinateBits, directionNumbers}
 use Rattle.projection.specs.declared.Projection.{Projection}
+use Rattle.machine.specs.Comparison.{Polynomials, netOver}
+use Rattle.machine.specs.First.{firstNet, firstRefusal}
 use Rattle.machine.specs.Nets.{netRefusal, stepOf}
-use Rattle.machine.specs.Answers.{refusalNumber, pointValues, foundBy, Numbered}
+use Rattle.machine.specs.Answers.{foundBy}
+use Rattle.machine.specs.Lent.{whole, placed, firstNumber, firstEntries, lentNumber, lentEntries, pointNumber, pointPlaces}
 use Rattle.machine.specs.declared.Net.{Net}
 use Rattle.machine.specs.declared.Call.{Call}
-use Rattle.machine.specs.declared.Call.the-variants.{Point}
-use Rattle.machine.specs.declared.Answer.{Answer}
-use Rattle.machine.specs.declared.Step.{Step}
-use Rattle.machine.specs.declared.Weights.{Weights}
-use Rattle.opening.specs.Opening.{refusalIn, openedOf}
+use Rattle.opening.specs.Opening.{polynomialsIn, firstNetIn, refusalIn, unopened, openedOf, openedIn, entriesIn}
 use Rattle.opening.specs.declared.Opened.{Opened}
-use Rattle.exports.specs.Lent.{placed, netOf, numbersOf, leftBy, openNumber, openOffset, openNet, callNumber, callNet, pointNumber, pointFound, projectionNumber, cramped, projectNumber, projectBits, projectDirection}
+use Rattle.exports.specs.Lent.{
+  byteOf,
+  netOf,
+  numbersOf,
+  leftBy,
+  openNumber,
+  openOffset,
+  openNet,
+  polynomialsFrom,
+  madeNumber,
+  madeNet,
+  callNumber,
+  callNet,
+  foundNumber,
+  foundPlaces,
+  projectionNumber,
+  cramped,
+  projectNumber,
+  projectBits,
+  projectDirection,
+}
+use Rattle.exports.proofs.Places.{part-length, head-put}
 
 -- ---- what is left of a lent net
 
@@ -34,40 +56,135 @@ put number net lent taken = sym (ap (λ t. cond t (placed (numbersOf net) lent) 
 not-0 : {n : ℕ} → 11 ≡ n → n ≡ 0 → ⊥
 not-0 e z = omega arith
 
+-- the part of lent places that holds the entries
+abbrev part : List ℤ → List ℤ
+part lent = take 180 (drop 2 lent)
+
+part-whole : (lent : List ℤ) → 182 ≤ length lent → whole (part lent) ≡ true
+part-whole lent long = eq-eqb (length (part lent)) 180 (part-length lent long)
+
+-- the places with other entries in that part
+part-put : (lent out : List ℤ) → putMid 2 180 lent out ≡ take 2 lent ++ (out ++ drop 182 lent)
+part-put lent out = ap (λ l. take 2 lent ++ (out ++ l)) (post-is 2 182 lent (omega arith))
+
 -- ---- a record opened
 
 module _ (input : List ℕ) (lent : List ℤ) where
-  pub open-short : length lent < 182 → (11 ≡ openNumber input lent) × ((0 ≡ openOffset input lent) × (lent ≡ openNet input lent))
+  abbrev Opens : ℕ → ℕ → List ℤ → Type 0
+  Opens number offset new = (number ≡ openNumber input lent) × ((offset ≡ openOffset input lent) × (new ≡ openNet input lent))
+
+  pub open-short : length lent < 182 → Opens 11 0 lent
   unfolding openNumber openOffset openNet
   open-short few =
       let is = lt-ltb (length lent) 182 few in
       let number = sym (ap (λ t. cond t 11 (refusalIn input .number)) is) in
-      (number, (sym (ap (λ t. cond t 0 (refusalIn input .offset)) is), kept (openNumber input lent) (openedOf input .net) lent (not-0 number)))
+      (number, (sym (ap (λ t. cond t 0 (refusalIn input .offset)) is), kept (openNumber input lent) (firstNetIn input) lent (not-0 number)))
 
-  module _ (long : 182 ≤ length lent) (opened : Opened) (is : opened ≡ openedOf input) where
+  module _ (long : 182 ≤ length lent) (opened : Opened) (is : opened ≡ openedIn input (part lent)) (out : List ℤ) (left : out ≡ entriesIn input (part lent)) where
+    opened-is : opened ≡ openedOf input
+    unfolding openedIn
+    opened-is = is ∙ ap (λ t. cond t (openedOf input) (unopened input (record { number = 11; offset = 0 }))) (part-whole lent long)
+
     number-is : opened .refusal .number ≡ openNumber input lent
     unfolding openNumber openedOf
-    number-is = ap (λ (o : Opened). o .refusal .number) is ∙ sym (ap (λ t. cond t 11 (refusalIn input .number)) (le-ltb (length lent) 182 long))
+    number-is = ap (λ (o : Opened). o .refusal .number) opened-is ∙ sym (ap (λ t. cond t 11 (refusalIn input .number)) (le-ltb (length lent) 182 long))
 
     offset-is : opened .refusal .offset ≡ openOffset input lent
     unfolding openOffset openedOf
-    offset-is = ap (λ (o : Opened). o .refusal .offset) is ∙ sym (ap (λ t. cond t 0 (refusalIn input .offset)) (le-ltb (length lent) 182 long))
+    offset-is = ap (λ (o : Opened). o .refusal .offset) opened-is ∙ sym (ap (λ t. cond t 0 (refusalIn input .offset)) (le-ltb (length lent) 182 long))
 
-    pub open-refused : (opened .refusal .number ≡ 0 → ⊥)
-        → (opened .refusal .number ≡ openNumber input lent) × ((opened .refusal .offset ≡ openOffset input lent) × (lent ≡ openNet input lent))
-    unfolding openNet
-    open-refused refused = (number-is, (offset-is, kept (openNumber input lent) (openedOf input .net) lent (λ z. refused (number-is ∙ z))))
+    out-is : out ≡ cond (eqb (opened .refusal .number) 0) (firstNetIn input .entries) (part lent)
+    unfolding entriesIn
+    out-is = left ∙ ap (λ (o : Opened). cond (eqb (o .refusal .number) 0) (firstNetIn input .entries) (part lent)) (sym is)
 
-    pub open-taken : opened .refusal .number ≡ 0 → (new : List ℤ) → new ≡ placed (numbersOf (opened .net)) lent
-        → (0 ≡ openNumber input lent) × ((opened .refusal .offset ≡ openOffset input lent) × (new ≡ openNet input lent))
+    pub open-refused : (opened .refusal .number ≡ 0 → ⊥) → Opens (opened .refusal .number) (opened .refusal .offset) (putMid 2 180 lent out)
     unfolding openNet
-    open-taken taken new left = (
+    open-refused refused = (
+      number-is,
+      (
+        offset-is,
+        ap (putMid 2 180 lent) (out-is ∙ ap (λ t. cond t (firstNetIn input .entries) (part lent)) (ne-eqb (opened .refusal .number) 0 refused)) ∙ put-same 2 180 lent
+            ∙ kept (openNumber input lent) (firstNetIn input) lent (λ z. refused (number-is ∙ z)),
+      ),
+    )
+
+    pub open-taken : opened .refusal .number ≡ 0 → (new : List ℤ) → new ≡ placed (pos (opened .kind) ∷ pos (opened .degree) ∷ []) (putMid 2 180 lent out) → length out ≡ 180
+        → Opens 0 (opened .refusal .offset) new
+    unfolding openNet openedOf netOver polynomialsIn
+    open-taken taken new head size = (
       sym taken ∙ number-is,
       (
         offset-is,
-        left ∙ ap (λ (o : Opened). placed (numbersOf (o .net)) lent) is ∙ put (openNumber input lent) (openedOf input .net) lent (sym number-is ∙ taken),
+        head
+            ∙ ap (placed (pos (opened .kind) ∷ pos (opened .degree) ∷ [])) (part-put lent out)
+            ∙ head-put lent out (pos (opened .kind)) (pos (opened .degree)) (omega arith) size
+            ∙ (λ i. placed (pos (opened-is i .kind) ∷ pos (opened-is i .degree) ∷ made i) lent)
+            ∙ put (openNumber input lent) (firstNetIn input) lent (sym number-is ∙ taken),
       ),
     )
+      where
+        made : out ≡ firstNetIn input .entries
+        made = out-is ∙ ap (λ t. cond t (firstNetIn input .entries) (part lent)) (eq-eqb (opened .refusal .number) 0 taken)
+
+-- ---- a first net
+
+module _ (kind degree : ℕ) (frame coefficients lent : List ℤ) where
+  abbrev f : Polynomials
+  f = polynomialsFrom kind degree coefficients
+
+  abbrev Makes : ℕ → List ℤ → Type 0
+  Makes number new = (number ≡ madeNumber kind degree frame coefficients lent) × (new ≡ madeNet kind degree frame coefficients lent)
+
+  by-places : (a b c : Bool) → ltb (length frame) 9 ≡ a → ltb (length coefficients) 180 ≡ b → ltb (length lent) 182 ≡ c
+      → cond (a || b || c) 11 (firstRefusal f (take 9 frame)) ≡ madeNumber kind degree frame coefficients lent
+  unfolding madeNumber
+  by-places a b c p q r = sym (λ i. cond (p i || q i || r i) 11 (firstRefusal f (take 9 frame)))
+
+  short-of : 11 ≡ madeNumber kind degree frame coefficients lent → Makes 11 lent
+  unfolding madeNet
+  short-of number = (number, kept (madeNumber kind degree frame coefficients lent) (firstNet f (take 9 frame)) lent (not-0 number))
+
+  pub frame-short : length frame < 9 → Makes 11 lent
+  frame-short few = short-of (by-places true (ltb (length coefficients) 180) (ltb (length lent) 182) (lt-ltb (length frame) 9 few) refl refl)
+
+  module _ (framed : 9 ≤ length frame) where
+    pub coefficients-short : length coefficients < 180 → Makes 11 lent
+    coefficients-short few = short-of (by-places false true (ltb (length lent) 182) (le-ltb (length frame) 9 framed) (lt-ltb (length coefficients) 180 few) refl)
+
+    module _ (given : 180 ≤ length coefficients) where
+      pub net-short : length lent < 182 → Makes 11 lent
+      net-short few = short-of (by-places false false true (le-ltb (length frame) 9 framed) (le-ltb (length coefficients) 180 given) (lt-ltb (length lent) 182 few))
+
+      module _ (long : 182 ≤ length lent) (number : ℕ) (is : number ≡ firstNumber f (take 9 frame) (part lent)) (out : List ℤ) (left : out ≡ firstEntries f (take 9 frame) (part lent)) where
+        made-number : number ≡ madeNumber kind degree frame coefficients lent
+        unfolding firstNumber
+        made-number =
+            is
+            ∙ ap₂ (λ a b. cond (a && b) (firstRefusal f (take 9 frame)) 11) (eq-eqb (length (take 180 coefficients)) 180 (length-take-le 180 coefficients given)) (part-whole lent long)
+            ∙ by-places false false false (le-ltb (length frame) 9 framed) (le-ltb (length coefficients) 180 given) (le-ltb (length lent) 182 long)
+
+        made-out : out ≡ cond (eqb number 0) (firstNet f (take 9 frame) .entries) (part lent)
+        unfolding firstEntries
+        made-out = left ∙ ap (λ k. cond (eqb k 0) (firstNet f (take 9 frame) .entries) (part lent)) (sym is)
+
+        pub made-refused : (number ≡ 0 → ⊥) → Makes number (putMid 2 180 lent out)
+        unfolding madeNet
+        made-refused refused = (
+          made-number,
+          ap (putMid 2 180 lent) (made-out ∙ ap (λ t. cond t (firstNet f (take 9 frame) .entries) (part lent)) (ne-eqb number 0 refused)) ∙ put-same 2 180 lent
+              ∙ kept (madeNumber kind degree frame coefficients lent) (firstNet f (take 9 frame)) lent (λ z. refused (made-number ∙ z)),
+        )
+
+        pub made-taken : number ≡ 0 → (new : List ℤ) → new ≡ placed (pos kind ∷ pos degree ∷ []) (putMid 2 180 lent out) → length out ≡ 180 → Makes 0 new
+        unfolding madeNet netOver
+        made-taken taken new head size = (
+          sym taken ∙ made-number,
+          head
+              ∙ ap (placed (pos kind ∷ pos degree ∷ [])) (part-put lent out)
+              ∙ head-put lent out (pos kind) (pos degree) (omega arith) size
+              ∙ ap (λ l. placed (pos kind ∷ pos degree ∷ l) lent) (made-out ∙ ap (λ t. cond t (firstNet f (take 9 frame) .entries) (part lent)) (eq-eqb number 0 taken))
+              ∙ put (madeNumber kind degree frame coefficients lent) (firstNet f (take 9 frame)) lent (sym made-number ∙ taken),
+        )
 
 -- ---- a call
 
@@ -75,65 +192,62 @@ module _ (call : Call) (lent : List ℤ) where
   pub call-short : length lent < 182 → (11 ≡ callNumber call lent) × (lent ≡ callNet call lent)
   unfolding callNumber callNet
   call-short few =
-      let number = sym (ap (λ t. cond t 11 (netRefusal (netOf lent) call)) (lt-ltb (length lent) 182 few)) in
-      (number, kept (callNumber call lent) (stepOf (netOf lent) call .net) lent (not-0 number))
-
-  call-number : 182 ≤ length lent → netRefusal (netOf lent) call ≡ callNumber call lent
-  unfolding callNumber
-  call-number long = sym (ap (λ t. cond t 11 (netRefusal (netOf lent) call)) (le-ltb (length lent) 182 long))
+      let is = lt-ltb (length lent) 182 few in
+      (sym (ap (λ t. cond t 11 (netRefusal (netOf lent) call)) is), sym (ap (λ t. cond t lent (take 2 lent ++ (stepOf (netOf lent) call .net .entries ++ drop 182 lent))) is))
 
   -- `made` is the call as it was handed on, its weights read back from their bits
-  module _ (long : 182 ≤ length lent) (net : Net) (net-is : net ≡ netOf lent) {made : Call} (step : Step) (step-is : step ≡ stepOf net made) (refusal : refusalNumber (step .answer) ≡ netRefusal net made)
-      (same : made ≡ call) (number : ℕ) (number-is : number ≡ refusalNumber (step .answer)) where
-    told : number ≡ callNumber call lent
-    told = number-is ∙ refusal ∙ ap₂ netRefusal net-is same ∙ call-number long
+  module _ (long : 182 ≤ length lent) (kind degree : ℕ) (kind-is : kind ≡ byteOf (getD lent 0 (pos 0))) (degree-is : degree ≡ byteOf (getD lent 1 (pos 0))) {made : Call} (same : made ≡ call) where
+    abbrev net : Net
+    net = record { kind = kind; degree = degree; entries = part lent }
 
-    pub call-refused : (number ≡ 0 → ⊥) → (number ≡ callNumber call lent) × (lent ≡ callNet call lent)
-    unfolding callNet
-    call-refused refused = (told, kept (callNumber call lent) (stepOf (netOf lent) call .net) lent (λ z. refused (told ∙ z)))
+    net-is : net ≡ netOf lent
+    unfolding netOf
+    net-is = ap₂ (λ k d. record { kind = k; degree = d; entries = part lent }) kind-is degree-is
 
-    pub call-taken : number ≡ 0 → (new : List ℤ) → new ≡ placed (numbersOf (step .net)) lent → (0 ≡ callNumber call lent) × (new ≡ callNet call lent)
-    unfolding callNet
-    call-taken taken new left = (
-      sym taken ∙ told,
-      left ∙ ap (λ (s : Step). placed (numbersOf (s .net)) lent) (step-is ∙ ap₂ stepOf net-is same)
-          ∙ put (callNumber call lent) (stepOf (netOf lent) call .net) lent (sym told ∙ taken),
+    lent-number : lentNumber net made ≡ callNumber call lent
+    unfolding lentNumber callNumber
+    lent-number =
+        ap (λ t. cond t (netRefusal net made) 11) (part-whole lent long) ∙ ap₂ netRefusal net-is same
+        ∙ sym (ap (λ t. cond t 11 (netRefusal (netOf lent) call)) (le-ltb (length lent) 182 long))
+
+    pub call-made : (number : ℕ) → number ≡ lentNumber net made → (out : List ℤ) → out ≡ lentEntries net made → (number ≡ callNumber call lent) × (putMid 2 180 lent out ≡ callNet call lent)
+    unfolding lentEntries callNet
+    call-made number is out left = (
+      is ∙ lent-number,
+      ap (putMid 2 180 lent) (left ∙ ap (λ t. cond t (stepOf net made .net .entries) (part lent)) (part-whole lent long) ∙ ap₂ (λ n c. stepOf n c .net .entries) net-is same)
+          ∙ part-put lent (stepOf (netOf lent) call .net .entries)
+          ∙ sym (ap (λ t. cond t lent (take 2 lent ++ (stepOf (netOf lent) call .net .entries ++ drop 182 lent))) (le-ltb (length lent) 182 long)),
     )
 
--- ---- a point
+    point-told : (found : List ℤ) → pointNumber net made found ≡ foundNumber call lent found
+    unfolding pointNumber foundNumber
+    point-told found = ap (λ k. cond (ltb (length found) 4) 11 k) lent-number
 
-module _ (weights : Weights) (lent found : List ℤ) where
-  -- 11 finds no numbers
-  nothing-found : 11 ≡ pointNumber (Point weights) lent found → found ≡ pointFound (Point weights) lent found
-  unfolding pointFound
-  nothing-found number = ap (λ k. placed (foundBy k (netOf lent) (Point weights)) found) number
+    pub point-made : (found : List ℤ) (number : ℕ) → number ≡ pointNumber net made found → (new : List ℤ) → new ≡ pointPlaces net made found
+        → (number ≡ foundNumber call lent found) × (new ≡ foundPlaces call lent found)
+    unfolding pointPlaces foundPlaces
+    point-made found number is new left =
+        (is ∙ told, left ∙ (λ i. placed (foundBy (told i) (net-is i) (same i)) found))
+      where
+        told : pointNumber net made found ≡ foundNumber call lent found
+        told = point-told found
 
-  pub point-cramped : length found < 4 → (11 ≡ pointNumber (Point weights) lent found) × (found ≡ pointFound (Point weights) lent found)
-  unfolding pointNumber
-  point-cramped few =
-      let number = sym (ap (λ t. cond t 11 (callNumber (Point weights) lent)) (lt-ltb (length found) 4 few)) in
-      (number, nothing-found number)
+short-number : (call : Call) (lent found : List ℤ) → length lent < 182 → cond (ltb (length found) 4) 11 11 ≡ foundNumber call lent found
+unfolding foundNumber
+short-number call lent found few = ap (λ k. cond (ltb (length found) 4) 11 k) (call-short call lent few .0)
 
-  module _ (room : 4 ≤ length found) where
-    number-by : callNumber (Point weights) lent ≡ pointNumber (Point weights) lent found
-    unfolding pointNumber
-    number-by = sym (ap (λ t. cond t 11 (callNumber (Point weights) lent)) (le-ltb (length found) 4 room))
+-- a lent net that is too short comes out as 11, however many places the point has
+pub point-short : (call : Call) (lent found : List ℤ) → length lent < 182 → (11 ≡ foundNumber call lent found) × (found ≡ foundPlaces call lent found)
+unfolding foundPlaces
+point-short call lent found few =
+    (number, ap (λ k. placed (foundBy k (netOf lent) call) found) number)
+  where
+    either : (t : Bool) → _≡_ {A = ℕ} 11 (cond t 11 11)
+    either true = refl
+    either false = refl
 
-    pub point-short : length lent < 182 → (11 ≡ pointNumber (Point weights) lent found) × (found ≡ pointFound (Point weights) lent found)
-    point-short few =
-        let number = call-short (Point weights) lent few .0 ∙ number-by in
-        (number, nothing-found number)
-
-    pub point-answered : 182 ≤ length lent → (net : Net) → net ≡ netOf lent → {handed : Weights} → handed ≡ weights → (answer : Answer) → Numbered net (Point handed) answer
-        → (number : ℕ) → number ≡ refusalNumber answer → (new : List ℤ) → new ≡ placed (pointValues answer) found
-        → (number ≡ pointNumber (Point weights) lent found) × (new ≡ pointFound (Point weights) lent found)
-    unfolding pointFound
-    point-answered long net net-is same answer numbered number number-is new new-is =
-        let told = (λ i. netRefusal (net-is i) (Point (same i))) ∙ call-number (Point weights) lent long ∙ number-by in (
-          number-is ∙ numbered .0 ∙ told,
-          new-is ∙ ap (λ (v : List ℤ). placed v found) (numbered .1 ∙ (λ i. foundBy (netRefusal (net-is i) (Point (same i))) (net-is i) (Point (same i))))
-              ∙ ap (λ k. placed (foundBy k (netOf lent) (Point weights)) found) (call-number (Point weights) lent long ∙ number-by),
-        )
+    number : 11 ≡ foundNumber call lent found
+    number = either (ltb (length found) 4) ∙ short-number call lent found few
 
 -- ---- a projection
 

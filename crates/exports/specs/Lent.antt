@@ -8,17 +8,14 @@ use lib.ListN.{length, getD, take, drop}
 use Rattle.projection.specs.Projection.{coordinateBits, directionNumbers}
 use Rattle.projection.specs.declared.Projection.{Projection}
 use Rattle.projection.specs.declared.Projection.the-variants.{Finite, Direction, Nowhere, OutOfRange}
+use Rattle.machine.specs.Comparison.{Polynomials}
+use Rattle.machine.specs.First.{firstNet, firstRefusal}
+use Rattle.machine.specs.Lent.{placed}
 use Rattle.machine.specs.Nets.{netRefusal, stepOf}
 use Rattle.machine.specs.Answers.{foundBy}
 use Rattle.machine.specs.declared.Net.{Net}
 use Rattle.machine.specs.declared.Call.{Call}
-use Rattle.opening.specs.Opening.{refusalIn, openedOf}
-
--- ---- lent places
-
--- numbers put into the first places; the places behind them stay
-abbrev pub placed : {A : Type 0} → List A → List A → List A
-placed numbers lent = numbers ++ drop (length numbers) lent
+use Rattle.opening.specs.Opening.{refusalIn, firstNetIn}
 
 -- ---- a lent net: the kind, the degree, and the 180 numbers of the entries
 
@@ -39,7 +36,7 @@ netOf lent = record { kind = byteOf (getD lent 0 (pos 0)); degree = byteOf (getD
 abbrev pub numbersOf : Net → List ℤ
 numbersOf net = pos (net .kind) ∷ pos (net .degree) ∷ net .entries
 
--- the places after a call: a net is put into them where nothing is refused
+-- the places after the making of a first net: it is put into them where nothing is refused
 abbrev pub leftBy : ℕ → Net → List ℤ → List ℤ
 leftBy number net lent = cond (eqb number 0) (placed (numbersOf net) lent) lent
 
@@ -55,7 +52,22 @@ openOffset input lent = cond (short lent) 0 (refusalIn input .offset)
 
 -- the first net
 unfoldable pub openNet : List ℕ → List ℤ → List ℤ
-openNet input lent = leftBy (openNumber input lent) (openedOf input .net) lent
+openNet input lent = leftBy (openNumber input lent) (firstNetIn input) lent
+
+-- ---- a first net without a record
+
+-- the polynomials that kind, degree and 180 lent coefficients say
+abbrev pub polynomialsFrom : ℕ → ℕ → List ℤ → Polynomials
+polynomialsFrom kind degree coefficients = record { kind = kind; degree = degree; coefficients = take 180 coefficients }
+
+-- too few places in any of the three come first
+unfoldable pub madeNumber : ℕ → ℕ → List ℤ → List ℤ → List ℤ → ℕ
+madeNumber kind degree frame coefficients lent =
+    cond (ltb (length frame) 9 || ltb (length coefficients) 180 || short lent) 11 (firstRefusal (polynomialsFrom kind degree coefficients) (take 9 frame))
+
+unfoldable pub madeNet : ℕ → ℕ → List ℤ → List ℤ → List ℤ → List ℤ
+madeNet kind degree frame coefficients lent =
+    leftBy (madeNumber kind degree frame coefficients lent) (firstNet (polynomialsFrom kind degree coefficients) (take 9 frame)) lent
 
 -- ---- a call on a lent net
 
@@ -63,17 +75,17 @@ openNet input lent = leftBy (openNumber input lent) (openedOf input .net) lent
 unfoldable pub callNumber : Call → List ℤ → ℕ
 callNumber call lent = cond (short lent) 11 (netRefusal (netOf lent) call)
 
--- the net that the call leaves
+-- the entries that the call leaves; kind and degree stay, and so does what is behind the entries
 unfoldable pub callNet : Call → List ℤ → List ℤ
-callNet call lent = leftBy (callNumber call lent) (stepOf (netOf lent) call .net) lent
+callNet call lent = cond (short lent) lent (take 2 lent ++ (stepOf (netOf lent) call .net .entries ++ drop 182 lent))
 
 -- a point wants four places for its numbers besides
-unfoldable pub pointNumber : Call → List ℤ → List ℤ → ℕ
-pointNumber call lent found = cond (ltb (length found) 4) 11 (callNumber call lent)
+unfoldable pub foundNumber : Call → List ℤ → List ℤ → ℕ
+foundNumber call lent found = cond (ltb (length found) 4) 11 (callNumber call lent)
 
 -- the numbers of the point, which `foundBy` has only where the number is 0
-unfoldable pub pointFound : Call → List ℤ → List ℤ → List ℤ
-pointFound call lent found = placed (foundBy (pointNumber call lent found) (netOf lent) call) found
+unfoldable pub foundPlaces : Call → List ℤ → List ℤ → List ℤ
+foundPlaces call lent found = placed (foundBy (foundNumber call lent found) (netOf lent) call) found
 
 -- ---- a projection
 

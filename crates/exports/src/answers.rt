@@ -1,54 +1,15 @@
-// Answers told as numbers: the table's number, or the case, with the values in lent places.
+// Projections told as numbers: the case, with the values in lent places.
 ghost use mathlib.Core.Path.{_≡_};
 ghost use Prim.Native.Nat.{_≤_};
 ghost use mathlib.Core.List.{[], _∷_};
 ghost use lib.ListN.{length};
 ghost use lib.Ieee.{binary64, toBits};
 ghost use Rattle.projection.specs.Projection.{coordinateBits, directionNumbers};
-ghost use Rattle.machine.specs.Answers.{refusalNumber, pointValues};
-ghost use Rattle.exports.specs.Lent.{placed, projectionNumber};
-use machine::Answer;
+ghost use Rattle.machine.specs.Lent.{placed};
+ghost use Rattle.exports.specs.Lent.{projectionNumber};
 use projection::Coords;
 use projection::Projection;
 use projection::bits;
-
-// The table's number of an answer, 0 where nothing is refused.
-pub(crate) fn number_of(answer: Answer) -> u8
-    ensures { λ r. ⌜ r ≡ refusalNumber answer ⌝ }
-{
-    match answer {
-        Answer::Taken => 0,
-        Answer::Point(_, _) => 0,
-        Answer::Refused(number) => number,
-    }
-}
-
-// The numbers of a found point, into the first four places.
-fn put_point(found: &mut [i64], x: i64, y: i64, z: i64, w: i64)
-    requires { ⌜ 4 ≤ length (now found) ⌝ }
-    ensures { λ _. ⌜ now (found .exit) ≡ placed (x ∷ y ∷ z ∷ w ∷ []) (now (found .entry)) ⌝ }
-{
-    found[0] = x;
-    found[1] = y;
-    found[2] = z;
-    found[3] = w;
-}
-
-// The same, with a found point's numbers put into the first four places.
-pub(crate) fn write_found(found: &mut [i64], answer: Answer) -> u8
-    requires { ⌜ 4 ≤ length (now found) ⌝ }
-    ensures number { λ r. ⌜ r ≡ refusalNumber answer ⌝ }
-    ensures found { λ _. ⌜ now (found .exit) ≡ placed (pointValues answer) (now (found .entry)) ⌝ }
-{
-    match answer {
-        Answer::Taken => 0,
-        Answer::Point(p, _) => {
-            put_point(found, p.x, p.y, p.z, p.w);
-            0
-        }
-        Answer::Refused(number) => number,
-    }
-}
 
 // The bit patterns of a finite point, into the first three places.
 fn put_bits(patterns: &mut [u64], p: Coords)

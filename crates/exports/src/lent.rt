@@ -1,17 +1,17 @@
-// A net out of lent places, and back into them.
+// A net in lent places: its kind and degree are read and written here, its entries are lent on.
 ghost use mathlib.Core.Path.{_≡_};
-ghost use Prim.Native.Nat.{_+_, _≤_};
-ghost use mathlib.Core.List.{_++_};
+ghost use Prim.Native.Nat.{_≤_};
+ghost use mathlib.Core.List.{[], _∷_};
 ghost use lib.IntN.{pos};
-ghost use lib.ListN.{length, take, drop};
-ghost use Rattle.exports.specs.Lent.{byteOf, netOf, placed, numbersOf};
-use machine::Net;
+ghost use lib.ListN.{length, take};
+ghost use Rattle.machine.specs.Lent.{placed};
+ghost use Rattle.exports.specs.Lent.{byteOf};
 
 // How many places a lent net has at least.
 pub(crate) const PLACES: usize = 182;
 
 // A number as a byte, 0 where it is none.
-fn byte_of(v: i64) -> u8
+pub(crate) fn byte_of(v: i64) -> u8
     ensures { λ r. ⌜ r ≡ byteOf v ⌝ }
 {
     if v < 0 {
@@ -30,50 +30,29 @@ fn wide(b: u8) -> i64
     b as i64
 }
 
-// Copies all of `from` into `to`, from place `at` on.
-fn copy(to: &mut [i64], at: usize, from: &[i64])
-    requires { ⌜ at + length (now from) ≤ length (now to) ⌝ }
-    ensures { λ _. ⌜ now (to .exit) ≡ take at (now (to .entry)) ++ (now (from .entry) ++ drop (at + length (now (from .entry))) (now (to .entry))) ⌝ }
+// Puts kind and degree into the first two places.
+pub(crate) fn put_head(lent: &mut [i64], kind: u8, degree: u8)
+    requires { ⌜ 2 ≤ length (now lent) ⌝ }
+    ensures { λ _. ⌜ now (lent .exit) ≡ placed (pos kind ∷ pos degree ∷ []) (now (lent .entry)) ⌝ }
 {
-    let mut i = 0;
-    while i < from.len() {
-        to[at + i] = from[i];
-        i += 1;
-    }
+    lent[0] = wide(kind);
+    lent[1] = wide(degree);
 }
 
-// The entries that stand behind kind and degree.
-fn entries_of(lent: &[i64]) -> [i64; 180]
-    requires { ⌜ 182 ≤ length (now lent) ⌝ }
-    ensures { λ r. ⌜ r ≡ take 180 (drop 2 (now (lent .entry))) ⌝ }
+// The nine numbers that a frame begins with.
+pub(crate) fn nine(frame: &[i64]) -> [i64; 9]
+    requires { ⌜ 9 ≤ length (now frame) ⌝ }
+    ensures { λ r. ⌜ r ≡ take 9 (now (frame .entry)) ⌝ }
 {
-    let mut entries = [0i64; 180];
-    copy(&mut entries, 0, &lent[2..182]);
-    entries
-}
-
-// The net in lent places.
-pub(crate) fn net_of(lent: &[i64]) -> Net
-    requires { ⌜ 182 ≤ length (now lent) ⌝ }
-    ensures { λ r. ⌜ r ≡ netOf (now (lent .entry)) ⌝ }
-{
-    let kind = byte_of(lent[0]);
-    let degree = byte_of(lent[1]);
-    let entries = entries_of(lent);
-    Net {
-        kind,
-        degree,
-        entries,
-    }
-}
-
-// Puts a net into lent places; those behind it stay.
-pub(crate) fn lend(lent: &mut [i64], net: Net)
-    requires { ⌜ 182 ≤ length (now lent) ⌝ }
-    ensures { λ _. ⌜ now (lent .exit) ≡ placed (numbersOf net) (now (lent .entry)) ⌝ }
-{
-    lent[0] = wide(net.kind);
-    lent[1] = wide(net.degree);
-    let entries = net.entries;
-    copy(lent, 2, &entries);
+    [
+        frame[0],
+        frame[1],
+        frame[2],
+        frame[3],
+        frame[4],
+        frame[5],
+        frame[6],
+        frame[7],
+        frame[8],
+    ]
 }

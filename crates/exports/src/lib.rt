@@ -1,4 +1,4 @@
-// The library for callers in C and Rust: five functions under plain names, each over one of the
+// The library for callers in C and Rust: six functions under plain names, each over one of the
 // library's own. A net is lent as 182 numbers or more, the kind, the degree and the entries; what each
 // function answers and writes is defined in specs/Lent.antt.
 mod answers;
@@ -11,28 +11,33 @@ ghost use Rattle.exports.specs.Lent.{
   openNumber,
   openOffset,
   openNet,
+  madeNumber,
+  madeNet,
   callNumber,
   callNet,
-  pointNumber,
-  pointFound,
+  foundNumber,
+  foundPlaces,
   projectNumber,
   projectBits,
   projectDirection,
 };
-use crate::answers::number_of;
-use crate::answers::write_found;
 use crate::answers::write_projection;
 use crate::lent::PLACES;
-use crate::lent::lend;
-use crate::lent::net_of;
+use crate::lent::byte_of;
+use crate::lent::nine;
+use crate::lent::put_head;
 use machine::Call;
 use machine::Weights;
-use moves::point;
-use nets::perform;
+use nets::find_point;
+use nets::first_net;
+use nets::take_move;
 use opening::open;
 use projection::project;
 use text::Written;
 use text::write_text;
+
+// How many of them are the entries'.
+const ENTRIES: usize = 180;
 
 // Opens a record: its first net goes into the lent places, or nothing does, and the offset of the
 // refusal is told.
@@ -46,14 +51,49 @@ pub extern "C" fn gadwemosh_open(input: &[u8], net: &mut [i64], offset: &mut u64
         *offset = 0;
         return 11;
     }
-    let opened = open(input);
+    let opened = open(input, &mut net[2..PLACES]);
     let refusal = opened.refusal;
     *offset = refusal.offset as u64;
     if refusal.number != 0 {
         return refusal.number;
     }
-    let first = opened.net;
-    lend(net, first);
+    put_head(net, opened.kind, opened.degree);
+    0
+}
+
+// Makes the first net of polynomials over a frame, without a record: nine numbers of a frame, of which a
+// curve takes four, and 180 coefficients, of which the kind and degree take the first ones.
+#[no_mangle]
+pub extern "C" fn gadwemosh_first(
+    kind: u8,
+    degree: u8,
+    frame: &[i64],
+    coefficients: &[i64],
+    net: &mut [i64],
+) -> u8
+    ensures number { λ b. ⌜ b ≡ madeNumber kind degree (now (frame .entry)) (now (coefficients .entry)) (now (net .entry)) ⌝ }
+    ensures net { λ _. ⌜ now (net .exit) ≡ madeNet kind degree (now (frame .entry)) (now (coefficients .entry)) (now (net .entry)) ⌝ }
+{
+    if frame.len() < 9 {
+        return 11;
+    }
+    if coefficients.len() < ENTRIES {
+        return 11;
+    }
+    if net.len() < PLACES {
+        return 11;
+    }
+    let number = first_net(
+        &mut net[2..PLACES],
+        kind,
+        degree,
+        nine(frame),
+        &coefficients[0..ENTRIES],
+    );
+    if number != 0 {
+        return number;
+    }
+    put_head(net, kind, degree);
     0
 }
 
@@ -73,42 +113,32 @@ pub extern "C" fn gadwemosh_move(
     if net.len() < PLACES {
         return 11;
     }
-    let handed = net_of(&*net);
+    let kind = byte_of(net[0]);
+    let degree = byte_of(net[1]);
     let weights = Weights { r, s, t };
-    let step = perform(
-        handed,
-        Call::Move {
-            operation,
-            vertex,
-            weights,
-        },
-    );
-    let answer = step.answer;
-    let number = number_of(answer);
-    if number != 0 {
-        return number;
-    }
-    let left = step.net;
-    lend(net, left);
-    0
+    take_move(
+        &mut net[2..PLACES],
+        kind,
+        degree,
+        operation,
+        vertex,
+        weights,
+    )
 }
 
 // Finds a point on a lent net: x, y, z and w go into the first four places of `found`.
 #[no_mangle]
 pub extern "C" fn gadwemosh_point(net: &[i64], r: i64, s: i64, t: i64, found: &mut [i64]) -> u8
-    ensures number { λ b. ⌜ b ≡ pointNumber (Call.Point (record { r = r; s = s; t = t })) (now (net .entry)) (now (found .entry)) ⌝ }
-    ensures found { λ _. ⌜ now (found .exit) ≡ pointFound (Call.Point (record { r = r; s = s; t = t })) (now (net .entry)) (now (found .entry)) ⌝ }
+    ensures number { λ b. ⌜ b ≡ foundNumber (Call.Point (record { r = r; s = s; t = t })) (now (net .entry)) (now (found .entry)) ⌝ }
+    ensures found { λ _. ⌜ now (found .exit) ≡ foundPlaces (Call.Point (record { r = r; s = s; t = t })) (now (net .entry)) (now (found .entry)) ⌝ }
 {
-    if found.len() < 4 {
-        return 11;
-    }
     if net.len() < PLACES {
         return 11;
     }
-    let handed = net_of(net);
-    let step = point(handed, Weights { r, s, t });
-    let answer = step.answer;
-    write_found(found, answer)
+    let kind = byte_of(net[0]);
+    let degree = byte_of(net[1]);
+    let weights = Weights { r, s, t };
+    find_point(&net[2..PLACES], kind, degree, weights, found)
 }
 
 // Projects four numbers: a finite point's bit patterns go into `bits`, a direction's numbers into

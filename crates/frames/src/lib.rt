@@ -1,6 +1,6 @@
 // What is refused of a record's numbers before a net is made of them: its frame (refusal 5) and its
-// coefficients (refusals 4 and 6). `frame_in`, `known_kind` and `coefficients_in` judge any numbers,
-// as specs/Kinds.antt and specs/First.antt of the crate machine say. `vertex_count` and
+// coefficients (refusals 4 and 6). `frame_in`, `known_kind`, `coefficient_in` and `coefficients_in` judge
+// any numbers, as specs/Kinds.antt and specs/First.antt of the crate machine say. `vertex_count` and
 // `coefficient_count` say how many numbers a kind and degree have; the rest are parts of these.
 ghost use mathlib.Core.Path.{_≡_};
 ghost use mathlib.Core.Bool.{true, _&&_};
@@ -165,13 +165,24 @@ pub fn coefficient_count(kind: u8, degree: u8) -> usize
     4
 }
 
-// Whether the kind and degree are known and the coefficients within their limit.
-pub fn coefficients_in(kind: u8, degree: u8, coefficients: [i64; 180]) -> bool
-    ensures { λ b. ⌜ b ≡ (known kind degree && coefficientsIn (record { kind = kind; degree = degree; coefficients = coefficients })) ⌝ }
+// Whether one coefficient is within the limit.
+pub fn coefficient_in(v: i64) -> bool
+    ensures { λ r. ⌜ r ≡ within 1048576 v ⌝ }
+{
+    is_within(v, COEFFICIENT_LIMIT)
+}
+
+// Whether the kind and degree are known and the coefficients within their limit. Where there are fewer
+// than the kind and degree have, those that there are decide.
+pub fn coefficients_in(kind: u8, degree: u8, coefficients: &[i64]) -> bool
+    ensures { λ b. ⌜ b ≡ (known kind degree && coefficientsIn (record { kind = kind; degree = degree; coefficients = now (coefficients .entry) })) ⌝ }
 {
     if !known_kind(kind, degree) {
         return false;
     }
     let n = coefficient_count(kind, degree);
-    all_within(&coefficients, n, COEFFICIENT_LIMIT)
+    if coefficients.len() < n {
+        return all_within(coefficients, coefficients.len(), COEFFICIENT_LIMIT);
+    }
+    all_within(coefficients, n, COEFFICIENT_LIMIT)
 }

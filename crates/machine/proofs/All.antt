@@ -19,6 +19,24 @@ pub and-parts : (a b : Bool) → (a && b) ≡ true → (a ≡ true) × (b ≡ tr
 and-parts true b h = (refl, h)
 and-parts false b h = absurd (clash h refl)
 
+pub and-assoc : (a b c : Bool) → ((a && b) && c) ≡ (a && (b && c))
+and-assoc true b c = refl
+and-assoc false b c = refl
+
+pub and-one : (b : Bool) → (b && true) ≡ b
+and-one true = refl
+and-one false = refl
+
+pub and-none : (b : Bool) → (b && false) ≡ false
+and-none true = refl
+and-none false = refl
+
+-- two answers that hold together are one
+pub both-ways : (a b : Bool) → (a ≡ true → b ≡ true) → (b ≡ true → a ≡ true) → a ≡ b
+both-ways true b h k = sym (h refl)
+both-ways false true h k = k refl
+both-ways false false h k = refl
+
 module _ {A : Type 0} (test : A → Bool) where
   pub all-pass : (xs : List A) → ((x : A) → List·Memᴰ x xs → test x ≡ true) → all test xs ≡ true
   all-pass [] h = refl
@@ -37,10 +55,6 @@ module _ {A : Type 0} (test : A → Bool) where
   pub all-append : (xs ys : List A) → all test (xs ++ ys) ≡ (all test xs && all test ys)
   all-append [] ys = refl
   all-append (x ∷ xs) ys = ap (λ b. test x && b) (all-append xs ys) ∙ sym (and-assoc (test x) (all test xs) (all test ys))
-    where
-      and-assoc : (a b c : Bool) → ((a && b) && c) ≡ (a && (b && c))
-      and-assoc true b c = refl
-      and-assoc false b c = refl
 
   pub all-joined : {B : Type 0} (f : B → List A) (xs : List B) → all test (joined f xs) ≡ all (λ x. all test (f x)) xs
   all-joined f [] = refl

@@ -10,7 +10,7 @@ use Rattle.machine.specs.Kinds.{further, known, unless, firstOf}
 use Rattle.machine.specs.Nets.{stepOf}
 use Rattle.machine.specs.Comparison.{Polynomials, Frame, machineStep, netOver}
 use Rattle.machine.specs.Lists.{netAfter, netAnswers, frameAfter, machineAnswers}
-use Rattle.machine.specs.First.{frameOf, frameIn, coefficientsIn, netIn, firstRefusal, firstBy, firstOver}
+use Rattle.machine.specs.First.{frameOf, frameIn, coefficientsIn, netIn, firstRefusal}
 use Rattle.machine.specs.Demand3.{start, startFrame, EveryList, SameFrame}
 use Rattle.machine.specs.declared.Call.{Call}
 use Rattle.machine.proofs.All.{first-none, unless-none}
@@ -40,10 +40,6 @@ reached-after f frame at (c ∷ cs) = reached-after f (machineStep f frame c .fr
 -- ---- the start
 
 module _ (f : Polynomials) (numbers : List ℤ) (ok : firstRefusal f numbers ≡ 0) where
-  pub start-is : start f numbers ≡ netOver f (startFrame f numbers)
-  unfolding firstOver firstBy
-  start-is = ap (λ k. firstBy k f numbers .net) ok
-
   pub start-reached : Reached f (startFrame f numbers)
   unfolding frameOf firstRefusal
   start-reached =
@@ -61,8 +57,8 @@ module _ (f : Polynomials) (numbers : List ℤ) (ok : firstRefusal f numbers ≡
 
 pub every-list : EveryList
 every-list f numbers ok calls = (
-  ap (λ n. netAfter n calls) (start-is f numbers ok) ∙ nets-agree f (startFrame f numbers) (start-reached f numbers ok) calls,
-  ap (λ n. netAnswers n calls) (start-is f numbers ok) ∙ answers-agree f (startFrame f numbers) (start-reached f numbers ok) calls,
+  nets-agree f (startFrame f numbers) (start-reached f numbers ok) calls,
+  answers-agree f (startFrame f numbers) (start-reached f numbers ok) calls,
 )
 
 pub same-frame : SameFrame

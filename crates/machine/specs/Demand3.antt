@@ -10,13 +10,13 @@ use lib.IntN.{ℤ}
 use Rattle.machine.specs.Kinds.{further}
 use Rattle.machine.specs.Comparison.{Polynomials, Frame, netOver}
 use Rattle.machine.specs.Lists.{netAfter, netAnswers, frameAfter, machineAnswers}
-use Rattle.machine.specs.First.{frameOf, firstRefusal, firstOver}
+use Rattle.machine.specs.First.{frameOf, firstNet, firstRefusal}
 use Rattle.machine.specs.declared.Net.{Net}
 use Rattle.machine.specs.declared.Call.{Call}
 
 -- the first net and the first frame of a record
 abbrev pub start : Polynomials → List ℤ → Net
-start f numbers = firstOver f numbers .net
+start f numbers = firstNet f numbers
 
 abbrev pub startFrame : Polynomials → List ℤ → Frame
 startFrame f numbers = frameOf (suc (further (f .kind))) numbers

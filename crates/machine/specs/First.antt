@@ -13,7 +13,6 @@ use Rattle.machine.specs.Kinds.{further, known, within, all, firstOf, un
 use Rattle.machine.specs.Nets.{used}
 use Rattle.machine.specs.Comparison.{Polynomials, Frame, netOver}
 use Rattle.machine.specs.declared.Net.{Net}
-use Rattle.machine.specs.declared.First.{First}
 
 -- a frame from its numbers, d numbers for each of d vertices
 unfoldable pub frameOf : ℕ → List ℤ → Frame
@@ -46,21 +45,13 @@ coefficientsIn f = all (within 1048576) (take (4 * length (monomials (further (f
 unfoldable pub netIn : Net → Bool
 netIn net = all inRange (take (used (net .kind) (net .degree)) (net .entries))
 
+-- the first net of polynomials over a frame
+abbrev pub firstNet : Polynomials → List ℤ → Net
+firstNet f numbers = netOver f (frameOf (suc (further (f .kind))) numbers)
+
 -- the number of the refusal, in the order of the table; 7 is a first net out of range
 unfoldable pub firstRefusal : Polynomials → List ℤ → ℕ
 firstRefusal f numbers =
     let d = suc (further (f .kind)) in
     firstOf (unless (known (f .kind) (f .degree)) 4)
-    (firstOf (unless (frameIn d numbers) 5) (firstOf (unless (coefficientsIn f) 6) (unless (netIn (netOver f (frameOf d numbers))) 7)))
-
--- a refused record gives no net: kind and degree 0, and zeros
-unfoldable pub noNet : Net
-noNet = record { kind = 0; degree = 0; entries = replicate 180 (pos 0) }
-
-unfoldable pub firstBy : ℕ → Polynomials → List ℤ → First
-firstBy zero f numbers = record { refusal = 0; net = netOver f (frameOf (suc (further (f .kind))) numbers) }
-firstBy (suc k) f numbers = record { refusal = suc k; net = noNet }
-
--- the first net, or the refusal
-unfoldable pub firstOver : Polynomials → List ℤ → First
-firstOver f numbers = firstBy (firstRefusal f numbers) f numbers
+    (firstOf (unless (frameIn d numbers) 5) (firstOf (unless (coefficientsIn f) 6) (unless (netIn (firstNet f numbers)) 7)))

@@ -7,4 +7,5 @@ pub mod Lists
 pub mod First
 pub mod Demand3
 pub mod Answers
+pub mod Lent
 pub mod Samples

@@ -52,9 +52,3 @@ pub struct Step {
     pub answer: Answer,
     pub net: Net,
 }
-
-// What the making of a first net hands back: the number of the refusal, or 0, and the net.
-pub struct First {
-    pub refusal: u8,
-    pub net: Net,
-}

@@ -6,7 +6,7 @@ use native.Mathlib.Omega.{arith}
 use mathlib.Core.Path.{_≡_, refl, sym, ap, ap₂, _∙_, subst}
 use mathlib.Core.List.{List, [], _∷_, _++_}
 use lib.IntN.{ℤ, pos, _+ℤ_, _*ℤ_}
-use lib.ListN.{length, getD, drop}
+use lib.ListN.{length, getD, take, drop}
 use mir.Syntax.{w64}
 use mir.Val.{SFits}
 use Rattle.integers.proofs.Signed.{back-fits}
@@ -16,11 +16,13 @@ use Rattle.entries.specs.Entries.{entryAt, fixed, raise}
 use Rattle.entries.proofs.Places.{rank, offset, length-counts}
 use Rattle.entries.proofs.Listed.{size, net-ext, entry-rank}
 use Rattle.entries.proofs.Form.{total-raise, length-raise}
-use Rattle.machine.specs.Kinds.{further}
-use Rattle.nets.specs.Rows.{written, mixed, Bounded, rowsBlended, blended}
+use Rattle.machine.specs.Kinds.{further, within, all}
+use Rattle.machine.specs.Nets.{used}
+use Rattle.nets.specs.Rows.{written, mixed, ranged, Bounded, Sized, rowsBlended, blended}
 use Rattle.nets.proofs.Row.{seen}
-use Rattle.nets.proofs.Lists.{length-written, written-outside, written-at}
-use Rattle.nets.proofs.Ranks.{rank-curve, rank-patch, by-two, by-three, length-one, tri-suc, tri-mono, tri-nine, used-patch}
+use Rattle.nets.proofs.Lists.{length-written, written-outside, written-at, ranged-list}
+use Rattle.nets.proofs.Collect.{smaller, used-room}
+use Rattle.nets.proofs.Ranks.{rank-curve, rank-patch, by-two, by-three, length-one, tri-suc, tri-mono, tri-nine, used-curve, used-patch}
 use Rattle.nets.proofs.PatchRows.{tri, length-rows, rows-still, rows-at}
 
 -- the numbers of an entry of degree 1 + m with one more copy of a vertex
@@ -120,3 +122,20 @@ module _ (xs ys : List ℤ) (kind : ℕ) (r s t : ℤ) (fr : SFits w64 r) (fs : 
       ∙ (λ i. rowsBlended xs (back-fits fr i ∷ back-fits fs i ∷ back-fits ft i ∷ []) (suc m))
       ∙ patch-blended xs m r s t (let up = tri-mono (suc m) 9 (omega arith) in omega (arith, up, tri-nine, long))
       ∙ ap (λ n. blended (further n) m (r ∷ s ∷ t ∷ []) xs) (sym k)
+
+-- ---- the numbers that a blend makes
+
+pub curve-whole : (kind degree : ℕ) → kind ≡ 1 → 1 ≤ degree → used kind (pred degree) ≡ 4 * degree
+curve-whole kind zero one h = absurd (not-suc-le-zero h)
+curve-whole kind (suc m) one h = ap (λ k. used k m) one ∙ used-curve m ∙ ap (λ k. 4 * k) (add-one m)
+
+pub patch-whole : (kind degree : ℕ) → kind ≡ 2 → 1 ≤ degree → used kind (pred degree) ≡ 4 * tri degree
+patch-whole kind zero two h = absurd (not-suc-le-zero h)
+patch-whole kind (suc m) two h = ap (λ k. used k m) two ∙ used-patch m ∙ ap (λ k. 4 * tri k) (add-one m)
+
+-- the test of all of them is the test of the level
+pub level-ranged : (limit kind degree : ℕ) (ys : List ℤ) → Sized kind degree → 1 ≤ degree → length ys ≡ 180 → (k : ℕ) → used kind (pred degree) ≡ k
+    → ranged limit (λ i. getD ys i (pos 0)) 0 k ≡ all (within limit) (take (used kind (pred degree)) ys)
+level-ranged limit kind degree ys s one long k whole =
+    ap (ranged limit (λ i. getD ys i (pos 0)) 0) (sym whole)
+    ∙ ranged-list limit ys (used kind (pred degree)) (subst (λ n. used kind (pred degree) ≤ n) (sym long) (used-room kind (pred degree) (smaller s (omega arith))))

@@ -16,7 +16,6 @@ use Rattle.entries.proofs.Listed.{rank-below}
 use Rattle.machine.specs.Kinds.{further}
 use Rattle.machine.specs.Nets.{used}
 use Rattle.nets.specs.Rows.{Sized, placeAt}
-use Rattle.nets.specs.Levels.{copied, inserted, others, collectedOne, collected}
 use Rattle.nets.proofs.Ranks.{rank-curve, rank-patch, tri-suc, tri-mono, tri-nine, used-curve, used-patch}
 
 -- ---- the two kinds
@@ -38,45 +37,8 @@ place-below kind n k s h =
     by-kind (λ i. Sized i n → 4 * placeAt i n k + 4 ≤ 180) kind n s (λ t. let z = t .sized in omega arith)
     (λ t. let z = t .sized in let up = tri-mono (suc n) 9 (omega arith) in omega (arith, up, tri-suc n, tri-nine)) s
 
--- of the first vertex, any number of copies
-pub place-first : (kind degree h x z : ℕ) → Sized kind degree → h + x ≤ degree → x ≤ (kind - 1) * degree
-    → placeAt kind (degree - h) x ≡ rank (further kind) (inserted 0 z (others kind (degree - h) x))
-place-first kind degree h x z s a =
-    by-kind (λ i. x ≤ (i - 1) * degree → placeAt i (degree - h) x ≡ rank (further i) (inserted 0 z (others i (degree - h) x))) kind degree s
-    (λ b. sym (rank-curve z (degree - h)))
-    (λ b. sym (rank-patch z (degree - h - x) x ∙ ap (λ y. offset (counts 1) y + x) (sum-is a)))
-  where
-    sum-is : h + x ≤ degree → degree - h - x + x ≡ degree - h
-    sum-is q = omega arith
-
-pub place-second : (kind degree h x z : ℕ) → Sized kind degree → h + x ≤ degree → x ≤ (kind - 1) * degree
-    → placeAt kind (z + x) x ≡ rank (further kind) (inserted 1 z (others kind (degree - h) x))
-place-second kind degree h x z s a =
-    by-kind (λ i. x ≤ (i - 1) * degree → placeAt i (z + x) x ≡ rank (further i) (inserted 1 z (others i (degree - h) x))) kind degree s
-    (λ b. let none : x ≡ 0 = omega arith in ap (λ y. z + y) none ∙ add-zero z ∙ sym (rank-curve (degree - h) z))
-    (λ b. sym (rank-patch (degree - h - x) z x))
-
-pub place-third : (kind degree h x z : ℕ) → kind ≡ 2 → placeAt kind (z + x) z ≡ rank (further kind) (inserted 2 z (others kind (degree - h) x))
-place-third kind degree h x z k =
-    subst (λ i. placeAt i (z + x) z ≡ rank (further i) (inserted 2 z (others i (degree - h) x))) (sym k)
-    (ap (λ y. offset (counts 1) y + z) (native.Mathlib.Nat.add-comm z x) ∙ sym (rank-patch (degree - h - x) x z))
-
 pub smaller : {kind degree m : ℕ} → Sized kind degree → m ≤ degree → Sized kind m
 smaller s h = record { low = s .low; high = s .high; sized = let z = s .sized in omega arith }
-
--- a copy between the places of the code is a copy between the ranks
-pub copy-places : (kind w degree h x : ℕ) (out xs : List ℤ) (to from v : ℕ) → w ≡ v
-    → to ≡ rank (further kind) (inserted v h (others kind (degree - h) x)) → from ≡ rank (further kind) (inserted v 0 (others kind (degree - h) x))
-    → {ys : List ℤ} → ys ≡ copied out to xs from → ys ≡ collectedOne kind w degree h x out xs
-copy-places kind w degree h x out xs to from v e a b is =
-    is ∙ ap₂ (λ p q. copied out p xs q) a b ∙ ap (λ u. collectedOne kind u degree h x out xs) (sym e)
-
--- what a turn may ask for, from how far x goes
-pub turn-within : (kind degree h x last : ℕ) → Sized kind degree → h ≤ degree → last ≡ (kind - 1) * (degree - h) → x ≤ last → (h + x ≤ degree) × (x ≤ (kind - 1) * degree) × (last ≤ 10)
-turn-within kind degree h x last s a =
-    by-kind (λ i. Sized i degree → last ≡ (i - 1) * (degree - h) → x ≤ last → (h + x ≤ degree) × (x ≤ (i - 1) * degree) × (last ≤ 10)) kind degree s
-    (λ t e b. let z = t .sized in (omega arith, omega arith, omega arith))
-    (λ t e b. let z = t .sized in (omega arith, omega arith, omega arith)) s
 
 -- a net of a known kind and degree fits the array
 pub used-room : (kind degree : ℕ) → Sized kind degree → used kind degree ≤ 180

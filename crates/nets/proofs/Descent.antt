@@ -15,10 +15,9 @@ use Rattle.machine.specs.Kinds.{further, all}
 use Rattle.machine.specs.Nets.{used}
 use Rattle.machine.specs.Sizes.{allNamed}
 use Rattle.nets.specs.Rows.{Sized, Bounded, blended, level}
-use Rattle.nets.specs.Levels.{valuesOf, namedAt, collected}
+use Rattle.nets.specs.Levels.{valuesOf, namedAt}
 use Rattle.nets.proofs.Collect.{by-kind, smaller, used-room}
-use Rattle.nets.proofs.LevelValues.{size-mono, range-bounded, length-level, level-named, level-next, named-all, named-first, named-next, named-fails, Made, made-next}
-use Rattle.nets.proofs.Collected.{whole-at, whole-else, whole-past, whole-length}
+use Rattle.nets.proofs.LevelValues.{size-mono, range-bounded, length-level, level-named, level-next, named-all, named-first, named-next, named-fails}
 
 -- where the numbers cur of a net stand after h levels
 pub record At (kind m : ℕ) (ws xs cur : List ℤ) (h : ℕ) : Type 0 where
@@ -92,30 +91,3 @@ module _ (kind m : ℕ) (ws xs : List ℤ) (sized : Sized kind m) (long : length
   at-last cur h a done =
       let all-levels : h ≡ m = omega (arith, a .below) in
       (sym (named-all n m ws xs size-room ∙ subst (λ k. all (namedAt n m ws xs) (upto (suc k)) ≡ true) all-levels (a .named)), a .reached ∙ ap (λ k. level n m ws k xs) all-levels)
-
-  -- one level more is collected into the new net
-  pub made-turn : (v h : ℕ) (out cur ys : List ℤ) → v ≤ further kind → suc h ≤ m → Made n m ws xs v out h → cur ≡ level n m ws (suc h) xs → length out ≡ 180
-      → ys ≡ collected kind v m (suc h) (suc ((kind - 1) * (m - suc h))) out cur → Made n m ws xs v ys (suc h)
-  unfolding used
-  made-turn v h out cur ys vertex more made at-level long-out is =
-      made-next n m ws xs size-room v h out ys more made
-      (λ e c k l t p.
-      ap (λ z. getD z (4 * rank n e + c) (pos 0)) is ∙ whole-at kind v m (suc h) sized vertex more out cur out-room e c k l t p
-      ∙ ap (λ z. getD z (4 * rank n (set e v 0) + c) (pos 0)) at-level)
-      (λ e c k l t p. ap (λ z. getD z (4 * rank n e + c) (pos 0)) is ∙ whole-else kind v m (suc h) sized vertex more out cur out-room e c k l t p)
-      (λ i p. ap (λ z. getD z i (pos 0)) is ∙ whole-past kind v m (suc h) sized vertex more out cur out-room i p)
-      (ap length is ∙ whole-length kind v m (suc h) sized vertex more out cur out-room)
-    where
-      out-room : used kind m ≤ length out
-      out-room = subst (λ k. used kind m ≤ k) (sym long-out) (used-room kind m sized)
-
-  -- as the code makes it: the level is reached, and its values are collected
-  pub made-again : (vertex h : ℕ) (out cur ys : List ℤ) → 1 ≤ vertex → vertex ≤ kind + 1 → h < m → Made n m ws xs (pred vertex) out h → At kind m ws xs cur (h + 1)
-      → ys ≡ collected kind (pred vertex) m (h + 1) (suc ((kind - 1) * (m - (h + 1)))) out cur → Made n m ws xs (pred vertex) ys (h + 1)
-  made-again vertex h out cur ys one top more made at is =
-      subst (λ k. Made n m ws xs (pred vertex) ys k) (sym (add-one h))
-      (made-turn (pred vertex) h out cur ys (omega (arith, further-is)) more made (at .reached ∙ ap (λ k. level n m ws k xs) (add-one h)) (made .long ∙ long)
-      (is ∙ ap (λ k. collected kind (pred vertex) m k (suc ((kind - 1) * (m - k))) out cur) (add-one h)))
-    where
-      further-is : further kind ≡ kind
-      further-is = by-kind (λ i. further i ≡ i) kind m sized refl refl

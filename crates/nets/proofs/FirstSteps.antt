@@ -1,19 +1,21 @@
--- The first net's refusals, test by test in the table's order, and what the accepted frame and coefficients give the code.
-use Prim.Native.Nat.{ℕ, suc, _+_, _*_, _≤_, _<_}
+-- What the making of a first net answers, test by test in the order of the code, and what the accepted frame and coefficients give it.
+use Prim.Native.Nat.{ℕ, suc, _*_, _≤_, _<_}
 use native.Mathlib.Omega.{arith}
 use mathlib.Core.Path.{_≡_, refl, sym, ap, ap₂, _∙_, subst}
 use mathlib.Core.Bool.{Bool, true, false, _&&_, not, cond}
 use mathlib.Core.List.{List}
+use lib.Dec.{eqb}
 use lib.IntN.{ℤ, pos, natAbs}
 use lib.ListN.{length, getD, take}
-use borrow.Author.Tests.{leb-true}
+use borrow.Author.Tests.{leb-true, eq-eqb, ne-eqb}
 use Rattle.polar.specs.Order.{monomials}
-use Rattle.projection.specs.Projection.{isZero}
+use Rattle.projection.specs.Projection.{inRange, isZero}
 use Rattle.machine.specs.Kinds.{further, known, within, all, firstOf, unless}
+use Rattle.machine.specs.Nets.{used}
 use Rattle.machine.specs.Comparison.{Polynomials, netOver}
-use Rattle.machine.specs.First.{frameOf, determinant, frameIn, coefficientsIn, netIn, firstRefusal, noNet, firstBy, firstOver}
+use Rattle.machine.specs.First.{frameOf, determinant, frameIn, coefficientsIn, netIn, firstRefusal}
+use Rattle.machine.specs.Lent.{whole, firstNumber, firstEntries}
 use Rattle.machine.specs.declared.Net.{Net}
-use Rattle.machine.specs.declared.First.{First}
 use Rattle.machine.proofs.All.{and-parts}
 use Rattle.nets.specs.Rows.{Sized}
 use Rattle.nets.specs.FirstNet.{FrameWithin}
@@ -45,50 +47,59 @@ coefficients-limited f s long ok i b =
     (all-take (within 1048576) (4 * length (monomials (further (f .kind)) (f .degree))) (f .coefficients)
     (subst (λ k. 4 * length (monomials (further (f .kind)) (f .degree)) ≤ k) (sym long) (monomials-room (f .kind) (f .degree) s)) ok i b)
 
--- ---- the net
+-- ---- the answers in the order of the tests
 
-pub net-made : (f : Polynomials) (frame : List (List ℤ)) (ys : List ℤ) → ys ≡ netOver f frame .entries
-    → _≡_ {A = Net} (record { kind = f .kind; degree = f .degree; entries = ys }) (netOver f frame)
-unfolding netOver
-net-made f frame ys is = ap (λ l. record { kind = f .kind; degree = f .degree; entries = l }) is
-
--- ---- the refusals in their order
-
-module _ (f : Polynomials) (numbers : List ℤ) where
+module _ (f : Polynomials) (numbers entries : List ℤ) where
   abbrev net : Net
   net = netOver f (frameOf (suc (further (f .kind))) numbers)
 
-  -- the refusal by the four tests
-  by-tests : {a b c d : Bool} → known (f .kind) (f .degree) ≡ a → frameIn (suc (further (f .kind))) numbers ≡ b → coefficientsIn f ≡ c → netIn net ≡ d
-      → firstRefusal f numbers ≡ firstOf (unless a 4) (firstOf (unless b 5) (firstOf (unless c 6) (unless d 7)))
-  unfolding firstRefusal
-  by-tests p q r s =
-      ap₂ (λ x y. firstOf (unless x 4) y) p (ap₂ (λ x y. firstOf (unless x 5) y) q (ap₂ (λ x y. firstOf (unless x 6) (unless y 7)) r s))
+  -- what is answered, and what stands in the lent places afterwards
+  abbrev pub Answered : ℕ → List ℤ → Type 0
+  Answered k ys = (k ≡ firstNumber f numbers entries) × (ys ≡ firstEntries f numbers entries)
 
-  first-is : (k : ℕ) → firstRefusal f numbers ≡ k → firstOver f numbers ≡ firstBy k f numbers
-  unfolding firstOver
-  first-is k e = ap (λ j. firstBy j f numbers) e
+  answered : (k : ℕ) (ys : List ℤ) → firstNumber f numbers entries ≡ k → ys ≡ cond (eqb k 0) (net .entries) entries → Answered k ys
+  unfolding firstEntries
+  answered k ys e is = (sym e, is ∙ ap (λ j. cond (eqb j 0) (net .entries) entries) (sym e))
 
-  abbrev Refused : ℕ → Type 0
-  Refused k = _≡_ {A = First} (record { refusal = k; net = noNet }) (firstOver f numbers)
+  by-places : {a b : Bool} → whole (f .coefficients) ≡ a → whole entries ≡ b → firstNumber f numbers entries ≡ cond (a && b) (firstRefusal f numbers) 11
+  unfolding firstNumber
+  by-places p q = ap₂ (λ x y. cond (x && y) (firstRefusal f numbers) 11) p q
 
-  pub kind-refused : known (f .kind) (f .degree) ≡ false → Refused 4
-  unfolding firstBy
-  kind-refused p = sym (first-is 4 (by-tests p refl refl refl))
+  pub coefficients-short : (length (f .coefficients) ≡ 180 → ⊥) → Answered 11 entries
+  coefficients-short p = answered 11 entries (by-places (ne-eqb (length (f .coefficients)) 180 p) refl) refl
 
-  pub frame-refused : known (f .kind) (f .degree) ≡ true → frameIn (suc (further (f .kind))) numbers ≡ false → Refused 5
-  unfolding firstBy
-  frame-refused p q = sym (first-is 5 (by-tests p q refl refl))
+  module _ (long : length (f .coefficients) ≡ 180) where
+    pub entries-short : (length entries ≡ 180 → ⊥) → Answered 11 entries
+    entries-short p = answered 11 entries (by-places (eq-eqb (length (f .coefficients)) 180 long) (ne-eqb (length entries) 180 p)) refl
 
-  pub coefficients-refused : known (f .kind) (f .degree) ≡ true → frameIn (suc (further (f .kind))) numbers ≡ true → coefficientsIn f ≡ false → Refused 6
-  unfolding firstBy
-  coefficients-refused p q r = sym (first-is 6 (by-tests p q r refl))
+    module _ (room : length entries ≡ 180) where
+      -- the number by the four tests
+      by-tests : {a b c d : Bool} → known (f .kind) (f .degree) ≡ a → frameIn (suc (further (f .kind))) numbers ≡ b → coefficientsIn f ≡ c → netIn net ≡ d
+          → firstNumber f numbers entries ≡ firstOf (unless a 4) (firstOf (unless b 5) (firstOf (unless c 6) (unless d 7)))
+      unfolding firstRefusal
+      by-tests p q r s =
+          by-places (eq-eqb (length (f .coefficients)) 180 long) (eq-eqb (length entries) 180 room)
+          ∙ ap₂ (λ x y. firstOf (unless x 4) y) p (ap₂ (λ x y. firstOf (unless x 5) y) q (ap₂ (λ x y. firstOf (unless x 6) (unless y 7)) r s))
 
-  pub net-refused : known (f .kind) (f .degree) ≡ true → frameIn (suc (further (f .kind))) numbers ≡ true → coefficientsIn f ≡ true → netIn net ≡ false → Refused 7
-  unfolding firstBy
-  net-refused p q r s = sym (first-is 7 (by-tests p q r s))
+      pub kind-refused : known (f .kind) (f .degree) ≡ false → Answered 4 entries
+      kind-refused p = answered 4 entries (by-tests p refl refl refl) refl
 
-  pub first-accepted : known (f .kind) (f .degree) ≡ true → frameIn (suc (further (f .kind))) numbers ≡ true → coefficientsIn f ≡ true → netIn net ≡ true
-      → (made : Net) → made ≡ net → _≡_ {A = First} (record { refusal = 0; net = made }) (firstOver f numbers)
-  unfolding firstBy
-  first-accepted p q r s made is = ap (λ n. record { refusal = 0; net = n }) is ∙ sym (first-is 0 (by-tests p q r s))
+      module _ (is-known : known (f .kind) (f .degree) ≡ true) where
+        pub frame-refused : frameIn (suc (further (f .kind))) numbers ≡ false → Answered 5 entries
+        frame-refused q = answered 5 entries (by-tests is-known q refl refl) refl
+
+        module _ (is-framed : frameIn (suc (further (f .kind))) numbers ≡ true) where
+          pub coefficients-refused : coefficientsIn f ≡ false → Answered 6 entries
+          coefficients-refused r = answered 6 entries (by-tests is-known is-framed r refl) refl
+
+          module _ (is-limited : coefficientsIn f ≡ true) (made : List ℤ) (is : made ≡ net .entries) (count : ℕ) (counted : count ≡ used (f .kind) (f .degree)) where
+            -- the numbers tested are those of the entries
+            range : {b : Bool} → all inRange (take count made) ≡ b → netIn net ≡ b
+            unfolding netIn netOver
+            range e = ap₂ (λ k l. all inRange (take k l)) (sym counted) (sym is) ∙ e
+
+            pub net-refused : all inRange (take count made) ≡ false → Answered 7 entries
+            net-refused e = answered 7 entries (by-tests is-known is-framed is-limited (range e)) refl
+
+            pub net-accepted : all inRange (take count made) ≡ true → (ys : List ℤ) → ys ≡ made → Answered 0 ys
+            net-accepted e ys same = answered 0 ys (by-tests is-known is-framed is-limited (range e)) (same ∙ is)

@@ -1,6 +1,6 @@
 -- The levels of a net: h blends give the polar values with h copies of q, and their ranges are the size rule's.
 use Prim.Native.Nat.{ℕ, zero, suc, pred, _+_, _*_, _-_, _^_, _≤_, _<_, suc-le-suc, zero-le}
-use native.Mathlib.Nat.{not-suc-le-zero, le-of-suc-le-suc, le-refl, mul-le-mul-right, sub-zero, sub-self, add-zero, zero-add}
+use native.Mathlib.Nat.{not-suc-le-zero, le-of-suc-le-suc, le-refl, mul-le-mul-right, sub-zero, sub-self, add-zero, add-suc, zero-add}
 use native.Mathlib.Omega.{arith}
 use native.Mathlib.Decide.{decLe, ℕ-discrete}
 use mathlib.Core.Path.{_≡_, refl, sym, ap, ap₂, _∙_, subst}
@@ -9,7 +9,7 @@ use mathlib.Core.Bool.{Bool, true, false, _&&_}
 use mathlib.Core.List.{List, [], _∷_, _++_, map, List·Memᴰ, List·Memᴰ·head, List·Memᴰ·tail, List·Memᴰ·not-nil, List·Memᴰ·cases-cons}
 use lib.IntN.{ℤ, pos, natAbs, _*ℤ_}
 use lib.ListN.{length, getD, set, take, drop, replicate, length-set, length-append, length-drop}
-use lib.Seq.{take-at, set-getD}
+use lib.Seq.{take-at, getD-append-add, getD-drop}
 use borrow.Author.Tests.{leb-true}
 use Rattle.integers.specs.Sum.{upto}
 use Rattle.integers.proofs.Sums.{sum-upto-cong, upto-snoc, upto-below}
@@ -22,7 +22,7 @@ use Rattle.entries.proofs.Listed.{size, length-listed, entry-listed, entry-rank
 use Rattle.projection.specs.Projection.{inRange}
 use Rattle.machine.specs.Kinds.{all}
 use Rattle.machine.specs.Sizes.{allNamed}
-use Rattle.machine.proofs.All.{all-cong, all-joined, all-map, all-append, and-true}
+use Rattle.machine.proofs.All.{all-cong, all-joined, all-map, all-append, and-true, and-none}
 use Rattle.machine.proofs.Over.{below-upto, total-set, total-zeros, length-zeros}
 use Rattle.nets.specs.Rows.{Bounded, blended, level}
 use Rattle.nets.specs.Levels.{valuesOf, replacedList, namedAt}
@@ -72,23 +72,48 @@ all-fails : {A : Type 0} (test : A → Bool) (xs : List A) (x : A) → List·Mem
 all-fails test [] x m e = absurd (List·Memᴰ·not-nil m)
 all-fails test (y ∷ xs) x m e = by (all-fails test xs x) (List·Memᴰ·cases-cons m)
   where
-    false-right : (b : Bool) → (b && false) ≡ false
-    false-right true = refl
-    false-right false = refl
-
     by : (List·Memᴰ x xs → test x ≡ false → all test xs ≡ false) → (x ≡ y) ⊎ List·Memᴰ x xs → (test y && all test xs) ≡ false
     by rest (inl p) = ap (λ b. b && all test xs) (ap test (sym p) ∙ e)
-    by rest (inr k) = ap (λ b. test y && b) (rest k e) ∙ false-right (test y)
+    by rest (inr k) = ap (λ b. test y && b) (rest k e) ∙ and-none (test y)
 
 pub entry-blended : (n d : ℕ) (ws ys : List ℤ) (c : ℕ) (e : List ℕ) → c < 4 → length e ≡ suc n → total e ≡ d → entryAt n d (blended n d ws ys) c e ≡ fixed (suc n) ws (entryAt n (suc d) ys c) 1 e
 unfolding blended
 entry-blended n d ws ys c e k l t = entry-listed n d (λ i. fixed (suc n) ws (entryAt n (suc d) ys i) 1) (drop (size n d) ys) c e k l t
 
--- The numbers `out` of the new net of degree m over 1 + n vertices, vertex v being replaced: the entries with at most h copies of v are made.
-pub record Made (n m : ℕ) (ws xs : List ℤ) (v : ℕ) (out : List ℤ) (h : ℕ) : Type 0 where
-  pub entries : (c : ℕ) (e : List ℕ) → c < 4 → length e ≡ suc n → total e ≡ m → getD e v 0 ≤ h → getD out (4 * rank n e + c) (pos 0) ≡ valuesOf n m ws xs c (getD e v 0) (set e v 0)
-  pub past : (i : ℕ) → size n m ≤ i → getD out i (pos 0) ≡ getD xs i (pos 0)
-  pub long : length out ≡ length xs
+-- past its entries a blend keeps what stood there
+pub blended-past : (n d : ℕ) (ws ys : List ℤ) (i : ℕ) → size n d ≤ i → getD (blended n d ws ys) i (pos 0) ≡ getD ys i (pos 0)
+unfolding blended
+blended-past n d ws ys i h =
+    ap (λ j. getD (front ++ drop (size n d) ys) j (pos 0)) place-is
+    ∙ getD-append-add front (drop (size n d) ys) (i - size n d) (pos 0)
+    ∙ getD-drop (size n d) ys (i - size n d) (pos 0)
+    ∙ ap (λ j. getD ys j (pos 0)) again
+  where
+    front : List ℤ
+    front = listed n d (λ c. fixed (suc n) ws (entryAt n (suc d) ys c) 1)
+
+    place-is : i ≡ length front + (i - size n d)
+    place-is = omega (arith, length-listed n d (λ c. fixed (suc n) ws (entryAt n (suc d) ys c) 1))
+
+    again : size n d + (i - size n d) ≡ i
+    again = omega arith
+
+-- an entry with few copies of the first vertex stands past the entries of a low degree
+rank-past : (n d : ℕ) (e : List ℕ) → length e ≡ suc n → d + getD e 0 0 < total e → length (counts n d) ≤ rank n e
+rank-past n d [] l h = absurd (not-suc-le-zero h)
+rank-past zero d (i ∷ e) l h = absurd (alone e l h)
+  where
+    alone : (r : List ℕ) → length (i ∷ r) ≡ 1 → d + i < i + total r → ⊥
+    alone [] q w = omega arith
+    alone (j ∷ r) q w = omega arith
+rank-past (suc n) d (i ∷ e) l h =
+    let up = offset-mono (counts n) (suc d) (total e) (omega arith) in
+    omega (arith, up, length-counts n d)
+
+rank-first : (n : ℕ) (e : List ℕ) → rank n (set e 0 0) ≡ rank n e
+rank-first zero e = refl
+rank-first (suc n) [] = refl
+rank-first (suc n) (i ∷ e) = refl
 
 module _ (n : ℕ) where
   -- a net's numbers are its entries' numbers
@@ -176,48 +201,28 @@ module _ (n : ℕ) where
 
     -- ---- the new net of a replaced vertex
 
-    pub made-first : (v : ℕ) → Made n m ws xs v xs 0
-    unfolding fixed
-    made-first v =
-        record {
-          entries =
-              λ c e k l t b.
-              let none : getD e v 0 ≡ 0 = omega arith in
-              sym (entry-rank n m xs c e l t) ∙ ap (entryAt n m xs c) (sym (set-getD e v 0) ∙ ap (set e v) none) ∙ sym (ap (λ h. values c h (set e v 0)) none);
-          past = λ i h. refl;
-          long = refl;
-        }
-
-    -- after one more level is collected
-    pub made-next : (v h : ℕ) (out ys : List ℤ) → suc h ≤ m → Made n m ws xs v out h
-        → ((e : List ℕ) (c : ℕ) → c < 4 → length e ≡ suc n → total e ≡ m → getD e v 0 ≡ suc h → getD ys (4 * rank n e + c) (pos 0) ≡ getD (at (suc h)) (4 * rank n (set e v 0) + c) (pos 0))
-        → ((e : List ℕ) (c : ℕ) → c < 4 → length e ≡ suc n → total e ≡ m → (getD e v 0 ≡ suc h → ⊥) → getD ys (4 * rank n e + c) (pos 0) ≡ getD out (4 * rank n e + c) (pos 0))
-        → ((i : ℕ) → size n m ≤ i → getD ys i (pos 0) ≡ getD out i (pos 0)) → length ys ≡ length out
-        → Made n m ws xs v ys (suc h)
-    made-next v h out ys b made new old past long =
-        record {
-          entries = λ c e k l t q. by c e k l t q (ℕ-discrete (getD e v 0) (suc h));
-          past = λ i p. past i p ∙ made .past i p;
-          long = long ∙ made .long;
-        }
+    -- an entry is last written on the level that has as many copies of q as the entry has of the first vertex
+    pub level-made : (c : ℕ) (e : List ℕ) → c < 4 → length e ≡ suc n → total e ≡ m → getD (at m) (4 * rank n e + c) (pos 0) ≡ values c (getD e 0 0) (set e 0 0)
+    unfolding level
+    level-made c e k l t =
+        ap (λ h. getD (at h) (4 * rank n e + c) (pos 0)) whole ∙ stays (m - getD e 0 0) (omega (arith, copies))
       where
-        by : (c : ℕ) (e : List ℕ) → c < 4 → length e ≡ suc n → total e ≡ m → getD e v 0 ≤ suc h → Dec (getD e v 0 ≡ suc h) → getD ys (4 * rank n e + c) (pos 0) ≡ values c (getD e v 0) (set e v 0)
-        by c e k l t q (yes p) =
-            let rest = total-set e v in
-            new e c k l t p
-            ∙ sym (entry-rank n (m - suc h) (at (suc h)) c (set e v 0) (length-set e v 0 ∙ l) (omega (arith, rest, t, p)))
-            ∙ level-entry (suc h) c (set e v 0) b k (length-set e v 0 ∙ l) (omega (arith, rest, t, p))
-            ∙ ap (λ j. values c j (set e v 0)) (sym p)
-        by c e k l t q (no p) = old e c k l t p ∙ made .entries c e k l t (omega arith)
+        copies : getD e 0 0 + total (set e 0 0) ≡ m
+        copies = total-set e 0 ∙ t
 
-    count-below : (e : List ℕ) (v : ℕ) → getD e v 0 ≤ total e
-    count-below e v = let r = total-set e v in omega arith
+        whole : m ≡ getD e 0 0 + (m - getD e 0 0)
+        whole = omega (arith, copies)
 
-    pub made-all : (v : ℕ) (out : List ℤ) → Made n m ws xs v out m → out ≡ replacedList n m ws v xs
-    unfolding replacedList
-    made-all v out made =
-        net-ext n m out xs (λ c. replaced (suc n) ws v (entryAt n m xs c)) (made .long) room
-        (λ c e k l t. made .entries c e k l t (omega (arith, count-below e v, t))) (made .past)
+        stays : (j : ℕ) → getD e 0 0 + j ≤ m → getD (level n m ws (getD e 0 0 + j) xs) (4 * rank n e + c) (pos 0) ≡ valuesOf n m ws xs c (getD e 0 0) (set e 0 0)
+        stays zero b =
+            ap₂ (λ h p. getD (level n m ws h xs) (4 * p + c) (pos 0)) (add-zero (getD e 0 0)) (sym (rank-first n e))
+            ∙ sym (entry-rank n (m - getD e 0 0) (level n m ws (getD e 0 0) xs) c (set e 0 0) (length-set e 0 0 ∙ l) (omega (arith, copies)))
+            ∙ level-entry (getD e 0 0) c (set e 0 0) (omega (arith, copies)) k (length-set e 0 0 ∙ l) copies
+        stays (suc j) b =
+            ap (λ h. getD (level n m ws h xs) (4 * rank n e + c) (pos 0)) (add-suc (getD e 0 0) j)
+            ∙ blended-past n (m - suc (getD e 0 0 + j)) ws (level n m ws (getD e 0 0 + j) xs) (4 * rank n e + c)
+            (let past = rank-past n (m - suc (getD e 0 0 + j)) e l (omega (arith, t)) in omega arith)
+            ∙ stays j (omega arith)
 
     -- the last level has one entry, the point
     pub level-last : (c : ℕ) → c < 4 → getD (at m) c (pos 0) ≡ values c m (replicate (suc n) 0)

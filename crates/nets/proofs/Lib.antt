@@ -4,14 +4,15 @@ pub mod Ranks
 pub mod PatchRows
 pub mod Blended
 pub mod Collect
-pub mod Collected
 pub mod LevelValues
 pub mod Descent
+pub mod Renaming
 pub mod Signs
 pub mod Writes
 pub mod Judging
 pub mod Steps
 pub mod Tables
 pub mod Through
+pub mod FirstRows
 pub mod Scaled
 pub mod FirstSteps

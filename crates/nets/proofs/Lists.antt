@@ -1,18 +1,20 @@
--- Laws of lists that the loops need: a test of all members taken one at a time, and what stands in a list after writes.
+-- Laws of lists that the loops need: a test of all members taken one at a time, what stands in a list after writes, and whether what is written is within a limit.
 use Prim.Native.Nat.{ℕ, zero, suc, _+_, _-_, _≤_, _<_}
-use native.Mathlib.Nat.{add-suc, add-zero}
+use native.Mathlib.Nat.{add-suc, add-zero, zero-add, add-assoc, le-refl}
 use native.Mathlib.Numerals.{add-one}
 use native.Mathlib.Omega.{arith}
 use native.Mathlib.Decide.{decLt}
 use mathlib.Core.Path.{_≡_, refl, sym, ap, ap₂, _∙_}
 use mathlib.Core.Logic.{_≢_}
-use mathlib.Core.Bool.{Bool, _&&_}
-use mathlib.Core.List.{List, [], _∷_}
-use lib.IntN.{ℤ, pos}
+use mathlib.Core.Bool.{Bool, true, false, _&&_}
+use mathlib.Core.List.{List, [], _∷_, _++_}
+use borrow.Author.Tests.{le-leb}
+use lib.IntN.{ℤ, pos, natAbs}
 use lib.ListN.{length, getD, set, take, drop, length-set}
-use lib.Seq.{drop-cons, getD-set-same, getD-set-other}
-use Rattle.machine.specs.Kinds.{all}
-use Rattle.nets.specs.Rows.{written}
+use lib.Seq.{take-suc, drop-cons, getD-set-same, getD-set-other}
+use Rattle.machine.specs.Kinds.{within, all}
+use Rattle.machine.proofs.All.{all-append, and-true, and-one, and-none, and-assoc}
+use Rattle.nets.specs.Rows.{written, ranged}
 
 -- ---- a test of the members one at a time
 
@@ -79,3 +81,83 @@ write-next xs cur from i v g low inv is =
 -- at and past the next place nothing is written
 pub write-still : (xs cur : List ℤ) (from i j : ℕ) (g : ℕ → ℤ) → from ≤ i → i ≤ j → cur ≡ written xs from (i - from) g → getD cur j (pos 0) ≡ getD xs j (pos 0)
 write-still xs cur from i j g low past inv = ap (λ l. getD l j (pos 0)) inv ∙ written-outside xs from (i - from) g j (λ a b. omega arith)
+
+-- ---- limits
+
+module _ (limit : ℕ) where
+  pub ranged-cong : (f g : ℕ → ℤ) (from k : ℕ) → ((i : ℕ) → from ≤ i → i < from + k → f i ≡ g i) → ranged limit f from k ≡ ranged limit g from k
+  unfolding ranged
+  ranged-cong f g from zero h = refl
+  ranged-cong f g from (suc k) h =
+      ap₂ (λ a x. a && within limit x) (ranged-cong f g from k (λ i a b. h i a (omega arith))) (h (from + k) (omega arith) (omega arith))
+
+  -- one number more
+  pub ranged-next : (g : ℕ → ℤ) (from i : ℕ) → from ≤ i → ranged limit g from (i - from) ≡ true → within limit (g i) ≡ true → ranged limit g from (i + 1 - from) ≡ true
+  unfolding ranged
+  ranged-next g from i low inv next =
+      ap (ranged limit g from) count-is ∙ and-true inv (ap (λ j. within limit (g j)) (sym place-is) ∙ next)
+    where
+      place-is : i ≡ from + (i - from)
+      place-is = omega arith
+
+      count-is : i + 1 - from ≡ suc (i - from)
+      count-is = omega arith
+
+  -- the numbers up to a place and those from there on
+  pub ranged-append : (g : ℕ → ℤ) (from a b : ℕ) → ranged limit g from (a + b) ≡ (ranged limit g from a && ranged limit g (from + a) b)
+  unfolding ranged
+  ranged-append g from a zero = ap (ranged limit g from) (add-zero a) ∙ sym (and-one (ranged limit g from a))
+  ranged-append g from a (suc b) =
+      ap (ranged limit g from) (add-suc a b)
+      ∙ ap₂ (λ x j. x && within limit (g j)) (ranged-append g from a b) (sym (add-assoc from a b))
+      ∙ and-assoc (ranged limit g from a) (ranged limit g (from + a) b) (within limit (g (from + a + b)))
+
+  -- a part beyond the limit is the whole beyond the limit
+  pub ranged-part : (g : ℕ → ℤ) (from a b c : ℕ) → ranged limit g (from + a) b ≡ false → ranged limit g from (a + b + c) ≡ false
+  ranged-part g from a b c part =
+      ranged-append g from (a + b) c
+      ∙ ap (λ x. x && ranged limit g (from + (a + b)) c) (ranged-append g from a b ∙ ap (λ x. ranged limit g from a && x) part ∙ and-none (ranged limit g from a))
+
+  pub ranged-fails : (g : ℕ → ℤ) (from i k : ℕ) → from ≤ i → i < from + k → within limit (g i) ≡ false → ranged limit g from k ≡ false
+  unfolding ranged
+  ranged-fails g from i k low below beyond =
+      ap (ranged limit g from) whole ∙ ranged-part g from (i - from) 1 (from + k - (i + 1)) (ap (λ j. within limit (g j)) place-is ∙ beyond)
+    where
+      whole : k ≡ i - from + 1 + (from + k - (i + 1))
+      whole = omega arith
+
+      place-is : from + (i - from) + 0 ≡ i
+      place-is = omega arith
+
+  -- the numbers that are written
+  pub ranged-written : (xs ys : List ℤ) (from k : ℕ) (g : ℕ → ℤ) → from + k ≤ length xs → ys ≡ written xs from k g → ranged limit g from k ≡ ranged limit (λ i. getD ys i (pos 0)) from k
+  ranged-written xs ys from k g room is =
+      ranged-cong g (λ i. getD ys i (pos 0)) from k (λ i a b. sym (ap (λ l. getD l i (pos 0)) is ∙ written-at xs from k g i a b room))
+
+  -- one row more: what is written behind the numbers tested leaves them as they are
+  pub ranged-more : (xs ys : List ℤ) (from k : ℕ) (g : ℕ → ℤ) → from + k ≤ length xs → ys ≡ written xs from k g
+      → ranged limit (λ i. getD xs i (pos 0)) 0 from ≡ true → ranged limit g from k ≡ true → ranged limit (λ i. getD ys i (pos 0)) 0 (from + k) ≡ true
+  ranged-more xs ys from k g room is inv new =
+      ranged-append (λ i. getD ys i (pos 0)) 0 from k
+      ∙ and-true
+      (sym (ranged-cong (λ i. getD xs i (pos 0)) (λ i. getD ys i (pos 0)) 0 from (λ i a b. sym (ap (λ l. getD l i (pos 0)) is ∙ written-outside xs from k g i (λ u v. omega arith)))) ∙ inv)
+      (ap (λ j. ranged limit (λ i. getD ys i (pos 0)) j k) (zero-add from) ∙ sym (ranged-written xs ys from k g room is) ∙ new)
+
+  -- the test of the first k numbers
+  pub ranged-list : (xs : List ℤ) (k : ℕ) → k ≤ length xs → ranged limit (λ i. getD xs i (pos 0)) 0 k ≡ all (within limit) (take k xs)
+  unfolding ranged
+  ranged-list xs zero h = refl
+  ranged-list xs (suc k) h =
+      ap₂ (λ a i. a && within limit (getD xs i (pos 0))) (ranged-list xs k (omega arith)) (zero-add k)
+      ∙ sym
+      (ap (all (within limit)) (take-suc xs k (pos 0) h) ∙ all-append (within limit) (take k xs) (getD xs k (pos 0) ∷ [])
+      ∙ ap (λ b. all (within limit) (take k xs) && b) (and-one (within limit (getD xs k (pos 0)))))
+
+  -- numbers that are small one by one
+  pub ranged-each : (xs : List ℤ) (k : ℕ) → k ≤ length xs → ((i : ℕ) → i < k → natAbs (getD xs i (pos 0)) ≤ limit) → all (within limit) (take k xs) ≡ true
+  unfolding ranged
+  ranged-each xs k room each = sym (ranged-list xs k room) ∙ go k (le-refl k)
+    where
+      go : (j : ℕ) → j ≤ k → ranged limit (λ i. getD xs i (pos 0)) 0 j ≡ true
+      go zero h = refl
+      go (suc j) h = and-true (go j (omega arith)) (le-leb (natAbs (getD xs (0 + j) (pos 0))) limit (each (0 + j) (omega arith)))

@@ -1,15 +1,16 @@
 -- The rows of a patch, blended one after the other: a row's blend reads that row and the next one, which no earlier row has written.
 use Prim.Native.Nat.{ℕ, zero, suc, _+_, _*_, _-_, _^_, _≤_, _<_}
-use native.Mathlib.Nat.{le-refl}
+use native.Mathlib.Nat.{le-refl, zero-add}
 use native.Mathlib.Omega.{arith}
 use mathlib.Core.Path.{_≡_, refl, sym, ap, ap₂, _∙_, subst}
+use mathlib.Core.Bool.{false}
 use mathlib.Core.List.{List, [], _∷_}
 use lib.IntN.{ℤ, pos, natAbs, _+ℤ_, _*ℤ_}
 use lib.ListN.{length, getD}
 use Rattle.polar.specs.Order.{counts}
 use Rattle.entries.proofs.Places.{offset}
-use Rattle.nets.specs.Rows.{written, mixed, Bounded, rowsBlended}
-use Rattle.nets.proofs.Lists.{length-written, written-outside, written-at}
+use Rattle.nets.specs.Rows.{written, mixed, ranged, Bounded, rowsBlended}
+use Rattle.nets.proofs.Lists.{length-written, written-outside, written-at, ranged-cong, ranged-part}
 use native.Mathlib.Numerals.{add-one}
 use Rattle.machine.specs.Nets.{used}
 use Rattle.nets.proofs.Ranks.{tri-suc, tri-mono, tri-nine, used-patch}
@@ -57,6 +58,17 @@ module _ (xs ws : List ℤ) where
           (ap₂ (λ x y. getD ws 1 (pos 0) *ℤ x +ℤ getD ws 2 (pos 0) *ℤ y) (rows-still n (i + 4 * suc n) (omega (arith, next))) (rows-still n (i + (4 * suc n + 4)) (omega (arith, next))))
           ∙ ap (λ j. mixed xs (4 * suc j) (4 * suc j + 4) (getD ws 0 (pos 0)) (getD ws 1 (pos 0)) (getD ws 2 (pos 0)) i) (sym same)
 
+  -- a row that is blended stays as it is
+  pub row-final : (n k i : ℕ) → k < n → 4 * tri n ≤ length xs → 4 * tri k ≤ i → i < 4 * tri (suc k)
+      → mixed (rowsBlended xs ws k) (4 * suc k) (4 * suc k + 4) (getD ws 0 (pos 0)) (getD ws 1 (pos 0)) (getD ws 2 (pos 0)) i ≡ getD (rowsBlended xs ws n) i (pos 0)
+  unfolding rowsBlended
+  row-final n k i h l a b =
+      let next = tri-suc k in
+      let up = tri-mono (suc k) n h in
+      sym (written-at (rowsBlended xs ws k) (4 * tri k) (4 * suc k) _ i a (omega arith) (subst (λ z. 4 * tri k + 4 * suc k ≤ z) (sym (length-rows k)) (omega arith)))
+      ∙ rows-at (suc k) k i (le-refl (suc k)) (omega arith) a b
+      ∙ sym (rows-at n k i h l a b)
+
   -- the row to blend next and the one after it are as small as they were
   pub rows-bounded : (n hi W : ℕ) → Bounded xs 0 hi W → 4 * tri n + 4 * suc n + (4 * suc n + 4) ≤ hi → Bounded (rowsBlended xs ws n) (4 * tri n) (4 * tri n + 4 * suc n + (4 * suc n + 4)) W
   rows-bounded n hi W b h =
@@ -97,3 +109,26 @@ turn-step xs xs′ ys a b c n from at inv is =
     ∙ ap₂ (λ l f. written l f (4 * (n + 1)) (mixed l (4 * (n + 1)) (4 * (n + 1) + 4) a b c)) inv at
     ∙ ap (λ k. written (rowsBlended xs (a ∷ b ∷ c ∷ []) n) (4 * tri n) (4 * k) (mixed (rowsBlended xs (a ∷ b ∷ c ∷ []) n) (4 * k) (4 * k + 4) a b c)) (add-one n)
     ∙ ap (rowsBlended xs (a ∷ b ∷ c ∷ [])) (sym (add-one n))
+
+-- a row beyond the limit is the level beyond the limit
+pub turn-fails : (limit : ℕ) (xs xs′ : List ℤ) (a b c : ℤ) (n degree from : ℕ) → n < degree → degree ≤ 8 → length xs ≡ 180 → from ≡ 4 * tri n → xs′ ≡ rowsBlended xs (a ∷ b ∷ c ∷ []) n
+    → ranged limit (mixed xs′ (4 * (n + 1)) (4 * (n + 1) + 4) a b c) from (4 * (n + 1)) ≡ false
+    → ranged limit (λ i. getD (rowsBlended xs (a ∷ b ∷ c ∷ []) degree) i (pos 0)) 0 (4 * tri degree) ≡ false
+turn-fails limit xs xs′ a b c n degree from h top long at inv beyond =
+    let next = tri-suc n in
+    let up = tri-mono (suc n) degree h in
+    let most = tri-mono degree 9 (omega arith) in
+    let whole : 4 * tri degree ≡ 4 * tri n + 4 * suc n + (4 * tri degree - 4 * tri (suc n)) = omega arith in
+    ap (ranged limit final 0) whole
+    ∙ ranged-part limit final 0 (4 * tri n) (4 * suc n) (4 * tri degree - 4 * tri (suc n))
+    (ap (λ j. ranged limit final j (4 * suc n)) (zero-add (4 * tri n))
+    ∙ sym (ranged-cong limit (mixed (rowsBlended xs ws n) (4 * suc n) (4 * suc n + 4) a b c) final (4 * tri n) (4 * suc n) (λ i lo hi. row-final xs ws degree n i h (omega (arith, most, tri-nine)) lo (omega arith)))
+    ∙ sym (ap₂ (λ l p. ranged limit (mixed l (4 * suc n) (4 * suc n + 4) a b c) p (4 * suc n)) inv at)
+    ∙ sym (ap (λ k. ranged limit (mixed xs′ (4 * k) (4 * k + 4) a b c) from (4 * k)) (add-one n))
+    ∙ beyond)
+  where
+    ws : List ℤ
+    ws = a ∷ b ∷ c ∷ []
+
+    final : ℕ → ℤ
+    final i = getD (rowsBlended xs (a ∷ b ∷ c ∷ []) degree) i (pos 0)

@@ -48,15 +48,17 @@ module _ (xs₀ : List ℤ) (from count d e : ℕ) (a b c : ℤ) (fa : SFits w64
         bound-at : (i : ℕ) → f ≤ i → mag (getD xs i (pos 0)) < 2 ^ 63 → i < from + count + e → natAbs (seen (getD xs i (pos 0))) ≤ bounded .bound
         bound-at i k s u = subst (λ v. natAbs v ≤ bounded .bound) (sym (read xs f i low k inv s)) (bounded .each i (omega arith) u)
 
-    -- the list after the write
-    pub row-step : (r : ℤ) → SFits w64 r
-        → r ≡ seen a *ℤ seen (getD xs f (pos 0)) +ℤ (seen b *ℤ seen (getD xs (f + d) (pos 0)) +ℤ seen c *ℤ seen (getD xs (f + e) (pos 0)))
-        → set xs f (seen r) ≡ written xs₀ from (f + 1 - from) (mixed xs₀ d e (seen a) (seen b) (seen c))
-    row-step r fr is =
-        write-next xs₀ xs from f (seen r) (mixed xs₀ d e (seen a) (seen b) (seen c)) low inv
-        (back-fits fr ∙ is
-        ∙ ap₂ _+ℤ_ (ap (λ v. seen a *ℤ v) (read xs f f low (omega arith) inv s0))
-        (ap₂ _+ℤ_ (ap (λ v. seen b *ℤ v) (read xs f (f + d) low (omega arith) inv s1)) (ap (λ v. seen c *ℤ v) (read xs f (f + e) low (omega arith) inv s2))))
+    module _ (r : ℤ) (fr : SFits w64 r) (is : r ≡ seen a *ℤ seen (getD xs f (pos 0)) +ℤ (seen b *ℤ seen (getD xs (f + d) (pos 0)) +ℤ seen c *ℤ seen (getD xs (f + e) (pos 0)))) where
+      -- the number blended
+      pub row-value : seen r ≡ mixed xs₀ d e (seen a) (seen b) (seen c) f
+      row-value =
+          back-fits fr ∙ is
+          ∙ ap₂ _+ℤ_ (ap (λ v. seen a *ℤ v) (read xs f f low (omega arith) inv s0))
+          (ap₂ _+ℤ_ (ap (λ v. seen b *ℤ v) (read xs f (f + d) low (omega arith) inv s1)) (ap (λ v. seen c *ℤ v) (read xs f (f + e) low (omega arith) inv s2)))
+
+      -- the list after the write
+      pub row-step : set xs f (seen r) ≡ written xs₀ from (f + 1 - from) (mixed xs₀ d e (seen a) (seen b) (seen c))
+      row-step = write-next xs₀ xs from f (seen r) (mixed xs₀ d e (seen a) (seen b) (seen c)) low inv row-value
 
   -- the weights as the caller gave them
   pub row-weights : mixed xs₀ d e (seen a) (seen b) (seen c) ≡ mixed xs₀ d e a b c

@@ -76,13 +76,13 @@ sign-next xs cur ys from p count F low inv is agree =
 
 -- the entry with n copies of the vertices after the first, k of them of the third
 module _ (kind m n k : ℕ) (sized : Sized kind m) (below : n ≤ m) (third : k ≤ (kind - 1) * n) where
-  counts-length : length (countsAt kind m n k) ≡ suc (further kind)
+  pub counts-length : length (countsAt kind m n k) ≡ suc (further kind)
   counts-length = by-kind (λ i. length (countsAt i m n k) ≡ suc (further i)) kind m sized refl refl
 
-  counts-total-is : total (countsAt kind m n k) ≡ m
+  pub counts-total-is : total (countsAt kind m n k) ≡ m
   counts-total-is = by-kind (λ i. k ≤ (i - 1) * n → total (countsAt i m n k) ≡ m) kind m sized (λ h. omega arith) (λ h. omega arith) third
 
-  counts-rank : rank (further kind) (countsAt kind m n k) ≡ placeAt kind n k
+  pub counts-rank : rank (further kind) (countsAt kind m n k) ≡ placeAt kind n k
   counts-rank =
       by-kind (λ i. k ≤ (i - 1) * n → rank (further i) (countsAt i m n k) ≡ placeAt i n k) kind m sized (λ h. rank-curve (m - n) n)
       (λ h. rank-patch (m - n) (n - k) k ∙ ap (λ y. offset (counts 1) y + k) (together h)) third

@@ -1,82 +1,38 @@
--- The blends of an entry's points into the net over the frame of the coordinates. After h blends the numbers are the polar values with the
--- last h of the entry's points fixed, and each blend makes the numbers at most 4 (1 + kind) times as large.
+-- Blends with a vertex of the frame. Each blend makes the numbers at most 4 (1 + kind) times as large, and after h blends of a net that holds the values of a form
+-- the net holds those with h copies of the vertex fixed.
 use Prim.Native.Nat.{ℕ, zero, suc, pred, _+_, _*_, _-_, _/_, _%_, _^_, _≤_, _<_, suc-le-suc, zero-le}
-use native.Mathlib.Nat.{not-suc-le-zero, le-of-suc-le-suc, le-refl, sub-zero, sub-self, add-zero, zero-add, mul-le-mul-left, mul-le-mul-right}
+use native.Mathlib.Nat.{not-suc-le-zero, le-of-suc-le-suc, le-refl, sub-zero, add-zero, mul-le-mul-right, mul-assoc, mul-comm, pow-suc, pow-le-pow-right, one-le-pow}
 use native.Mathlib.Numerals.{add-one}
 use native.Mathlib.Omega.{arith}
 use mathlib.Core.Path.{_≡_, refl, sym, ap, ap₂, _∙_, subst}
-use mathlib.Core.Bool.{Bool, true, false, cond}
+use mathlib.Core.Bool.{true}
 use mathlib.Core.List.{List, [], _∷_, _++_, append-nil}
-use lib.Dec.{leb, lit≤}
-use borrow.Author.Tests.{leb-true, leb-false, le-leb, lt-leb}
 use lib.IntN.{ℤ, pos, natAbs, _*ℤ_}
-use lib.ListN.{length, getD, set, drop, replicate, length-append, length-replicate, getD-replicate, List·getD-append}
-use lib.Seq.{drop-cons, drop-length, getD-append-add}
+use lib.ListN.{length, getD, take, replicate}
 use Rattle.integers.specs.Sum.{sum, upto}
 use Rattle.integers.proofs.Sums.{sum-upto-snoc}
 use Rattle.integers.proofs.Signed.{abs-*-le, abs-+-le}
 use Rattle.polar.specs.Sigma.{Point}
-use Rattle.polar.specs.Order.{total, counts, monomials}
-use Rattle.polar.specs.Polar.{terms}
+use Rattle.polar.specs.Order.{total, counts}
 use Rattle.entries.specs.Frame.{taken, combination}
-use Rattle.entries.specs.Entries.{entryAt, fixed, raise, listed}
-use Rattle.entries.proofs.Form.{Form, fixing, blend, total-raise, length-raise}
-use Rattle.entries.proofs.Polar.{polar-form}
-use Rattle.entries.proofs.Places.{rank, counts-at, rank-at, place-rank, placed, member-counts}
-use Rattle.entries.proofs.Listed.{size, entry-rank, rank-below, net-ext}
+use Rattle.entries.specs.Entries.{entryAt, fixed, raise}
+use Rattle.entries.proofs.Form.{fixing, fixes, total-raise, length-raise}
+use Rattle.entries.proofs.Places.{rank, counts-at, rank-at}
+use Rattle.entries.proofs.Listed.{size, entry-rank, rank-below}
 use Rattle.entries.proofs.Standard.{units, units-curve, units-patch}
-use Rattle.machine.specs.Kinds.{further}
+use Rattle.machine.specs.Kinds.{further, within, all}
 use Rattle.machine.specs.Nets.{used}
-use Rattle.machine.specs.Comparison.{Polynomials, vertexAt, polarOf, netOver}
+use Rattle.machine.specs.Comparison.{vertexAt}
 use Rattle.machine.specs.First.{frameOf}
 use Rattle.machine.proofs.Over.{total-zeros, length-zeros}
-use Rattle.nets.specs.Rows.{Sized, Bounded, blended, written, placeAt}
-use Rattle.nets.specs.Levels.{copied}
-use Rattle.nets.specs.Flips.{countsAt}
-use Rattle.nets.specs.Coordinates.{Coordinates}
-use Rattle.nets.specs.FirstNet.{Small, FrameWithin, vertexWeights, vertexOf, through, firstAt}
-use Rattle.nets.proofs.Lists.{length-written, written-outside, written-at}
+use Rattle.nets.specs.Rows.{Sized, Bounded, blended, level}
+use Rattle.nets.specs.FirstNet.{Small, FrameWithin, vertexOf, vertexWeights, Values, Holds}
 use Rattle.nets.proofs.Collect.{by-kind, smaller, used-room}
+use Rattle.nets.proofs.Lists.{ranged-each}
 use Rattle.nets.proofs.Blended.{bounded-less}
-use Rattle.nets.proofs.Signs.{counts-at-place}
-use Rattle.nets.proofs.LevelValues.{entry-blended, length-blended, size-mono, rank-zeros}
+use Rattle.nets.proofs.LevelValues.{entry-blended, length-blended, level-entry, level-last}
 
--- ---- the points of an entry
-
-pub length-taken : (fr : ℕ → Point) (e : List ℕ) → length (taken fr e) ≡ total e
-length-taken fr [] = refl
-length-taken fr (i ∷ e) =
-    length-append (replicate i (fr 0)) (taken (λ v. fr (suc v)) e) ∙ ap₂ _+_ (length-replicate i (fr 0)) (length-taken (λ v. fr (suc v)) e)
-
--- the point at place p is the vertex that the counts have there
-pub taken-at : (fr : ℕ → Point) (e : List ℕ) (p : ℕ) → p < total e → getD (taken fr e) p [] ≡ fr (vertexOf e p)
-taken-at fr [] p h = absurd (not-suc-le-zero h)
-taken-at fr (i ∷ e) p h = by (leb i p) refl (taken-at (λ v. fr (suc v)) e (p - i))
-  where
-    by : (b : Bool) → leb i p ≡ b → (p - i < total e → getD (taken (λ v. fr (suc v)) e) (p - i) [] ≡ fr (suc (vertexOf e (p - i))))
-        → getD (replicate i (fr 0) ++ taken (λ v. fr (suc v)) e) p [] ≡ fr (cond (leb i p) (suc (vertexOf e (p - i))) 0)
-    by true q rest =
-        let past = leb-true i p q in
-        let place-is : p ≡ length (replicate i (fr 0)) + (p - i) = omega (arith, length-replicate i (fr 0)) in
-        ap (λ j. getD (replicate i (fr 0) ++ taken (λ v. fr (suc v)) e) j []) place-is
-        ∙ getD-append-add (replicate i (fr 0)) (taken (λ v. fr (suc v)) e) (p - i) []
-        ∙ rest (omega arith)
-        ∙ ap (λ b. fr (cond b (suc (vertexOf e (p - i))) 0)) (sym q)
-    by false q rest =
-        let before = leb-false i p q in
-        List·getD-append (replicate i (fr 0)) (taken (λ v. fr (suc v)) e) [] p (subst (λ k. p < k) (sym (length-replicate i (fr 0))) before)
-        ∙ getD-replicate i p (fr 0) [] before
-        ∙ ap (λ b. fr (cond b (suc (vertexOf e (p - i))) 0)) (sym q)
-
-pub vertex-below : (e : List ℕ) (p : ℕ) → p < total e → vertexOf e p < length e
-vertex-below [] p h = absurd (not-suc-le-zero h)
-vertex-below (i ∷ e) p h = by (leb i p) refl (vertex-below e (p - i))
-  where
-    by : (b : Bool) → leb i p ≡ b → (p - i < total e → vertexOf e (p - i) < length e) → cond (leb i p) (suc (vertexOf e (p - i))) 0 < suc (length e)
-    by true q rest =
-        let past = leb-true i p q in
-        subst (λ b. cond b (suc (vertexOf e (p - i))) 0 < suc (length e)) (sym q) (suc-le-suc (rest (omega arith)))
-    by false q rest = subst (λ b. cond b (suc (vertexOf e (p - i))) 0 < suc (length e)) (sym q) (suc-le-suc zero-le)
+-- ---- the vertices as weights
 
 -- the weights of a vertex name the vertex
 pub vertex-named : (kind m : ℕ) → Sized kind m → (frame : List ℤ) (v : ℕ) → v ≤ kind
@@ -97,29 +53,6 @@ vertex-named kind m s frame v =
     patch (suc (suc (suc v))) h = absurd (not-suc-le-zero (le-of-suc-le-suc (le-of-suc-le-suc h)))
 
 -- ---- how large the numbers grow
-
-abbrev pub grown : ℕ → ℕ → ℕ
-grown G zero = 2642411520
-grown G (suc h) = G * grown G h
-
-grown-mono : (G a b : ℕ) → 1 ≤ G → a ≤ b → grown G a ≤ grown G b
-grown-mono G a zero g h = subst (λ x. grown G x ≤ grown G 0) (sym none) (le-refl (grown G 0))
-  where
-    none : a ≡ 0
-    none = omega arith
-grown-mono G a (suc b) g h = by (native.Mathlib.Decide.decLe a b) (grown-mono G a b g)
-  where
-    by : Dec (a ≤ b) → (a ≤ b → grown G a ≤ grown G b) → grown G a ≤ G * grown G b
-    by (yes p) rest = let r = rest p in let q = mul-le-mul-right (grown G b) g in omega arith
-    by (no p) rest =
-        let e : a ≡ suc b = omega arith in
-        subst (λ x. grown G x ≤ grown G (suc b)) (sym e) (le-refl (grown G (suc b)))
-
-pub grown-fits : (kind m h : ℕ) → Sized kind m → h ≤ m → grown (4 * suc kind) h < 2 ^ 63
-grown-fits kind m h s b =
-    by-kind (λ i. Sized i m → grown (4 * suc i) h < 2 ^ 63) kind m s
-    (λ t. let z = t .sized in let top = grown-mono 8 h 10 (suc-le-suc zero-le) (omega arith) in omega (arith, top))
-    (λ t. let z = t .sized in let top = grown-mono 12 h 8 (suc-le-suc zero-le) (omega arith) in omega (arith, top)) s
 
 abs-sum : (f : ℕ → ℤ) (k B : ℕ) → ((v : ℕ) → v < k → natAbs (f v) ≤ B) → natAbs (sum f (upto k)) ≤ k * B
 abs-sum f zero B h = zero-le
@@ -182,87 +115,6 @@ blended-small kind m d v B frame ys s w b small i inside =
         let rb = rank-below (further kind) (suc d) (raise u e) lr tr in
         subst (λ z. natAbs z ≤ B) (sym (entry-rank (further kind) (suc d) ys c (raise u e) lr tr)) (small (4 * rank (further kind) (raise u e) + c) (omega arith))
 
--- ---- the loop
-
--- where the numbers cur stand after h blends
-pub record Passed (kind m : ℕ) (frame : List ℤ) (e : List ℕ) (xs cur : List ℤ) (h : ℕ) : Type 0 where
-  pub below : h ≤ m
-  pub reached : cur ≡ through kind m frame e h xs
-  pub long : length cur ≡ 180
-  pub small : (i : ℕ) → i < used kind (m - h) → natAbs (getD cur i (pos 0)) ≤ grown (4 * suc kind) h
-
-module _ (kind m : ℕ) (frame : List ℤ) (e : List ℕ) (xs : List ℤ) (sized : Sized kind m) (within : FrameWithin kind frame) where
-  pub passed-first : length xs ≡ 180 → Small kind m xs → Passed kind m frame e xs xs 0
-  unfolding through
-  passed-first long small =
-      record {
-        below = zero-le;
-        reached = refl;
-        long = long;
-        small = λ i b. small i (subst (λ k. i < used kind k) (sub-zero m) b);
-      }
-
-  pub passed-bounded : (cur : List ℤ) (h : ℕ) → h < m → Passed kind m frame e xs cur h → Bounded cur 0 (used kind (m - h)) (4 * suc kind)
-  passed-bounded cur h more p =
-      record {
-        bound = grown (4 * suc kind) h;
-        each = λ i lo up. p .small i up;
-        fits = grown-fits kind m (suc h) sized more;
-      }
-
-  pub passed-next : (cur ys : List ℤ) (h v : ℕ) → h < m → v ≤ kind → v ≡ vertexOf e (m - h - 1) → Passed kind m frame e xs cur h
-      → ys ≡ blended (further kind) (pred (m - h)) (vertexWeights kind frame v) cur → length ys ≡ length cur → Passed kind m frame e xs ys (h + 1)
-  unfolding through
-  passed-next cur ys h v more b vertex p is kept =
-      subst (λ k. Passed kind m frame e xs ys k) (sym (add-one h))
-      (record {
-        below = more;
-        reached = is-next ∙ ap₂ (λ w l. blended (further kind) (m - suc h) (vertexWeights kind frame w) l) (vertex ∙ ap (vertexOf e) less-one) (p .reached);
-        long = kept ∙ p .long;
-        small =
-            λ i inside.
-            subst (λ l. natAbs (getD l i (pos 0)) ≤ 4 * suc kind * grown (4 * suc kind) h) (sym is-next)
-            (blended-small kind m (m - suc h) v (grown (4 * suc kind) h) frame cur sized within b (λ j q. p .small j (subst (λ k. j < used kind k) again q)) i inside);
-      })
-    where
-      less : pred (m - h) ≡ m - suc h
-      less = omega arith
-
-      less-one : m - h - 1 ≡ m - suc h
-      less-one = omega arith
-
-      again : suc (m - suc h) ≡ m - h
-      again = omega arith
-
-      is-next : ys ≡ blended (further kind) (m - suc h) (vertexWeights kind frame v) cur
-      is-next = is ∙ ap (λ d. blended (further kind) d (vertexWeights kind frame v) cur) less
-
-  pub passed-last : (cur : List ℤ) (h : ℕ) → Passed kind m frame e xs cur h → m ≤ h → cur ≡ through kind m frame e m xs
-  passed-last cur h p done =
-      let all-points : h ≡ m = omega (arith, p .below) in
-      p .reached ∙ ap (λ k. through kind m frame e k xs) all-points
-
--- the vertex that the code finds, by the places of its tests
-pub vertex-first : (a p : ℕ) (e : List ℕ) → p < a → vertexOf (a ∷ e) p ≡ 0
-vertex-first a p e h = ap (λ b. cond b (suc (vertexOf e (p - a))) 0) (lt-leb a p h)
-
-pub vertex-later : (a p : ℕ) (e : List ℕ) → a ≤ p → vertexOf (a ∷ e) p ≡ suc (vertexOf e (p - a))
-vertex-later a p e h = ap (λ b. cond b (suc (vertexOf e (p - a))) 0) (le-leb a p h)
-
-pub vertex-is : (kind m n k p : ℕ) → Sized kind m → n ≤ m → k ≤ (kind - 1) * n → p < m
-    → (vertexOf ((m - n) ∷ (n - k) ∷ k ∷ []) p ≡ vertexOf (countsAt kind m n k) p) × (vertexOf (countsAt kind m n k) p ≤ kind)
-vertex-is kind m n k p s b third inside =
-    by-kind (λ i. k ≤ (i - 1) * n → (vertexOf ((m - n) ∷ (n - k) ∷ k ∷ []) p ≡ vertexOf (countsAt i m n k) p) × (vertexOf (countsAt i m n k) p ≤ i)) kind m s
-    (λ h. (curve (omega arith) (native.Mathlib.Decide.decLt p (m - n)), le-of-suc-le-suc (vertex-below ((m - n) ∷ n ∷ []) p (omega arith))))
-    (λ h. (refl, le-of-suc-le-suc (vertex-below ((m - n) ∷ (n - k) ∷ k ∷ []) p (omega arith)))) third
-  where
-    curve : k ≡ 0 → Dec (p < m - n) → vertexOf ((m - n) ∷ (n - k) ∷ k ∷ []) p ≡ vertexOf ((m - n) ∷ n ∷ []) p
-    curve none (yes q) = vertex-first (m - n) p ((n - k) ∷ k ∷ []) q ∙ sym (vertex-first (m - n) p (n ∷ []) q)
-    curve none (no q) =
-        vertex-later (m - n) p ((n - k) ∷ k ∷ []) (omega arith)
-        ∙ ap suc (vertex-first (n - k) (p - (m - n)) (k ∷ []) (omega arith) ∙ sym (vertex-first n (p - (m - n)) [] (omega arith)))
-        ∙ sym (vertex-later (m - n) p (n ∷ []) (omega arith))
-
 -- ---- as the code reads the frame
 
 pub curve-weights : (kind v : ℕ) (frame : List ℤ) (z t : ℤ) → kind ≡ 1 → z ≡ getD frame (2 * v + 1) (pos 0) → t ≡ getD frame (2 * v) (pos 0)
@@ -286,143 +138,147 @@ vertex-bounded kind m v hi frame cur z a b s w top bounded is none =
     at : (u : ℕ) → natAbs (getD (z ∷ a ∷ b ∷ []) u (pos 0)) ≤ 4
     at u = subst (λ l. natAbs (getD l u (pos 0)) ≤ 4) (sym is) (weights-within kind m frame v u s w top)
 
--- ---- entries one after the other
-
--- what the numbers of one entry are written from
-pub copied-written : (out ys : List ℤ) (p : ℕ) (g : ℕ → ℤ) → ((c : ℕ) → c < 4 → getD ys c (pos 0) ≡ g (4 * p + c)) → copied out p ys 0 ≡ written out (4 * p) 4 g
-unfolding written
-copied-written out ys p g h =
-    ap₂ (λ l x. set l (4 * p + 3) x)
-    (ap₂ (λ l x. set l (4 * p + 2) x) (ap₂ (λ l x. set l (4 * p + 1) x) (ap₂ (λ i x. set out i x) (sym (add-zero (4 * p))) (h 0 (lit≤ tt))) (h 1 (lit≤ tt))) (h 2 (lit≤ tt)))
-    (h 3 (lit≤ tt))
-
--- the entry made is the one that the order has at the place
-pub made-written : (kind m n k : ℕ) (frame out xs ys : List ℤ) → Sized kind m → n ≤ m → k ≤ (kind - 1) * n
-    → ys ≡ through kind m frame (countsAt kind m n k) m xs → copied out (placeAt kind n k) ys 0 ≡ written out (4 * placeAt kind n k) 4 (firstAt kind m frame xs)
-made-written kind m n k frame out xs ys s b third is =
-    copied-written out ys (placeAt kind n k) (firstAt kind m frame xs)
-    (λ c q.
-    ap (λ l. getD l c (pos 0)) is
-    ∙ ap₂ (λ e r. getD (through kind m frame e m xs) r (pos 0))
-    (sym (ap (λ p. getD (counts (further kind) m) p []) (place-is c q) ∙ counts-at-place kind m n k s b third)) (sym (rest-is c q)))
+-- small enough for the next blend
+pub small-bounded : (kind m : ℕ) (cur : List ℤ) → 1 ≤ m → Small kind m cur → Bounded cur 0 (used kind m) (4 * suc kind)
+small-bounded kind zero cur one s = absurd (not-suc-le-zero one)
+small-bounded kind (suc m) cur one s = record { bound = s .bound; each = λ i lo up. s .each i up; fits = less }
   where
-    place-is : (c : ℕ) → c < 4 → (4 * placeAt kind n k + c) / 4 ≡ placeAt kind n k
-    place-is c q = omega arith
+    G : ℕ
+    G = 4 * suc kind
 
-    rest-is : (c : ℕ) → c < 4 → (4 * placeAt kind n k + c) % 4 ≡ c
-    rest-is c q = omega arith
+    less : G * s .bound < 2 ^ 63
+    less =
+        let once = mul-le-mul-right (G * s .bound) (one-le-pow m G (omega arith)) in
+        let all = s .fits in
+        let turned : G ^ suc m * s .bound ≡ G ^ m * (G * s .bound) = ap (λ p. p * s .bound) (pow-suc G m) ∙ mul-assoc (G ^ m) G (s .bound) in
+        omega (arith, once, all, turned)
 
-module _ (kind m : ℕ) (numbers frame : List ℤ) (xs : List ℤ) (sized : Sized kind m) (coordinates : Coordinates kind m numbers xs) where
+-- after a blend with a vertex the numbers are small for the degree below
+small-next : (kind m d v : ℕ) (frame cur : List ℤ) → Sized kind m → FrameWithin kind frame → v ≤ kind → Small kind (suc d) cur
+    → Small kind d (blended (further kind) d (vertexWeights kind frame v) cur)
+small-next kind m d v frame cur s w b small =
+    record {
+      bound = 4 * suc kind * small .bound;
+      each = blended-small kind m d v (small .bound) frame cur s w b (small .each);
+      fits = subst (λ p. p < 2 ^ 63) (ap (λ p. p * small .bound) (pow-suc (4 * suc kind) d) ∙ mul-assoc ((4 * suc kind) ^ d) (4 * suc kind) (small .bound)) (small .fits);
+    }
+
+-- no blend with a vertex is beyond 64 bits, so none is refused
+pub vertex-fits : (kind degree v : ℕ) (frame cur : List ℤ) → Sized kind degree → 1 ≤ degree → FrameWithin kind frame → v ≤ kind → length cur ≡ 180 → Bounded cur 0 (used kind degree) (4 * suc kind)
+    → all (within 9223372036854775807) (take (used kind (pred degree)) (blended (further kind) (pred degree) (vertexWeights kind frame v) cur)) ≡ true
+unfolding used
+vertex-fits kind zero v frame cur s one w b long small = absurd (not-suc-le-zero one)
+vertex-fits kind (suc d) v frame cur s one w b long small =
+    ranged-each 9223372036854775807 (blended (further kind) d (vertexWeights kind frame v) cur) (used kind d)
+    (subst (λ k. used kind d ≤ k) (sym (length-blended (further kind) d (vertexWeights kind frame v) cur (subst (λ k. used kind d ≤ k) (sym long) room) ∙ long)) room)
+    (λ i inside. let each = blended-small kind (suc d) d v (small .bound) frame cur s w b (λ j q. small .each j zero-le q) i inside in let top = small .fits in omega arith)
+  where
+    room : used kind d ≤ 180
+    room = used-room kind d (smaller s (omega arith))
+
+-- the net over the frame of the coordinates is small
+pub small-first : (kind m : ℕ) (xs : List ℤ) → Sized kind m → ((i : ℕ) → i < used kind m → natAbs (getD xs i (pos 0)) ≤ 2642411520) → Small kind m xs
+small-first kind m xs s each = record { bound = 2642411520; each = each; fits = fits-all }
+  where
+    fits-all : (4 * suc kind) ^ m * 2642411520 < 2 ^ 63
+    fits-all =
+        by-kind (λ i. Sized i m → (4 * suc i) ^ m * 2642411520 < 2 ^ 63) kind m s
+        (λ t. let z = t .sized in let top = pow-le-pow-right {n = 8} (suc-le-suc zero-le) {i = m} {j = 10} (omega arith) in omega (arith, top))
+        (λ t. let z = t .sized in let top = pow-le-pow-right {n = 12} (suc-le-suc zero-le) {i = m} {j = 8} (omega arith) in omega (arith, top)) s
+
+-- ---- a room that has the first numbers of another
+
+pub small-same : (kind m : ℕ) (xs ys : List ℤ) → ((i : ℕ) → i < used kind m → getD ys i (pos 0) ≡ getD xs i (pos 0)) → Small kind m xs → Small kind m ys
+small-same kind m xs ys same small =
+    record { bound = small .bound; each = λ i b. subst (λ z. natAbs z ≤ small .bound) (sym (same i b)) (small .each i b); fits = small .fits }
+
+pub holds-same : (kind m : ℕ) (G : Values) (xs ys : List ℤ) → ((i : ℕ) → i < used kind m → getD ys i (pos 0) ≡ getD xs i (pos 0)) → Holds kind m G xs → Holds kind m G ys
+unfolding used
+holds-same kind m G xs ys same holds =
+    record {
+      form = holds .form;
+      entries =
+          λ c e k l t.
+          let r = rank-below (further kind) m e l t in
+          entry-rank (further kind) m ys c e l t
+          ∙ same (4 * rank (further kind) e + c) (omega arith)
+          ∙ sym (entry-rank (further kind) m xs c e l t)
+          ∙ holds .entries c e k l t;
+    }
+
+-- ---- the loops
+
+-- where the numbers cur stand after h blends with vertex v
+pub record Blends (kind m v : ℕ) (frame xs cur : List ℤ) (h : ℕ) : Type 0 where
+  pub below : h ≤ m
+  pub reached : cur ≡ level (further kind) m (vertexWeights kind frame v) h xs
+  pub long : length cur ≡ 180
+  pub small : Small kind (m - h) cur
+
+module _ (kind m v : ℕ) (frame xs : List ℤ) (sized : Sized kind m) (within : FrameWithin kind frame) where
+  pub blends-first : length xs ≡ 180 → Small kind m xs → Blends kind m v frame xs xs 0
+  unfolding level
+  blends-first long small = record { below = zero-le; reached = refl; long = long; small = subst (λ k. Small kind k xs) (sym (sub-zero m)) small }
+
+  pub blends-next : (cur ys : List ℤ) (h : ℕ) → h < m → v ≤ kind → Blends kind m v frame xs cur h
+      → ys ≡ blended (further kind) (pred (m - h)) (vertexWeights kind frame v) cur → length ys ≡ length cur → Blends kind m v frame xs ys (h + 1)
+  unfolding level
+  blends-next cur ys h more b p is kept =
+      subst (λ k. Blends kind m v frame xs ys k) (sym (add-one h))
+      (record {
+        below = more;
+        reached = is-next ∙ ap (blended (further kind) (m - suc h) (vertexWeights kind frame v)) (p .reached);
+        long = kept ∙ p .long;
+        small = subst (λ l. Small kind (m - suc h) l) (sym is-next) (small-next kind m (m - suc h) v frame cur sized within b (subst (λ k. Small kind k cur) again (p .small)));
+      })
+    where
+      less : pred (m - h) ≡ m - suc h
+      less = omega arith
+
+      again : m - h ≡ suc (m - suc h)
+      again = omega arith
+
+      is-next : ys ≡ blended (further kind) (m - suc h) (vertexWeights kind frame v) cur
+      is-next = is ∙ ap (λ d. blended (further kind) d (vertexWeights kind frame v) cur) less
+
+-- ---- the values that a net holds
+
+module _ (kind m v : ℕ) (frame xs : List ℤ) (sized : Sized kind m) (b : v ≤ kind) (long : length xs ≡ 180) (G : Values) (holds : Holds kind m G xs) where
   abbrev n : ℕ
   n = further kind
 
-  abbrev f : Polynomials
-  f = record { kind = kind; degree = m; coefficients = numbers }
+  abbrev ws : List ℤ
+  ws = vertexWeights kind frame v
 
-  abbrev fr : ℕ → Point
-  fr = vertexAt (frameOf (suc n) frame)
+  room : size n m ≤ length xs
+  unfolding used
+  room = subst (λ k. used kind m ≤ k) (sym long) (used-room kind m sized)
 
-  further-kind : further kind ≡ kind
-  further-kind = by-kind (λ j. further j ≡ j) kind m sized refl refl
+  -- what the entries fix with h copies of the vertex
+  fixed-is : (c h : ℕ) (e : List ℕ) → c < 4 → length e ≡ suc n → h + total e ≡ m
+      → fixed (suc n) ws (entryAt n m xs c) h e ≡ G c (replicate h (vertexOf kind frame v) ++ taken (units n) e)
+  fixed-is c h e k l t =
+      fixes (holds .form c) (units n) ws (entryAt n m xs c) (λ x lx tx. holds .entries c x k lx tx) h e l t
+      ∙ ap (λ q. G c (replicate h q ++ taken (units n) e)) (vertex-named kind m sized frame v b)
 
-  form : (c : ℕ) → Form (suc n) (polarOf f c)
-  unfolding polarOf
-  form c = polar-form n m (terms c (monomials n m) numbers)
+  -- after h blends: the values with h copies of the vertex
+  pub holds-level : (h : ℕ) → h ≤ m → Holds kind (m - h) (λ c ps. G c (replicate h (vertexOf kind frame v) ++ ps)) (level n m ws h xs)
+  holds-level h below =
+      record {
+        form = λ c. fixing (holds .form c) (replicate h (vertexOf kind frame v));
+        entries =
+            λ c e k l t.
+            let all : h + total e ≡ m = omega arith in
+            level-entry n m ws xs room h c e below k l all ∙ fixed-is c h e k l all;
+      }
 
-  -- after h blends the last h points of the entry are fixed
-  represent : (e : List ℕ) → length e ≡ suc n → total e ≡ m → (h c : ℕ) (x : List ℕ) → h ≤ m → c < 4 → length x ≡ suc n → total x ≡ m - h
-      → entryAt n (m - h) (through kind m frame e h xs) c x ≡ polarOf f c (drop (m - h) (taken fr e) ++ taken (units n) x)
-  unfolding through fixed
-  represent e l t zero c x b k lx tx =
-      entry-rank n (m - 0) xs c x lx tx
-      ∙ coordinates .entries c x k lx (tx ∙ sub-zero m)
-      ∙ ap (λ ps. polarOf f c (ps ++ taken (units n) x)) (sym none)
+  -- after all blends: the one value of as many copies, at the front
+  pub level-front : (c : ℕ) → c < 4 → getD (level n m ws m xs) c (pos 0) ≡ G c (replicate m (vertexOf kind frame v))
+  level-front c k =
+      level-last n m ws xs room c k
+      ∙ fixed-is c m (replicate (suc n) 0) k (length-zeros (suc n)) (ap (λ z. m + z) (total-zeros (suc n)) ∙ add-zero m)
+      ∙ ap (G c) (ap (λ l. replicate m (vertexOf kind frame v) ++ l) (no-points (suc n) (units n)) ∙ append-nil (replicate m (vertexOf kind frame v)))
     where
-      none : drop (m - 0) (taken fr e) ≡ []
-      none = ap (λ j. drop j (taken fr e)) (sub-zero m ∙ sym (length-taken fr e ∙ t)) ∙ drop-length (taken fr e)
-  represent e l t (suc h) c x b k lx tx =
-      entry-blended n (m - suc h) ws (through kind m frame e h xs) c x k lx tx
-      ∙ blend (fixing (form c) R) (units n) ws (entryAt n (suc (m - suc h)) (through kind m frame e h xs) c) [] x
-      (λ v p.
-      ap (λ d. entryAt n d (through kind m frame e h xs) c (raise v x)) again
-      ∙ represent e l t h c (raise v x) (omega arith) k (length-raise v x (subst (λ z. v < z) (sym lx) p) ∙ lx) (total-raise v x ∙ ap suc tx ∙ again))
-      ∙ form c .front R (combination (suc n) ws (units n)) (taken (units n) x)
-      ∙ ap (λ ps. polarOf f c (ps ++ taken (units n) x)) (sym points)
-    where
-      again : suc (m - suc h) ≡ m - h
-      again = omega arith
-
-      inside : m - suc h < total e
-      inside = omega arith
-
-      ws : List ℤ
-      ws = vertexWeights kind frame (vertexOf e (m - suc h))
-
-      R : List Point
-      R = drop (m - h) (taken fr e)
-
-      points : drop (m - suc h) (taken fr e) ≡ combination (suc n) ws (units n) ∷ R
-      points =
-          drop-cons (taken fr e) (m - suc h) [] (subst (λ z. m - suc h < z) (sym (length-taken fr e)) inside)
-          ∙ ap₂ (λ q ps. q ∷ ps)
-          (taken-at fr e (m - suc h) inside
-          ∙ sym (vertex-named kind m sized frame (vertexOf e (m - suc h)) (let r = vertex-below e (m - suc h) inside in omega (arith, r, l, further-kind))))
-          (ap (λ j. drop j (taken fr e)) again)
-
-  -- all points blended: the entry is at the front
-  pub through-entry : (e : List ℕ) → length e ≡ suc n → total e ≡ m → (c : ℕ) → c < 4 → getD (through kind m frame e m xs) c (pos 0) ≡ polarOf f c (taken fr e)
-  through-entry e l t c k =
-      ap (λ i. getD (through kind m frame e m xs) i (pos 0)) (sym place-zero)
-      ∙ sym (entry-rank n (m - m) (through kind m frame e m xs) c (replicate (suc n) 0) (length-zeros (suc n)) (total-zeros (suc n) ∙ sym (sub-self m)))
-      ∙ represent e l t m c (replicate (suc n) 0) (le-refl m) k (length-zeros (suc n)) (total-zeros (suc n) ∙ sym (sub-self m))
-      ∙ ap (polarOf f c) (ap₂ _++_ (ap (λ j. drop j (taken fr e)) (sub-self m)) (no-points (suc n) (units n)) ∙ append-nil (taken fr e))
-    where
-      place-zero : 4 * rank n (replicate (suc n) 0) + c ≡ c
-      place-zero = ap (λ p. 4 * p + c) (rank-zeros n) ∙ zero-add c
-
       no-points : (d : ℕ) (us : ℕ → Point) → taken us (replicate d 0) ≡ []
       no-points zero us = refl
-      no-points (suc d) us = no-points d (λ v. us (suc v))
-
-  -- the number at an entry's place
-  first-entry : (c : ℕ) (e : List ℕ) → c < 4 → length e ≡ suc n → total e ≡ m → firstAt kind m frame xs (4 * rank n e + c) ≡ polarOf f c (taken fr e)
-  first-entry c e k l t =
-      ap₂ (λ p r. getD (through kind m frame (getD (counts n m) p []) m xs) r (pos 0)) place-is rest-is
-      ∙ ap (λ y. getD (through kind m frame y m xs) c (pos 0))
-      (ap (λ p. getD (counts n m) p []) (sym (place-rank n m e l t)) ∙ placed e (counts n m) (member-counts n m e l t) .1)
-      ∙ through-entry e l t c k
-    where
-      place-is : (4 * rank n e + c) / 4 ≡ rank n e
-      place-is = omega arith
-
-      rest-is : (4 * rank n e + c) % 4 ≡ c
-      rest-is = omega arith
-
-  -- all entries written over zeros are the net over the frame
-  pub first-numbers : written (replicate 180 (pos 0)) 0 (used kind m) (firstAt kind m frame xs) ≡ netOver f (frameOf (suc n) frame) .entries
-  unfolding used netOver
-  first-numbers =
-      net-ext n m (written zeros 0 (size n m) (firstAt kind m frame xs)) zeros (λ c e. polarOf f c (taken fr e)) (length-written zeros 0 (size n m) (firstAt kind m frame xs)) room
-      (λ c e k l t.
-      let r = rank-below n m e l t in
-      written-at zeros 0 (size n m) (firstAt kind m frame xs) (4 * rank n e + c) zero-le (omega arith) (subst (λ k. 0 + size n m ≤ k) refl (omega (arith, room)))
-      ∙ first-entry c e k l t)
-      (λ i h. written-outside zeros 0 (size n m) (firstAt kind m frame xs) i (λ a b. omega arith))
-      ∙ ap (λ l. listed n m (λ c e. polarOf f c (taken fr e)) ++ l) (drop-zeros 180 (size n m))
-    where
-      zeros : List ℤ
-      zeros = replicate 180 (pos 0)
-
-      room : size n m ≤ length zeros
-      room = subst (λ k. size n m ≤ k) (sym (length-replicate 180 (pos 0))) (used-room kind m sized)
-
-      drop-zeros : (a b : ℕ) → drop b (replicate a (pos 0)) ≡ replicate (a - b) (pos 0)
-      drop-zeros a zero = ap (λ k. replicate k (pos 0)) (sym (sub-zero a))
-      drop-zeros zero (suc b) = ap (λ k. replicate k (pos 0)) none
-        where
-          none : 0 ≡ 0 - suc b
-          none = omega arith
-      drop-zeros (suc a) (suc b) = drop-zeros a b ∙ ap (λ k. replicate k (pos 0)) less
-        where
-          less : a - b ≡ suc a - suc b
-          less = omega arith
+      no-points (suc d) us = no-points d (λ u. us (suc u))

@@ -1,13 +1,25 @@
 -- Entries written one after the other: the writes of a row join, and so do the rows, whatever function of the place is written.
-use Prim.Native.Nat.{ℕ, suc, _+_, _*_, _-_, _≤_}
-use native.Mathlib.Nat.{zero-add}
+use Prim.Native.Nat.{ℕ, suc, _+_, _*_, _-_, _≤_, _<_}
+use native.Mathlib.Nat.{zero-add, add-zero}
 use native.Mathlib.Omega.{arith}
 use mathlib.Core.Path.{_≡_, refl, sym, ap, ap₂, _∙_}
 use mathlib.Core.List.{List}
-use lib.IntN.{ℤ}
+use lib.Dec.{lit≤}
+use lib.IntN.{ℤ, pos}
+use lib.ListN.{getD, set}
 use Rattle.nets.specs.Rows.{Sized, placeAt, written}
+use Rattle.nets.specs.Levels.{copied}
 use Rattle.nets.proofs.Collect.{by-kind}
 use Rattle.nets.proofs.Signs.{written-append, place-step, place-row}
+
+-- the four numbers of an entry, copied
+pub entry-copied : (out : List ℤ) (to : ℕ) (xs : List ℤ) (from : ℕ) (g : ℕ → ℤ) → ((c : ℕ) → c < 4 → getD xs (4 * from + c) (pos 0) ≡ g (4 * to + c)) → copied out to xs from ≡ written out (4 * to) 4 g
+unfolding written
+entry-copied out to xs from g h =
+    ap₂ (λ l x. set l (4 * to + 3) x)
+    (ap₂ (λ l x. set l (4 * to + 2) x)
+    (ap₂ (λ l x. set l (4 * to + 1) x) (ap₂ (λ i x. set out i x) (sym (add-zero (4 * to))) (ap (λ i. getD xs i (pos 0)) (sym (add-zero (4 * from))) ∙ h 0 (lit≤ tt))) (h 1 (lit≤ tt))) (h 2 (lit≤ tt)))
+    (h 3 (lit≤ tt))
 
 -- one entry more of a row
 pub row-more : (kind m n k : ℕ) (g : ℕ → ℤ) (out cur ys : List ℤ) → Sized kind m → k ≤ (kind - 1) * n

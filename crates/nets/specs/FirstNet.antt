@@ -1,22 +1,33 @@
--- What the private functions that make a first net do: an entry's points are blended, one after the other, into the net over the frame of the coordinates.
-use Prim.Native.Nat.{ℕ, zero, suc, _+_, _*_, _-_, _/_, _%_, _≤_, _<_}
-use mathlib.Core.Bool.{cond}
+-- What the private functions that make a first net do: a net holds the values of a form, and each blend with a vertex fixes one of the form's points.
+use Prim.Native.Nat.{ℕ, zero, suc, _+_, _*_, _/_, _%_, _^_, _≤_, _<_}
+use mathlib.Core.Path.{_≡_}
 use mathlib.Core.List.{List, [], _∷_}
-use lib.Dec.{leb}
 use lib.IntN.{ℤ, pos, natAbs}
-use lib.ListN.{getD}
-use Rattle.polar.specs.Order.{counts}
+use lib.ListN.{length, getD}
+use Rattle.polar.specs.Sigma.{Point}
+use Rattle.polar.specs.Order.{total, counts}
+use Rattle.entries.specs.Frame.{taken}
+use Rattle.entries.specs.Entries.{entryAt}
+use Rattle.entries.proofs.Form.{Form}
+use Rattle.entries.proofs.Standard.{units}
 use Rattle.machine.specs.Kinds.{further}
 use Rattle.machine.specs.Nets.{used}
-use Rattle.nets.specs.Rows.{blended}
+use Rattle.machine.specs.Comparison.{vertexAt}
+use Rattle.machine.specs.First.{frameOf}
 
--- every number of the net over the frame of the coordinates is so small that the blends with the frame's vertices fit 64 bits
-abbrev pub Small : ℕ → ℕ → List ℤ → Type 0
-Small kind m xs = (i : ℕ) → i < used kind m → natAbs (getD xs i (pos 0)) ≤ 2642411520
+-- every number of a net of degree m is so small that m blends with the frame's vertices fit 64 bits
+pub record Small (kind m : ℕ) (xs : List ℤ) : Type 0 where
+  pub bound : ℕ
+  pub each : (i : ℕ) → i < used kind m → natAbs (getD xs i (pos 0)) ≤ bound
+  pub fits : (4 * suc kind) ^ m * bound < 2 ^ 63
 
 -- every number of the frame is within 4
 abbrev pub FrameWithin : ℕ → List ℤ → Type 0
 FrameWithin kind frame = (i : ℕ) → i < suc kind * suc kind → natAbs (getD frame i (pos 0)) ≤ 4
+
+-- vertex v of the frame
+abbrev pub vertexOf : ℕ → List ℤ → ℕ → Point
+vertexOf kind frame v = vertexAt (frameOf (suc (further kind)) frame) v
 
 -- vertex v of the frame as weights over the frame of the coordinates, Z first; a curve has one coordinate more
 abbrev pub vertexWeights : ℕ → List ℤ → ℕ → List ℤ
@@ -24,17 +35,15 @@ vertexWeights zero frame v = []
 vertexWeights (suc zero) frame v = getD frame (2 * v + 1) (pos 0) ∷ getD frame (2 * v) (pos 0) ∷ pos 0 ∷ []
 vertexWeights (suc (suc kind)) frame v = getD frame (3 * v + 2) (pos 0) ∷ getD frame (3 * v) (pos 0) ∷ getD frame (3 * v + 1) (pos 0) ∷ []
 
--- which vertex is at place p of the points that the counts e take
-abbrev pub vertexOf : List ℕ → ℕ → ℕ
-vertexOf [] p = 0
-vertexOf (i ∷ e) p = cond (leb i p) (suc (vertexOf e (p - i))) 0
+-- a value for each component and list of points
+abbrev pub Values : Type 0
+Values = ℕ → List Point → ℤ
 
--- h blends with the points that the counts e take, the last one first
-unfoldable pub through : ℕ → ℕ → List ℤ → List ℕ → ℕ → List ℤ → List ℤ
-through kind m frame e zero xs = xs
-through kind m frame e (suc h) xs =
-    blended (further kind) (m - suc h) (vertexWeights kind frame (vertexOf e (m - suc h))) (through kind m frame e h xs)
+-- the entries of a net of degree m are the values of the form G over the frame of the coordinates
+pub record Holds (kind m : ℕ) (G : Values) (xs : List ℤ) : Type 0 where
+  pub form : (c : ℕ) → Form (suc (further kind)) (G c)
+  pub entries : (c : ℕ) (e : List ℕ) → c < 4 → length e ≡ suc (further kind) → total e ≡ m → entryAt (further kind) m xs c e ≡ G c (taken (units (further kind)) e)
 
--- the number at place i of the first net
-abbrev pub firstAt : ℕ → ℕ → List ℤ → List ℤ → ℕ → ℤ
-firstAt kind m frame xs i = getD (through kind m frame (getD (counts (further kind) m) (i / 4) []) m xs) (i % 4) (pos 0)
+-- the number at place i of the net of degree m with the values of G over the frame
+abbrev pub valueAt : ℕ → ℕ → List ℤ → Values → ℕ → ℤ
+valueAt kind m frame G i = G (i % 4) (taken (vertexOf kind frame) (getD (counts (further kind) m) (i / 4) []))

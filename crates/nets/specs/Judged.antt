@@ -1,14 +1,16 @@
--- The refusals of a call for its own arguments, by its parts: the crate machine's `judged` of a move and of a point.
+-- The refusals of a call for its own arguments, by its parts (the crate machine's `judged` of a move and of a point), and what the private functions that make calls promise.
 use Prim.Native.Nat.{ℕ}
+use mathlib.Core.Path.{_≡_}
 use mathlib.Core.Bool.{_&&_, _||_, not}
 use mathlib.Core.List.{List}
 use lib.Dec.{eqb}
 use lib.IntN.{ℤ}
 use Rattle.machine.specs.Kinds.{all, firstOf, unless}
-use Rattle.machine.specs.Nets.{flippedNet}
+use Rattle.machine.specs.Nets.{netRefusal, stepOf}
+use Rattle.machine.specs.Answers.{foundBy}
+use Rattle.machine.specs.Lent.{placed}
 use Rattle.machine.specs.declared.Net.{Net}
-use Rattle.machine.specs.declared.Step.{Step}
-use Rattle.machine.specs.declared.Answer.the-variants as answer
+use Rattle.machine.specs.declared.Call.{Call}
 use Rattle.projection.specs.Projection.{isZero}
 use Rattle.machine.specs.Calls.{weightOf, weightsIn, operationIn, vertexIn}
 
@@ -19,10 +21,10 @@ judgedMove n operation vertex ws =
 abbrev pub judgedPoint : ℕ → List ℤ → ℕ
 judgedPoint n ws = firstOf (unless (weightsIn n ws) 8) (unless (not (all isZero ws)) 9)
 
--- a refused call: the number, and the net as it was
-abbrev pub refused : ℕ → Net → Step
-refused k net = record { answer = answer.Refused k; net = net }
+-- a call's number, and the entries that it leaves
+abbrev pub Stepped : Net → Call → ℕ → List ℤ → Type 0
+Stepped net call k entries = (k ≡ netRefusal net call) × (entries ≡ stepOf net call .net .entries)
 
--- a flip that is taken
-abbrev pub flipTaken : Net → ℕ → Step
-flipTaken net vertex = record { answer = answer.Taken; net = flippedNet net vertex }
+-- a call's number, and the point that it finds put into lent places
+abbrev pub Pointed : Net → Call → ℕ → List ℤ → List ℤ → Type 0
+Pointed net call k before after = (k ≡ netRefusal net call) × (after ≡ placed (foundBy (netRefusal net call) net call) before)

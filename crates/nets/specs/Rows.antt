@@ -1,9 +1,11 @@
 -- What the private functions on rows of numbers do to a list.
 use Prim.Native.Nat.{ℕ, zero, suc, _+_, _*_, _-_, _^_, _<_, _≤_}
+use mathlib.Core.Bool.{Bool, true, _&&_}
 use mathlib.Core.List.{List, _++_}
 use lib.IntN.{ℤ, pos, natAbs, _+ℤ_, _*ℤ_}
 use lib.ListN.{length, getD, set, drop}
 use Rattle.polar.specs.Order.{counts}
+use Rattle.machine.specs.Kinds.{within}
 use Rattle.entries.specs.Entries.{entryAt, listed, fixed}
 use Rattle.entries.proofs.Places.{offset}
 
@@ -15,6 +17,11 @@ written xs from (suc k) g = set (written xs from k g) (from + k) (g (from + k))
 -- the blend of the number at i with those d and e places further on
 abbrev pub mixed : List ℤ → ℕ → ℕ → ℤ → ℤ → ℤ → ℕ → ℤ
 mixed xs d e a b c i = a *ℤ getD xs i (pos 0) +ℤ (b *ℤ getD xs (i + d) (pos 0) +ℤ c *ℤ getD xs (i + e) (pos 0))
+
+-- whether g i is within the limit at each place i of from, from + 1, .., from + k - 1
+unfoldable pub ranged : ℕ → (ℕ → ℤ) → ℕ → ℕ → Bool
+ranged limit g from zero = true
+ranged limit g from (suc k) = ranged limit g from k && within limit (g (from + k))
 
 -- the numbers of a list from place lo up to hi are so small that a sum of them with weights of W in all fits 64 bits
 pub record Bounded (xs : List ℤ) (lo hi W : ℕ) : Type 0 where

@@ -1,25 +1,29 @@
-// Calls on a net: what is refused of them, and what they do.
+// Calls on a net whose entries stand in lent places: what is refused of them, and what they do.
 ghost use mathlib.Core.Path.{_≡_};
 ghost use mathlib.Core.List.{[], _∷_};
-ghost use Prim.Native.Nat.{_+_, _≤_};
-ghost use Rattle.machine.specs.Kinds.{further, known, within};
+ghost use Prim.Native.Nat.{pred, _+_, _≤_};
+ghost use mathlib.Core.Bool.{true, cond};
+ghost use lib.IntN.{natAbs};
+ghost use lib.ListN.{length, take};
+ghost use Rattle.projection.specs.Projection.{inRange};
+ghost use Rattle.machine.specs.Kinds.{further, within, all};
 ghost use Rattle.machine.specs.Calls.{weightOf, weightsIn};
-ghost use Rattle.machine.specs.Nets.{handed, stepOf};
-ghost use Rattle.nets.specs.Judged.{judgedMove, judgedPoint, refused, flipTaken};
+ghost use Rattle.machine.specs.Sizes.{allNamed};
+ghost use Rattle.machine.specs.Nets.{used, handed};
+ghost use Rattle.nets.specs.Rows.{Sized};
+ghost use Rattle.nets.specs.Judged.{judgedMove, judgedPoint, Stepped, Pointed};
+ghost use Rattle.nets.specs.Levels.{valuesOf, replacedList};
 use crate::flips::flip_entries;
 use crate::levels::descend;
-use crate::levels::replace_entries;
+use crate::levels::descend_renamed;
+use crate::levels::rename;
 use crate::rows::all_in_range;
+use crate::rows::copy;
 use crate::rows::numbers;
 use frames::known_kind;
-use machine::Answer;
 use machine::Call;
-use machine::Found;
 use machine::Net;
-use machine::Step;
-use machine::Weights;
 use projection::all_zero;
-use projection::project;
 
 // The largest absolute value of a weight.
 const WEIGHT: i64 = 4096;
@@ -113,17 +117,15 @@ fn judge_point(kind: u8, r: i64, s: i64, t: i64) -> u8
 }
 
 // What is refused of a handed net before the call is looked at.
-pub(crate) fn handed_refusal(net: Net) -> u8
-    ensures { λ k. ⌜ k ≡ handed net ⌝ }
+pub(crate) fn handed_refusal(entries: &[i64], kind: u8, degree: u8) -> u8
+    requires { ⌜ length (now entries) ≡ 180 ⌝ }
+    ensures { λ k. ⌜ k ≡ handed (record { kind = kind; degree = degree; entries = now (entries .entry) }) ⌝ }
 {
-    let kind = net.kind;
-    let degree = net.degree;
     if !known_kind(kind, degree) {
         return 4;
     }
     let n = numbers(kind, degree as usize);
-    let xs = net.entries;
-    if !all_in_range(&xs, n) {
+    if !all_in_range(entries, n) {
         return 10;
     }
     0
@@ -131,98 +133,121 @@ pub(crate) fn handed_refusal(net: Net) -> u8
 
 // ---- what calls do
 
-// A refused call hands back the net that it got.
-pub(crate) fn refuse(net: Net, number: u8) -> Step
-    ensures { λ r. ⌜ r ≡ refused number net ⌝ }
+// Replaces a vertex by the point q that the weights name, or leaves the entries as they are where a named
+// polar value is out of range. The work is done in a room of its own, where the vertex comes first.
+pub(crate) fn replace_entries(
+    entries: &mut [i64],
+    kind: u8,
+    vertex: u8,
+    degree: usize,
+    r: i64,
+    s: i64,
+    t: i64,
+) -> bool
+    requires { ⌜ Sized kind degree × (1 ≤ vertex) × (vertex ≤ kind + 1) × (length (now entries) ≡ 180) × (all inRange (take (used kind degree) (now entries)) ≡ true) × (natAbs r + natAbs s + natAbs t ≤ 12288) ⌝ }
+    ensures { λ b. ⌜ (b ≡ allNamed (further kind) degree (valuesOf (further kind) degree (r ∷ s ∷ t ∷ []) (now (entries .entry)))) × (now (entries .exit) ≡ cond b (replacedList (further kind) degree (r ∷ s ∷ t ∷ []) (pred vertex) (now (entries .entry))) (now (entries .entry))) ⌝ }
 {
-    Step {
-        answer: Answer::Refused(number),
-        net,
+    let mut cur = [0; 180];
+    rename(&mut cur, entries, kind, vertex, degree);
+    if !descend_renamed(&mut cur, kind, vertex, degree, r, s, t) {
+        return false;
     }
+    rename(entries, &cur, kind, vertex, degree);
+    true
 }
 
-// Replaces a vertex of a net that is not refused, by weights that are not refused.
-fn replace_vertex(net: Net, vertex: u8, r: i64, s: i64, t: i64) -> Step
-    requires { ⌜ (handed net ≡ 0) × (judgedMove (further (net .kind)) 1 vertex (r ∷ s ∷ t ∷ []) ≡ 0) ⌝ }
-    ensures { λ b. ⌜ b ≡ stepOf net (Call.Move 1 vertex (record { r = r; s = s; t = t })) ⌝ }
+// What a move that is not refused for its own arguments does: the number 10, or 0 and the move made.
+pub(crate) fn make_move(
+    entries: &mut [i64],
+    kind: u8,
+    degree: u8,
+    operation: u8,
+    vertex: u8,
+    r: i64,
+    s: i64,
+    t: i64,
+) -> u8
+    requires { ⌜ (length (now entries) ≡ 180) × (handed (record { kind = kind; degree = degree; entries = now entries }) ≡ 0) × (judgedMove (further kind) operation vertex (r ∷ s ∷ t ∷ []) ≡ 0) ⌝ }
+    ensures { λ k. ⌜ Stepped (record { kind = kind; degree = degree; entries = now (entries .entry) }) (Call.Move operation vertex (record { r = r; s = s; t = t })) k (now (entries .exit)) ⌝ }
 {
-    let kind = net.kind;
-    let degree = net.degree;
-    let xs = net.entries;
-    let mut out = xs;
-    let mut cur = xs;
-    if !replace_entries(&mut out, &mut cur, kind, vertex, degree as usize, r, s, t) {
-        return refuse(net, 10);
+    if operation == 1 {
+        if replace_entries(entries, kind, vertex, degree as usize, r, s, t) {
+            return 0;
+        }
+        return 10;
     }
-    Step {
-        answer: Answer::Taken,
-        net: Net {
-            kind,
-            degree,
-            entries: out,
-        },
-    }
-}
-
-// Flips a vertex of a net that is not refused.
-fn flip_vertex(net: Net, vertex: u8) -> Step
-    requires { ⌜ (handed net ≡ 0) × (1 ≤ vertex) × (vertex ≤ net .kind + 1) ⌝ }
-    ensures { λ b. ⌜ b ≡ flipTaken net vertex ⌝ }
-{
-    let kind = net.kind;
-    let degree = net.degree;
-    let xs = net.entries;
-    let mut out = xs;
-    flip_entries(&mut out, kind, vertex, degree as usize);
-    Step {
-        answer: Answer::Taken,
-        net: Net {
-            kind,
-            degree,
-            entries: out,
-        },
-    }
+    flip_entries(entries, kind, vertex, degree as usize);
+    0
 }
 
 // A move, whatever its numbers are.
-pub(crate) fn make_move(net: Net, operation: u8, vertex: u8, r: i64, s: i64, t: i64) -> Step
-    requires { ⌜ handed net ≡ 0 ⌝ }
-    ensures { λ b. ⌜ b ≡ stepOf net (Call.Move operation vertex (record { r = r; s = s; t = t })) ⌝ }
+pub(crate) fn judge_and_move(
+    entries: &mut [i64],
+    kind: u8,
+    degree: u8,
+    operation: u8,
+    vertex: u8,
+    r: i64,
+    s: i64,
+    t: i64,
+) -> u8
+    requires { ⌜ length (now entries) ≡ 180 ⌝ }
+    ensures { λ k. ⌜ Stepped (record { kind = kind; degree = degree; entries = now (entries .entry) }) (Call.Move operation vertex (record { r = r; s = s; t = t })) k (now (entries .exit)) ⌝ }
 {
-    let kind = net.kind;
+    let refusal = handed_refusal(entries, kind, degree);
+    if refusal != 0 {
+        return refusal;
+    }
     let number = judge_move(kind, operation, vertex, r, s, t);
     if number != 0 {
-        return refuse(net, number);
+        return number;
     }
-    if operation == 1 {
-        return replace_vertex(net, vertex, r, s, t);
+    make_move(entries, kind, degree, operation, vertex, r, s, t)
+}
+
+// The point that weights name which are not refused: 10, or 0 and its four numbers in `found`.
+pub(crate) fn make_point(
+    entries: &[i64],
+    kind: u8,
+    degree: u8,
+    r: i64,
+    s: i64,
+    t: i64,
+    found: &mut [i64],
+) -> u8
+    requires { ⌜ (length (now entries) ≡ 180) × (4 ≤ length (now found)) × (handed (record { kind = kind; degree = degree; entries = now entries }) ≡ 0) × (judgedPoint (further kind) (r ∷ s ∷ t ∷ []) ≡ 0) ⌝ }
+    ensures { λ k. ⌜ Pointed (record { kind = kind; degree = degree; entries = now (entries .entry) }) (Call.Point (record { r = r; s = s; t = t })) k (now (found .entry)) (now (found .exit)) ⌝ }
+{
+    let m = degree as usize;
+    let mut cur = [0; 180];
+    copy(&mut cur, entries, numbers(kind, m));
+    if !descend(&mut cur, kind, m, r, s, t) {
+        return 10;
     }
-    flip_vertex(net, vertex)
+    copy(found, &cur, 4);
+    0
 }
 
 // A point, whatever its weights are.
-pub(crate) fn find_point(net: Net, r: i64, s: i64, t: i64) -> Step
-    requires { ⌜ handed net ≡ 0 ⌝ }
-    ensures { λ b. ⌜ b ≡ stepOf net (Call.Point (record { r = r; s = s; t = t })) ⌝ }
+pub(crate) fn judge_and_point(
+    entries: &[i64],
+    kind: u8,
+    degree: u8,
+    r: i64,
+    s: i64,
+    t: i64,
+    found: &mut [i64],
+) -> u8
+    requires { ⌜ (length (now entries) ≡ 180) × (4 ≤ length (now found)) ⌝ }
+    ensures { λ k. ⌜ Pointed (record { kind = kind; degree = degree; entries = now (entries .entry) }) (Call.Point (record { r = r; s = s; t = t })) k (now (found .entry)) (now (found .exit)) ⌝ }
 {
-    let kind = net.kind;
-    let degree = net.degree;
+    let refusal = handed_refusal(entries, kind, degree);
+    if refusal != 0 {
+        return refusal;
+    }
     let number = judge_point(kind, r, s, t);
     if number != 0 {
-        return refuse(net, number);
+        return number;
     }
-    let xs = net.entries;
-    let mut cur = xs;
-    if !descend(&mut cur, kind, degree as usize, r, s, t) {
-        return refuse(net, 10);
-    }
-    let x = cur[0];
-    let y = cur[1];
-    let z = cur[2];
-    let w = cur[3];
-    let at = project(x, y, z, w);
-    Step {
-        answer: Answer::Point(Found { x, y, z, w }, at),
-        net,
-    }
+    make_point(entries, kind, degree, r, s, t, found)
 }

@@ -1,50 +1,39 @@
-// The first net. Over the frame of the coordinates the entries are the scaled coefficients; an entry
-// over another frame comes from them by blends with its own points.
+// The first net. Over the frame of the coordinates the entries are the scaled coefficients; each blend
+// of a net with a vertex of the frame fixes one point of its polar values. Entries that share points
+// share the blends: the rows are made from the last to the first, each from the net with its copies of
+// the first vertex fixed, and in a row each entry from the net with its copies of the third fixed too.
 ghost use mathlib.Core.Path.{_≡_};
-ghost use mathlib.Core.List.{[], _∷_};
-ghost use Prim.Native.Nat.{pred, suc, _+_, _*_, _-_, _<_, _≤_};
-ghost use lib.ListN.{length};
 ghost use mathlib.Core.Bool.{true};
+ghost use Prim.Native.Nat.{pred, suc, _+_, _*_, _-_, _%_, _≤_};
+ghost use lib.IntN.{pos};
+ghost use lib.ListN.{length, getD, replicate};
 ghost use Rattle.machine.specs.Kinds.{further, known};
 ghost use Rattle.machine.specs.Comparison.{netOver};
-ghost use Rattle.machine.specs.First.{frameOf, frameIn, coefficientsIn, netIn, noNet};
+ghost use Rattle.machine.specs.First.{frameOf, frameIn, coefficientsIn};
 ghost use Rattle.machine.specs.Nets.{used};
-ghost use Rattle.nets.specs.Rows.{Bounded, Sized, blended, written, placeAt};
-ghost use Rattle.nets.specs.Flips.{countsAt};
+ghost use Rattle.nets.specs.Rows.{Bounded, Sized, blended, level, written, placeAt};
 ghost use Rattle.nets.specs.FirstNet.{
   Small,
   FrameWithin,
+  Holds,
+  Values,
   vertexWeights,
   vertexOf,
-  through,
-  firstAt,
+  valueAt,
 };
 use crate::coordinates::coordinate_numbers;
 use crate::levels::copy_entry;
 use crate::levels::spread;
-use crate::rows::all_in_range;
+use crate::rows::PLACES;
 use crate::rows::blend;
+use crate::rows::copy;
 use crate::rows::numbers;
 use crate::rows::place;
-use machine::First;
-use machine::Net;
 
-// ---- one entry
+// No blend is refused here: what fits 64 bits is within this limit. Only the entries made are judged.
+const WHOLE: u64 = 9223372036854775807;
 
-// The vertex at place p of the points of an entry: first the copies of the first vertex, then those
-// of the second, then k of the third.
-pub(crate) fn vertex_of(degree: usize, n: usize, k: usize, p: usize) -> usize
-    requires { ⌜ (n ≤ degree) × (k ≤ n) × (p < degree) ⌝ }
-    ensures { λ r. ⌜ r ≡ vertexOf ((degree - n) ∷ (n - k) ∷ k ∷ []) p ⌝ }
-{
-    if p < degree - n {
-        return 0;
-    }
-    if p < degree - k {
-        return 1;
-    }
-    2
-}
+// ---- blends with vertices
 
 // One blend with a vertex of the frame.
 pub(crate) fn blend_vertex(cur: &mut [i64], kind: u8, degree: usize, frame: &[i64], v: usize)
@@ -54,125 +43,111 @@ pub(crate) fn blend_vertex(cur: &mut [i64], kind: u8, degree: usize, frame: &[i6
     if kind == 1 {
         let z = frame[2 * v + 1];
         let t = frame[2 * v];
-        blend(cur, kind, degree, z, t, 0);
+        blend(cur, kind, degree, z, t, 0, WHOLE);
         return;
     }
     let z = frame[3 * v + 2];
     let a = frame[3 * v];
     let b = frame[3 * v + 1];
-    blend(cur, kind, degree, z, a, b);
+    blend(cur, kind, degree, z, a, b, WHOLE);
 }
 
-// Makes one entry, with n copies of the vertices after the first, k of them of the third: its four
-// numbers come to the front.
-pub(crate) fn blend_entry(
-    cur: &mut [i64],
-    kind: u8,
-    degree: usize,
-    frame: &[i64],
-    n: usize,
-    k: usize,
-)
-    requires { ⌜ Sized kind degree × (n ≤ degree) × (k ≤ (kind - 1) * n) × (length (now cur) ≡ 180) × (length (now frame) ≡ 9) × FrameWithin kind (now frame) × Small kind degree (now cur) ⌝ }
-    ensures { λ _. ⌜ now (cur .exit) ≡ through kind degree (now (frame .entry)) (countsAt kind degree n k) degree (now (cur .entry)) ⌝ }
+// Blends a net with the second vertex until one entry is left, at the front.
+pub(crate) fn blend_second(cur: &mut [i64], kind: u8, degree: usize, frame: &[i64])
+    requires { ⌜ Sized kind degree × (length (now cur) ≡ 180) × (length (now frame) ≡ 9) × FrameWithin kind (now frame) × Small kind degree (now cur) ⌝ }
+    ensures { λ _. ⌜ now (cur .exit) ≡ level (further kind) degree (vertexWeights kind (now (frame .entry)) 1) degree (now (cur .entry)) ⌝ }
 {
     let mut h = 0;
     while h < degree {
-        let v = vertex_of(degree, n, k, degree - h - 1);
-        blend_vertex(&mut *cur, kind, degree - h, frame, v);
+        blend_vertex(&mut *cur, kind, degree - h, frame, 1);
         h += 1;
     }
 }
 
-// Makes one entry from the net over the frame of the coordinates, and puts it into its place.
+// ---- entries
+
+// Puts the entry with n copies of the vertices after the first, k of them of the third, into its place.
+// `cur` is the net with the other points fixed, and stays; `work` is used up.
 pub(crate) fn put_entry(
     out: &mut [i64],
-    xs: [i64; 180],
+    work: &mut [i64],
+    cur: &[i64],
     kind: u8,
-    degree: usize,
     frame: &[i64],
     n: usize,
     k: usize,
 )
-    requires { ⌜ Sized kind degree × (n ≤ degree) × (k ≤ (kind - 1) * n) × (length (now out) ≡ 180) × (length (now frame) ≡ 9) × FrameWithin kind (now frame) × Small kind degree xs ⌝ }
-    ensures { λ _. ⌜ now (out .exit) ≡ written (now (out .entry)) (4 * placeAt kind n k) 4 (firstAt kind degree (now (frame .entry)) xs) ⌝ }
+    requires { ⌜ Sized kind n × (k ≤ (kind - 1) * n) × (length (now out) ≡ 180) × (length (now work) ≡ 180) × (length (now cur) ≡ 180) × (length (now frame) ≡ 9) × FrameWithin kind (now frame) × Small kind (n - k) (now cur) ⌝ }
+    ensures { λ _. ⌜ ((G : Values) → Holds kind (n - k) G (now (cur .entry)) → now (out .exit) ≡ written (now (out .entry)) (4 * placeAt kind n k) 4 (λ i. G (i % 4) (replicate (n - k) (vertexOf kind (now (frame .entry)) 1)))) ⌝ }
 {
-    let mut cur = xs;
-    blend_entry(&mut cur, kind, degree, frame, n, k);
+    let rest = n - k;
+    let count = numbers(kind, rest);
+    copy(&mut *work, cur, count);
+    blend_second(&mut *work, kind, rest, frame);
     let p = place(kind, n, k);
-    copy_entry(out, p, &cur, 0);
+    copy_entry(out, p, work, 0);
 }
 
-// Makes the entries with n copies of the vertices after the first.
+// Puts the entries with n copies of the vertices after the first into their places. `cur` is the net
+// with the copies of the first vertex fixed; it is used up, and so is `work`.
 pub(crate) fn put_row(
     out: &mut [i64],
-    xs: [i64; 180],
+    work: &mut [i64],
+    cur: &mut [i64],
     kind: u8,
-    degree: usize,
     frame: &[i64],
     n: usize,
 )
-    requires { ⌜ Sized kind degree × (n ≤ degree) × (length (now out) ≡ 180) × (length (now frame) ≡ 9) × FrameWithin kind (now frame) × Small kind degree xs ⌝ }
-    ensures { λ _. ⌜ now (out .exit) ≡ written (now (out .entry)) (4 * placeAt kind n 0) (4 * suc ((kind - 1) * n)) (firstAt kind degree (now (frame .entry)) xs) ⌝ }
+    requires { ⌜ Sized kind n × (length (now out) ≡ 180) × (length (now work) ≡ 180) × (length (now cur) ≡ 180) × (length (now frame) ≡ 9) × FrameWithin kind (now frame) × Small kind n (now cur) ⌝ }
+    ensures { λ _. ⌜ ((G : Values) → Holds kind n G (now (cur .entry)) → now (out .exit) ≡ written (now (out .entry)) (4 * placeAt kind n 0) (4 * suc ((kind - 1) * n)) (valueAt kind n (now (frame .entry)) G)) ⌝ }
 {
     let last = spread(kind, n);
     let mut k = 0;
-    while k <= last {
-        put_entry(&mut *out, xs, kind, degree, frame, n, k);
+    while k < last {
+        put_entry(&mut *out, &mut *work, cur, kind, frame, n, k);
+        blend_vertex(&mut *cur, kind, n - k, frame, 2);
         k += 1;
     }
+    put_entry(out, work, cur, kind, frame, n, last);
 }
 
-// Makes all entries.
-pub(crate) fn put_entries(out: &mut [i64], xs: [i64; 180], kind: u8, degree: usize, frame: &[i64])
-    requires { ⌜ Sized kind degree × (length (now out) ≡ 180) × (length (now frame) ≡ 9) × FrameWithin kind (now frame) × Small kind degree xs ⌝ }
-    ensures { λ _. ⌜ now (out .exit) ≡ written (now (out .entry)) 0 (used kind degree) (firstAt kind degree (now (frame .entry)) xs) ⌝ }
+// Puts all entries into their places, the last row first. `base` is the net over the frame of the
+// coordinates; it is used up, and so are `cur` and `work`.
+pub(crate) fn put_rows(
+    out: &mut [i64],
+    work: &mut [i64],
+    cur: &mut [i64],
+    base: &mut [i64],
+    kind: u8,
+    frame: &[i64],
+    degree: usize,
+)
+    requires { ⌜ Sized kind degree × (length (now out) ≡ 180) × (length (now work) ≡ 180) × (length (now cur) ≡ 180) × (length (now base) ≡ 180) × (length (now frame) ≡ 9) × FrameWithin kind (now frame) × Small kind degree (now base) ⌝ }
+    ensures { λ _. ⌜ ((G : Values) → Holds kind degree G (now (base .entry)) → now (out .exit) ≡ written (now (out .entry)) 0 (used kind degree) (valueAt kind degree (now (frame .entry)) G)) ⌝ }
 {
-    let mut n = 0;
-    while n <= degree {
-        put_row(&mut *out, xs, kind, degree, frame, n);
-        n += 1;
+    let mut n = degree;
+    while n > 0 {
+        let count = numbers(kind, n);
+        copy(&mut *cur, base, count);
+        put_row(&mut *out, &mut *work, &mut *cur, kind, frame, n);
+        blend_vertex(&mut *base, kind, n, frame, 0);
+        n -= 1;
     }
+    put_row(out, work, base, kind, frame, 0);
 }
 
 // ---- the net
 
-// The first net of accepted polynomials over an accepted frame.
-pub(crate) fn make_first(kind: u8, degree: u8, frame: [i64; 9], coefficients: [i64; 180]) -> Net
-    requires { ⌜ (known kind degree ≡ true) × (frameIn (suc (further kind)) frame ≡ true) × (coefficientsIn (record { kind = kind; degree = degree; coefficients = coefficients }) ≡ true) ⌝ }
-    ensures { λ r. ⌜ r ≡ netOver (record { kind = kind; degree = degree; coefficients = coefficients }) (frameOf (suc (further kind)) frame) ⌝ }
+// Makes the entries of the first net of accepted polynomials over an accepted frame, in places that
+// are all 0.
+pub(crate) fn make_first(out: &mut [i64], kind: u8, degree: u8, frame: &[i64], coefficients: &[i64])
+    requires { ⌜ (known kind degree ≡ true) × (frameIn (suc (further kind)) (now frame) ≡ true) × (coefficientsIn (record { kind = kind; degree = degree; coefficients = now coefficients }) ≡ true) × (now out ≡ replicate 180 (pos 0)) × (length (now frame) ≡ 9) × (length (now coefficients) ≡ 180) ⌝ }
+    ensures { λ _. ⌜ now (out .exit) ≡ netOver (record { kind = kind; degree = degree; coefficients = now (coefficients .entry) }) (frameOf (suc (further kind)) (now (frame .entry))) .entries ⌝ }
 {
-    let mut xs = [0; 180];
-    coordinate_numbers(&mut xs, kind, degree as usize, &coefficients);
-    let mut entries = [0; 180];
-    put_entries(&mut entries, xs, kind, degree as usize, &frame);
-    Net {
-        kind,
-        degree,
-        entries,
-    }
-}
-
-// Whether every entry of a net is in range.
-pub(crate) fn net_in_range(net: Net) -> bool
-    requires { ⌜ known (net .kind) (net .degree) ≡ true ⌝ }
-    ensures { λ b. ⌜ b ≡ netIn net ⌝ }
-{
-    let n = numbers(net.kind, net.degree as usize);
-    all_in_range(&net.entries, n)
-}
-
-// A refusal, beside no net.
-pub(crate) fn no_net(number: u8) -> First
-    ensures { λ b. ⌜ b ≡ record { refusal = number; net = noNet } ⌝ }
-{
-    let net = Net {
-        kind: 0,
-        degree: 0,
-        entries: [0; 180],
-    };
-    First {
-        refusal: number,
-        net,
-    }
+    let m = degree as usize;
+    let mut base = [0; PLACES];
+    coordinate_numbers(&mut base, kind, m, coefficients);
+    let mut cur = [0; PLACES];
+    let mut work = [0; PLACES];
+    put_rows(out, &mut work, &mut cur, &mut base, kind, frame, m);
 }

@@ -1,5 +1,6 @@
-// First nets and calls on nets. Both functions take any numbers whatever; what `perform` answers and
-// the net that it hands back are `stepOf` of the crate machine, which the theorem of demand 3 is about.
+// First nets and calls on nets, whose entries stand in places that the caller lends. Any numbers whatever
+// are taken; what a call answers and leaves is `stepOf` of the crate machine, which the theorem of demand 3
+// is about.
 mod calls;
 mod coordinates;
 mod first;
@@ -8,69 +9,112 @@ mod levels;
 mod rows;
 
 ghost use mathlib.Core.Path.{_≡_};
-ghost use Rattle.machine.specs.First.{firstOver};
-ghost use Rattle.machine.specs.Answers.{Numbered};
-ghost use Rattle.machine.specs.Nets.{stepOf};
-use crate::calls::find_point;
-use crate::calls::handed_refusal;
-use crate::calls::make_move;
-use crate::calls::refuse;
+ghost use Rattle.machine.specs.Lent.{
+  firstNumber,
+  firstEntries,
+  lentNumber,
+  lentEntries,
+  pointNumber,
+  pointPlaces,
+};
+use crate::calls::judge_and_move;
+use crate::calls::judge_and_point;
 use crate::first::make_first;
-use crate::first::net_in_range;
-use crate::first::no_net;
+use crate::rows::PLACES;
+use crate::rows::all_in_range;
+use crate::rows::copy;
+use crate::rows::numbers;
 use frames::coefficients_in;
 use frames::frame_in;
 use frames::known_kind;
 use machine::Call;
-use machine::First;
 use machine::Net;
-use machine::Step;
+use machine::Weights;
 
-// The first net of polynomials over a frame, or the number of the refusal beside no net. The
-// coefficients are those of the record, four to a monomial.
-pub fn first_net(kind: u8, degree: u8, frame: [i64; 9], coefficients: [i64; 180]) -> First
-    ensures { λ b. ⌜ b ≡ firstOver (record { kind = kind; degree = degree; coefficients = coefficients }) frame ⌝ }
+// Makes the first net of polynomials over a frame, in places that the caller lends, and answers 0; or
+// answers the number of the refusal, and the places stay as they were. The coefficients are those of
+// the record, four to a monomial. Both lists have the 180 places of a net; the number is 11 otherwise.
+pub fn first_net(
+    entries: &mut [i64],
+    kind: u8,
+    degree: u8,
+    frame: [i64; 9],
+    coefficients: &[i64],
+) -> u8
+    ensures number { λ k. ⌜ k ≡ firstNumber (record { kind = kind; degree = degree; coefficients = now (coefficients .entry) }) frame (now (entries .entry)) ⌝ }
+    ensures entries { λ _. ⌜ now (entries .exit) ≡ firstEntries (record { kind = kind; degree = degree; coefficients = now (coefficients .entry) }) frame (now (entries .entry)) ⌝ }
 {
+    if coefficients.len() != PLACES {
+        return 11;
+    }
+    if entries.len() != PLACES {
+        return 11;
+    }
     if !known_kind(kind, degree) {
-        return no_net(4);
+        return 4;
     }
     if !frame_in(kind, frame) {
-        return no_net(5);
+        return 5;
     }
     if !coefficients_in(kind, degree, coefficients) {
-        return no_net(6);
+        return 6;
     }
-    let net = make_first(kind, degree, frame, coefficients);
-    if !net_in_range(net) {
-        return no_net(7);
+    let mut made = [0; PLACES];
+    make_first(&mut made, kind, degree, &frame, coefficients);
+    let n = numbers(kind, degree as usize);
+    if !all_in_range(&made, n) {
+        return 7;
     }
-    First { refusal: 0, net }
+    copy(entries, &made, PLACES);
+    0
 }
 
-// Makes a call on a net: a move, a point, or a move of no known operation.
-pub fn perform(net: Net, call: Call) -> Step
-    ensures { λ b. ⌜ (b ≡ stepOf net call) × Numbered net call (b .answer) ⌝ }
+// Makes a move on a net whose entries stand in lent places; a refused one leaves them as they were.
+pub fn take_move(
+    entries: &mut [i64],
+    kind: u8,
+    degree: u8,
+    operation: u8,
+    vertex: u8,
+    weights: Weights,
+) -> u8
+    ensures number { λ k. ⌜ k ≡ lentNumber (record { kind = kind; degree = degree; entries = now (entries .entry) }) (Call.Move operation vertex weights) ⌝ }
+    ensures entries { λ _. ⌜ now (entries .exit) ≡ lentEntries (record { kind = kind; degree = degree; entries = now (entries .entry) }) (Call.Move operation vertex weights) ⌝ }
 {
-    let number = handed_refusal(net);
-    if number != 0 {
-        return refuse(net, number);
+    if entries.len() != PLACES {
+        return 11;
     }
-    match call {
-        Call::Move {
-            operation,
-            vertex,
-            weights,
-        } => {
-            let r = weights.r;
-            let s = weights.s;
-            let t = weights.t;
-            make_move(net, operation, vertex, r, s, t)
-        }
-        Call::Point(weights) => {
-            let r = weights.r;
-            let s = weights.s;
-            let t = weights.t;
-            find_point(net, r, s, t)
-        }
+    judge_and_move(
+        entries,
+        kind,
+        degree,
+        operation,
+        vertex,
+        weights.r,
+        weights.s,
+        weights.t,
+    )
+}
+
+// Finds a point of a net whose entries stand in lent places: x, y, z and w go into the first four places
+// of `found`, or nothing does.
+pub fn find_point(entries: &[i64], kind: u8, degree: u8, weights: Weights, found: &mut [i64]) -> u8
+    ensures number { λ k. ⌜ k ≡ pointNumber (record { kind = kind; degree = degree; entries = now (entries .entry) }) (Call.Point weights) (now (found .entry)) ⌝ }
+    ensures found { λ _. ⌜ now (found .exit) ≡ pointPlaces (record { kind = kind; degree = degree; entries = now (entries .entry) }) (Call.Point weights) (now (found .entry)) ⌝ }
+{
+    if found.len() < 4 {
+        return 11;
     }
+    if entries.len() != PLACES {
+        return 11;
+    }
+    judge_and_point(
+        entries,
+        kind,
+        degree,
+        weights.r,
+        weights.s,
+        weights.t,
+        found,
+    )
 }

@@ -3,20 +3,21 @@ use Prim.Native.Nat.{ℕ, zero, suc}
 use native.Mathlib.Nat.{suc-ne-zero}
 use native.Mathlib.Omega.{arith}
 use mathlib.Core.Path.{_≡_, refl, sym, ap, ap₂, _∙_, subst}
-use mathlib.Core.Bool.{Bool, true, false, cond, true≢false}
+use mathlib.Core.Bool.{Bool, true, false, _&&_, cond, true≢false}
 use mathlib.Core.List.{List, []}
-use lib.ListN.{drop}
+use lib.Dec.{eqb}
+use lib.ListN.{length}
+use borrow.Author.Tests.{eq-eqb, ne-eqb}
 use Rattle.machine.specs.Kinds.{known, further, firstOf, unless}
 use lib.IntN.{ℤ}
 use Rattle.machine.specs.Comparison.{Polynomials, netOver}
-use Rattle.machine.specs.declared.First.{First}
-use Rattle.machine.specs.First.{frameOf, coefficientsIn, netIn, firstRefusal, firstOver, firstBy, noNet}
+use Rattle.machine.specs.First.{coefficientsIn, netIn, firstNet, firstRefusal}
 use Rattle.machine.specs.First.{frameIn as frameAllowed}
-use Rattle.bytes.specs.Numbers.{frameNumbers}
-use Rattle.records.specs.Table.{polynomialsOf, valuesAllowed, valuesNumber}
+use Rattle.machine.specs.Lent.{firstNumber, firstEntries}
+use Rattle.records.specs.Table.{valuesAllowed, valuesNumber}
 use Rattle.records.specs.declared.Tag.{Tag}
 use Rattle.records.specs.declared.Tag.the-variants as tags
-use Rattle.records.specs.Reading.{blank, bytesOf, valueAt, endExtent, readingOf, extentBy, fieldExtent}
+use Rattle.records.specs.Reading.{valueAt, endExtent, readingOf, extentBy, fieldExtent}
 use Rattle.records.specs.Causes.{Caused, Sound}
 use Rattle.records.proofs.Causes.{refused-caused}
 use Rattle.records.proofs.Accepted.{accepted-sound}
@@ -24,18 +25,8 @@ use Rattle.records.specs.declared.Layout.{Layout}
 use Rattle.records.specs.declared.Refusal.{Refusal}
 use Rattle.records.specs.declared.Reading.{Reading}
 use Rattle.records.specs.declared.Reading.the-variants.{Accepted, Refused}
-use Rattle.opening.specs.Opening.{layoutBy, layoutIn, polynomialsIn, numbersIn, frameIn, refusalAt, refusalBy, refusalIn, openedOf}
+use Rattle.opening.specs.Opening.{layoutBy, layoutIn, polynomialsAt, polynomialsIn, numbersAt, numbersIn, frameIn, firstNetIn, refusalAt, refusalBy, refusalIn, unopened, openedOf, openedIn, entriesIn}
 use Rattle.opening.specs.declared.Opened.{Opened}
-
--- the number of a first net is its refusal
-number-of : (k : ℕ) (f : Polynomials) (numbers : List ℤ) → firstBy k f numbers .refusal ≡ k
-unfolding firstBy
-number-of zero f numbers = refl
-number-of (suc k) f numbers = refl
-
-first-number : (f : Polynomials) (numbers : List ℤ) → firstOver f numbers .refusal ≡ firstRefusal f numbers
-unfolding firstOver
-first-number f numbers = number-of (firstRefusal f numbers) f numbers
 
 -- a refusal at an offset, by its number
 pub refusal-none : (number offset : ℕ) → number ≡ 0 → record { number = 0; offset = 0 } ≡ refusalAt number offset
@@ -45,6 +36,42 @@ pub refusal-some : (number offset : ℕ) → (number ≡ 0 → ⊥) → record {
 refusal-some zero offset h = absurd (h refl)
 refusal-some (suc k) offset h = refl
 
+refusal-number : (k offset : ℕ) → refusalAt k offset .number ≡ k
+refusal-number zero offset = refl
+refusal-number (suc k) offset = refl
+
+-- ---- the first net in places of a net
+
+pub first-whole : (f : Polynomials) (numbers entries out : List ℤ) (k : ℕ) → length (f .coefficients) ≡ 180 → length entries ≡ 180
+    → k ≡ firstNumber f numbers entries → out ≡ firstEntries f numbers entries → (k ≡ firstRefusal f numbers) × (out ≡ cond (eqb k 0) (firstNet f numbers .entries) entries)
+unfolding firstNumber firstEntries
+first-whole f numbers entries out k one two is left = (
+  is ∙ ap₂ (λ a b. cond (a && b) (firstRefusal f numbers) 11) (eq-eqb (length (f .coefficients)) 180 one) (eq-eqb (length entries) 180 two),
+  left ∙ ap (λ j. cond (eqb j 0) (firstNet f numbers .entries) entries) (sym is),
+)
+
+-- ---- every cause has a number
+
+some : {k : ℕ} → suc k ≡ 0 → ⊥
+some {k} z = suc-ne-zero k z
+
+values-some : (tag : Tag) (kind degree : ℕ) (value : List ℕ) → valuesAllowed tag kind degree value ≡ false → valuesNumber tag ≡ 0 → ⊥
+unfolding valuesAllowed
+values-some tags.Kind kind degree value v z = some z
+values-some tags.Frame kind degree value v z = some z
+values-some tags.Coefficients kind degree value v z = some z
+values-some tags.Moves kind degree value v z = true≢false v
+values-some tags.Point kind degree value v z = true≢false v
+
+-- no cause has number 0
+caused-some : {s : List ℕ} {n at : ℕ} → Caused s n at → n ≡ 0 → ⊥
+caused-some (Caused.cutField b h k) z = some z
+caused-some (Caused.cutValue b h k m) z = some z
+caused-some (Caused.wrongTag b h k) z = some z
+caused-some (Caused.absentTag b h) z = some z
+caused-some (Caused.wrongLength b h k) z = some z
+caused-some {s} (Caused.wrongValues {tag = tag} {at = at} {l = l} b h k m v) z = values-some tag (l .kind) (l .degree) (valueAt s at) v z
+
 -- ---- an accepted reading
 
 module _ (s : List ℕ) (l : Layout) (e : readingOf s ≡ Accepted l) where
@@ -52,13 +79,13 @@ module _ (s : List ℕ) (l : Layout) (e : readingOf s ≡ Accepted l) where
   unfolding layoutIn
   layout-is = ap (λ r. layoutBy r s) e
 
-  pub polynomials-are : polynomialsIn s ≡ polynomialsOf (l .kind) (l .degree) (drop (l .coefficients .start) s)
+  polynomials-are : polynomialsIn s ≡ polynomialsAt l s
   unfolding polynomialsIn
-  polynomials-are = ap (λ x. polynomialsOf (x .kind) (x .degree) (drop (x .coefficients .start) s)) layout-is
+  polynomials-are = ap (λ x. polynomialsAt x s) layout-is
 
-  pub numbers-are : numbersIn s ≡ frameNumbers (bytesOf (l .frame) s)
+  numbers-are : numbersIn s ≡ numbersAt l s
   unfolding numbersIn
-  numbers-are = ap (λ x. frameNumbers (bytesOf (x .frame) s)) layout-is
+  numbers-are = ap (λ x. numbersAt x s) layout-is
 
   sound : Sound s l
   sound = accepted-sound s l e
@@ -89,68 +116,81 @@ module _ (s : List ℕ) (l : Layout) (e : readingOf s ≡ Accepted l) where
   unfolding refusalIn
   refusal-is = ap (λ r. refusalBy r s) e
 
+  number-is : refusalIn s .number ≡ firstRefusal (polynomialsIn s) (numbersIn s)
+  number-is = ap (λ r. r .number) refusal-is ∙ refusal-number (firstRefusal (polynomialsIn s) (numbersIn s)) (l .coefficients .field)
+
   -- the record as the code opens it
-  pub opened-accepted : (first : First) → first ≡ firstOver (polynomialsOf (l .kind) (l .degree) (drop (l .coefficients .start) s)) (frameNumbers (bytesOf (l .frame) s))
-      → record { refusal = refusalAt (first .refusal) (l .coefficients .field); net = first .net; moves = l .moves; point = l .point } ≡ openedOf s
-  unfolding openedOf fieldExtent extentBy
-  opened-accepted first is =
-      λ i.
-      record {
-        refusal = (ap (λ k. refusalAt k (l .coefficients .field)) (ap (λ x. x .refusal) here ∙ first-number (polynomialsIn s) (numbersIn s)) ∙ sym refusal-is) i;
-        net = here i .net;
-        moves = extentBy (sym e i) s 4;
-        point = extentBy (sym e i) s 5;
-      }
-    where
-      here : first ≡ firstOver (polynomialsIn s) (numbersIn s)
-      here = is ∙ sym (ap₂ firstOver polynomials-are numbers-are)
+  module _ (entries : List ℤ) (long : length entries ≡ 180) (k : ℕ) (first : k ≡ firstRefusal (polynomialsAt l s) (numbersAt l s)) where
+    opened-here : record { refusal = refusalAt k (l .coefficients .field); kind = l .kind; degree = l .degree; moves = l .moves; point = l .point } ≡ openedOf s
+    unfolding openedOf fieldExtent extentBy layoutIn
+    opened-here =
+        λ i.
+        record {
+          refusal = (ap (λ j. refusalAt j (l .coefficients .field)) here ∙ sym refusal-is) i;
+          kind = layoutBy (sym e i) s .kind;
+          degree = layoutBy (sym e i) s .degree;
+          moves = extentBy (sym e i) s 4;
+          point = extentBy (sym e i) s 5;
+        }
+      where
+        here : k ≡ firstRefusal (polynomialsIn s) (numbersIn s)
+        here = first ∙ sym (ap₂ firstRefusal polynomials-are numbers-are)
+
+    pub opened-accepted : record { refusal = refusalAt k (l .coefficients .field); kind = l .kind; degree = l .degree; moves = l .moves; point = l .point } ≡ openedIn s entries
+    unfolding openedIn
+    opened-accepted = opened-here ∙ sym (ap (λ b. cond b (openedOf s) (unopened s (record { number = 11; offset = 0 }))) (eq-eqb (length entries) 180 long))
+
+    pub entries-accepted : (out : List ℤ) → out ≡ cond (eqb k 0) (firstNet (polynomialsAt l s) (numbersAt l s) .entries) entries → out ≡ entriesIn s entries
+    unfolding entriesIn
+    entries-accepted out is =
+        is
+        ∙ ap₂ (λ j net. cond (eqb j 0) (net .entries) entries) (sym (refusal-number k (l .coefficients .field)) ∙ ap (λ o. o .refusal .number) opened-accepted)
+        (sym (ap₂ firstNet polynomials-are numbers-are))
 
 -- ---- a refused reading
 
 module _ (s : List ℕ) (r : Refusal) (e : readingOf s ≡ Refused r) where
-  pub opened-refused : record { refusal = r; net = noNet; moves = endExtent s; point = endExtent s } ≡ openedOf s
-  unfolding openedOf fieldExtent extentBy refusalIn polynomialsIn numbersIn layoutIn firstOver firstBy firstRefusal
-  opened-refused =
-      λ i.
-      record {
-        refusal = refusalBy (sym e i) s;
-        net = firstOver (polynomialsOf (layoutBy (sym e i) s .kind) (layoutBy (sym e i) s .degree) (drop (layoutBy (sym e i) s .coefficients .start) s)) (frameNumbers (bytesOf (layoutBy (sym e i) s .frame) s)) .net;
-        moves = extentBy (sym e i) s 4;
-        point = extentBy (sym e i) s 5;
-      }
+  refused-is : refusalIn s ≡ r
+  unfolding refusalIn
+  refused-is = ap (λ x. refusalBy x s) e
 
-refused-is : (s : List ℕ) (r : Refusal) → readingOf s ≡ Refused r → refusalIn s ≡ r
-unfolding refusalIn
-refused-is s r e = ap (λ x. refusalBy x s) e
+  refused-some : r .number ≡ 0 → ⊥
+  refused-some = caused-some (refused-caused s r e)
 
-some : {k : ℕ} → suc k ≡ 0 → ⊥
-some {k} z = suc-ne-zero k z
+  module _ (entries : List ℤ) (long : length entries ≡ 180) where
+    pub opened-refused : unopened s r ≡ openedIn s entries
+    unfolding openedIn openedOf fieldExtent extentBy layoutIn refusalIn
+    opened-refused =
+        (λ i.
+        record {
+          refusal = refusalBy (sym e i) s;
+          kind = layoutBy (sym e i) s .kind;
+          degree = layoutBy (sym e i) s .degree;
+          moves = extentBy (sym e i) s 4;
+          point = extentBy (sym e i) s 5;
+        })
+        ∙ sym (ap (λ b. cond b (openedOf s) (unopened s (record { number = 11; offset = 0 }))) (eq-eqb (length entries) 180 long))
 
-values-some : (tag : Tag) (kind degree : ℕ) (value : List ℕ) → valuesAllowed tag kind degree value ≡ false → valuesNumber tag ≡ 0 → ⊥
-unfolding valuesAllowed
-values-some tags.Kind kind degree value v z = some z
-values-some tags.Frame kind degree value v z = some z
-values-some tags.Coefficients kind degree value v z = some z
-values-some tags.Moves kind degree value v z = true≢false v
-values-some tags.Point kind degree value v z = true≢false v
+    pub entries-refused : entries ≡ entriesIn s entries
+    unfolding entriesIn
+    entries-refused =
+        sym (ap (λ b. cond b (firstNetIn s .entries) entries) (ap (λ o. eqb (o .refusal .number) 0) (sym opened-refused) ∙ ne-eqb (r .number) 0 refused-some))
 
--- no cause has number 0
-caused-some : {s : List ℕ} {n at : ℕ} → Caused s n at → n ≡ 0 → ⊥
-caused-some (Caused.cutField b h k) z = some z
-caused-some (Caused.cutValue b h k m) z = some z
-caused-some (Caused.wrongTag b h k) z = some z
-caused-some (Caused.absentTag b h) z = some z
-caused-some (Caused.wrongLength b h k) z = some z
-caused-some {s} (Caused.wrongValues {tag = tag} {at = at} {l = l} b h k m v) z = values-some tag (l .kind) (l .degree) (valueAt s at) v z
+-- ---- other places than a net's
+
+module _ (s : List ℕ) (entries : List ℤ) (short : length entries ≡ 180 → ⊥) where
+  pub opened-short : unopened s (record { number = 11; offset = 0 }) ≡ openedIn s entries
+  unfolding openedIn
+  opened-short = sym (ap (λ b. cond b (openedOf s) (unopened s (record { number = 11; offset = 0 }))) (ne-eqb (length entries) 180 short))
+
+  pub entries-short : entries ≡ entriesIn s entries
+  unfolding entriesIn
+  entries-short = sym (ap (λ o. cond (eqb (o .refusal .number) 0) (firstNetIn s .entries) entries) (sym opened-short))
 
 -- a record that is not refused has numbers that are not
 pub accepted-numbers : (s : List ℕ) → refusalIn s .number ≡ 0 → firstRefusal (polynomialsIn s) (numbersIn s) ≡ 0
 accepted-numbers s none = by (readingOf s) refl
   where
-    zero-at : (k at : ℕ) → refusalAt k at .number ≡ 0 → k ≡ 0
-    zero-at zero at h = refl
-    zero-at (suc k) at h = h
-
     by : (r : Reading) → readingOf s ≡ r → firstRefusal (polynomialsIn s) (numbersIn s) ≡ 0
-    by (Accepted l) e = zero-at (firstRefusal (polynomialsIn s) (numbersIn s)) (l .coefficients .field) (sym (ap (λ x. x .number) (refusal-is s l e)) ∙ none)
-    by (Refused r) e = absurd (caused-some (refused-caused s r e) (sym (ap (λ x. x .number) (refused-is s r e)) ∙ none))
+    by (Accepted l) e = sym (number-is s l e) ∙ none
+    by (Refused r) e = absurd (refused-some s r e (sym (ap (λ x. x .number) (refused-is s r e)) ∙ none))

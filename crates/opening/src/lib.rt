@@ -1,18 +1,23 @@
-// A record opened: its first net, or the refusal with its offset. This is where demand 3 starts:
-// specs/Demand3.antt states it from the bytes of an accepted record on.
+// A record opened: its first net, in places that the caller lends, or the refusal with its offset. This is
+// where demand 3 starts: specs/Demand3.antt states it from the bytes of an accepted record on.
 ghost use mathlib.Core.Path.{_≡_};
-ghost use lib.ListN.{drop};
-ghost use Rattle.machine.specs.First.{firstOver, noNet};
-ghost use Rattle.bytes.specs.Numbers.{frameNumbers};
-ghost use Rattle.records.specs.Table.{polynomialsOf};
-ghost use Rattle.records.specs.Reading.{bytesOf, endExtent};
-ghost use Rattle.opening.specs.Opening.{refusalAt, openedOf};
-use bytes::coefficients;
+ghost use mathlib.Core.Bool.{cond};
+ghost use lib.Dec.{eqb};
+ghost use lib.ListN.{length};
+ghost use Rattle.machine.specs.First.{firstNet, firstRefusal};
+ghost use Rattle.records.specs.Reading.{endExtent};
+ghost use Rattle.opening.specs.Opening.{
+  polynomialsAt,
+  numbersAt,
+  refusalAt,
+  unopened,
+  openedIn,
+  entriesIn,
+};
 use bytes::frame_numbers;
 use bytes::part_from;
+use bytes::read_coefficients;
 use frames::coefficient_count;
-use machine::First;
-use machine::Net;
 use nets::first_net;
 use records::Extent;
 use records::Layout;
@@ -21,31 +26,34 @@ use records::Refusal;
 use records::read;
 use records::value;
 
-// What a record gives: the refusal, with number 0 where there is none; the first net, or no net; and
-// where the record's moves and its point stand.
+// How many places the entries of a net have.
+const PLACES: usize = 180;
+
+// What a record gives besides its first net: the refusal, with number 0 where there is none; the kind and
+// the degree; and where the record's moves and its point stand.
 pub struct Opened {
     pub refusal: Refusal,
-    pub net: Net,
+    pub kind: u8,
+    pub degree: u8,
     pub moves: Extent,
     pub point: Extent,
 }
 
-// The first net of a record with this layout. The coefficient reader gets the part of the record that
-// begins with field 3's value.
-fn first_of(input: &[u8], layout: Layout) -> First
-    ensures { λ r. ⌜ r ≡ firstOver (polynomialsOf (layout .kind) (layout .degree) (drop (layout .coefficients .start) (now (input .entry)))) (frameNumbers (bytesOf (layout .frame) (now (input .entry)))) ⌝ }
+// Makes the first net of a record with this layout, or tells the number of the refusal. The coefficient
+// reader gets the part of the record that begins with field 3's value.
+fn make_first(input: &[u8], layout: Layout, entries: &mut [i64]) -> u8
+    requires { ⌜ length (now entries) ≡ 180 ⌝ }
+    ensures number { λ k. ⌜ k ≡ firstRefusal (polynomialsAt layout (now (input .entry))) (numbersAt layout (now (input .entry))) ⌝ }
+    ensures entries { λ k. ⌜ now (entries .exit) ≡ cond (eqb k 0) (firstNet (polynomialsAt layout (now (input .entry))) (numbersAt layout (now (input .entry))) .entries) (now (entries .entry)) ⌝ }
 {
     let kind = layout.kind;
     let degree = layout.degree;
     let frame = frame_numbers(value(input, layout.frame));
     let start = layout.coefficients.start;
     let count = coefficient_count(kind, degree);
-    first_net(
-        kind,
-        degree,
-        frame,
-        coefficients(part_from(input, start), count),
-    )
+    let mut coefficients = [0i64; PLACES];
+    read_coefficients(part_from(input, start), count, &mut coefficients);
+    first_net(entries, kind, degree, frame, &coefficients)
 }
 
 // A refusal of the first net, at an offset; none has offset 0.
@@ -73,39 +81,47 @@ fn nothing(input: &[u8]) -> Extent
 }
 
 // What stands beside a refusal.
-fn no_net() -> Net
-    ensures { λ r. ⌜ r ≡ noNet ⌝ }
+fn refuse(input: &[u8], refusal: Refusal) -> Opened
+    ensures { λ r. ⌜ r ≡ unopened (now (input .entry)) refusal ⌝ }
 {
-    Net {
+    let end = nothing(input);
+    Opened {
+        refusal,
         kind: 0,
         degree: 0,
-        entries: [0; 180],
+        moves: end,
+        point: end,
     }
 }
 
-// Opens a record: any bytes at all give a first net or a refusal.
-pub fn open(input: &[u8]) -> Opened
-    ensures { λ r. ⌜ r ≡ openedOf (now (input .entry)) ⌝ }
+// Opens a record: any bytes at all give a first net or a refusal. A refusal leaves the lent places as they
+// were.
+pub fn open(input: &[u8], entries: &mut [i64]) -> Opened
+    ensures opened { λ r. ⌜ r ≡ openedIn (now (input .entry)) (now (entries .entry)) ⌝ }
+    ensures entries { λ _. ⌜ now (entries .exit) ≡ entriesIn (now (input .entry)) (now (entries .entry)) ⌝ }
 {
+    if entries.len() != PLACES {
+        return refuse(
+            input,
+            Refusal {
+                number: 11,
+                offset: 0,
+            },
+        );
+    }
     match read(input) {
-        Reading::Refused(refusal) => {
-            let end = nothing(input);
-            Opened {
-                refusal,
-                net: no_net(),
-                moves: end,
-                point: end,
-            }
-        }
+        Reading::Refused(refusal) => refuse(input, refusal),
         Reading::Accepted(layout) => {
-            let first = first_of(input, layout);
-            let refusal = refusal_at(first.refusal, layout.coefficients.field);
-            let net = first.net;
+            let number = make_first(input, layout, entries);
+            let refusal = refusal_at(number, layout.coefficients.field);
+            let kind = layout.kind;
+            let degree = layout.degree;
             let moves = layout.moves;
             let point = layout.point;
             Opened {
                 refusal,
-                net,
+                kind,
+                degree,
                 moves,
                 point,
             }

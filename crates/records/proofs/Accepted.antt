@@ -222,12 +222,6 @@ at-finish {s} {l} (At at l′) h e = by-end (eqb (left s at) 0) e
     by-end true k = let same : l′ ≡ l = cc in subst (Sound s) same h
     by-end false k = let z : _≡_ {A = ℕ} 0 1 = cc in absurd (omega arith)
 
--- a tag after the first, where what holds tells kind and degree
-ready-by : {P : Layout → Type 0} → ((l : Layout) → P l → known (l .kind) (l .degree) ≡ true) → (tag : Tag) → sameTag tag Kind ≡ false → (p : Progress) → Holds P p
-    → ready tag p ≡ true
-ready-by f tag e (At at l) h = ap (λ (b : Bool). b || known (l .kind) (l .degree)) e ∙ f l h
-ready-by f tag e (Stopped r) h = refl
-
 -- ---- after each tag
 
 -- where the reader stands after some of the tags
@@ -254,15 +248,6 @@ module _ (s : List ℕ) where
   unfolding readingOf
   accepted-sound l e = at-finish (reached s tags) h5 e
 
-  -- after field 1 kind and degree are known, so the reader may come to each of the other tags
-  pub ready-frame : ready Frame (reached s (Kind ∷ [])) ≡ true
-  ready-frame = ready-by (λ l k. k .degree) Frame refl (reached s (Kind ∷ [])) h1
-
-  pub ready-coefficients : ready Coefficients (reached s (Kind ∷ Frame ∷ [])) ≡ true
-  ready-coefficients = ready-by (λ l k. k .before .degree) Coefficients refl (reached s (Kind ∷ Frame ∷ [])) h2
-
-  pub ready-moves : ready Moves (reached s (Kind ∷ Frame ∷ Coefficients ∷ [])) ≡ true
-  ready-moves = ready-by (λ l k. k .degree) Moves refl (reached s (Kind ∷ Frame ∷ Coefficients ∷ [])) h3
-
-  pub ready-point : ready Point (reached s (Kind ∷ Frame ∷ Coefficients ∷ Moves ∷ [])) ≡ true
-  ready-point = ready-by (λ l k. k .degree) Point refl (reached s (Kind ∷ Frame ∷ Coefficients ∷ Moves ∷ [])) h4
+  -- after field 1 kind and degree are known
+  pub known-after : {at : ℕ} {l : Layout} → taken s (At 0 (blank s)) Kind ≡ At at l → known (l .kind) (l .degree) ≡ true
+  known-after e = subst (Holds (AfterKind s)) e h1 .degree

@@ -26,7 +26,7 @@ use Rattle.records.proofs.Fields.{too-short, long-enough, stands-there,
 
 -- ---- the reading, from where a field begins
 
-abbrev onward : List ℕ → List Tag → Progress → Reading
+abbrev pub onward : List ℕ → List Tag → Progress → Reading
 onward s rest p = finished s (foldl (taken s) p rest)
 
 from-here : {s : List ℕ} {rest : List Tag} {at : ℕ} {l : Layout} → Begins s rest at l → readingOf s ≡ onward s rest (At at l)
@@ -37,7 +37,7 @@ from-here {s} (after {tag = tag} {rest = rest} {at = at} {l = l} b h k) =
 from-here {s} (without {tag = tag} {rest = rest} b h k) = from-here b ∙ ap (onward s rest) (skips s tag refl h k)
 
 -- a refusal is not taken back
-stays : (s : List ℕ) (rest : List Tag) (r : Refusal) → onward s rest (Stopped r) ≡ Refused r
+pub stays : (s : List ℕ) (rest : List Tag) (r : Refusal) → onward s rest (Stopped r) ≡ Refused r
 unfolding taken finished
 stays s [] r = refl
 stays s (tag ∷ rest) r = stays s rest r

@@ -7,7 +7,7 @@ use Prim.Native.Nat.{ℕ, _+_, _*_, _≤_, _<_}
 use native.Mathlib.Omega.{arith}
 use borrow.Author.Tests.{le-leb, lt-leb, eq-eqb, ne-eqb, lt-ltb, le-ltb, leb-true, leb-false, eqb-true}
 use lib.ListN.{length, getD, take}
-use lib.Dec.{eqb, leb}
+use lib.Dec.{eqb, leb, ltb}
 use lib.IntN.{ℤ}
 use Rattle.polar.specs.Order.{monomials}
 use Rattle.machine.specs.Kinds.{further}
@@ -18,7 +18,6 @@ use Rattle.records.specs.Reading.{left, lengthAt, valueAt, standsAt, fie
 use Rattle.records.specs.declared.Tag.{Tag}
 use Rattle.records.specs.declared.Tag.the-variants.{Kind, Frame, Coefficients, Moves, Point}
 use Rattle.records.specs.declared.Layout.{Layout}
-use Rattle.records.specs.declared.Refusal.{Refusal}
 use Rattle.records.specs.declared.Progress.{Progress}
 use Rattle.records.specs.declared.Progress.the-variants.{At, Stopped}
 
@@ -60,6 +59,11 @@ same-polynomials kind degree n part e =
     (ap (λ (k : ℕ). coefficientsOf (take k part) count) four ∙ coefficients-of-value part count)
 
 -- ---- the tests of a field whose tag is right
+
+-- of the layout so far only kind and degree matter
+pub same-refusal : (tag : Tag) (l m : Layout) (s : List ℕ) (at : ℕ) → l .kind ≡ m .kind → l .degree ≡ m .degree → fieldRefusal tag l s at ≡ fieldRefusal tag m s at
+unfolding fieldRefusal
+same-refusal tag l m s at k d = rw (k, d) refl
 
 module _ (tag : Tag) (l : Layout) (s : List ℕ) (at : ℕ) where
   pub wrong-length : lengthAllowed tag (l .kind) (l .degree) (lengthAt s at) ≡ false → fieldRefusal tag l s at ≡ 3
@@ -121,13 +125,17 @@ module _ (s : List ℕ) (at : ℕ) where
   pub other-tag : 0 < left s at → 3 ≤ left s at → noField s at ≡ record { number = 2; offset = at }
   other-tag h k = rw (lt-ltb 0 (left s at) h, le-ltb (left s at) 3 k) refl
 
+  -- its number is not 0
+  pub no-field-numbered : noField s at .number ≡ 0 → ⊥
+  no-field-numbered e = by-case (ltb 0 (left s at) && ltb (left s at) 3) e
+    where
+      by-case : (t : Bool) → _≡_ {A = ℕ} (cond t 1 2) 0 → ⊥
+      by-case true k = omega arith
+      by-case false k = omega arith
+
 -- ---- the reader comes to a tag
 
 module _ (s : List ℕ) {p : Progress} (tag : Tag) where
-  pub stays-stopped : {r : Refusal} → p ≡ Stopped r → taken s p tag ≡ Stopped r
-  unfolding taken
-  stays-stopped e = rw e refl
-
   pub takes : {at : ℕ} {l : Layout} → p ≡ At at l → standsAt tag s at ≡ true → taken s p tag ≡ passed tag l s at
   unfolding taken
   takes e h = rw (e, h) refl

@@ -2,3 +2,4 @@ pub mod Fields
 pub mod Causes
 pub mod Accepted
 pub mod Samples
+pub mod Steps

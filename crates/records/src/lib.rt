@@ -6,9 +6,11 @@
 // (the fields, front to back) and Causes (the table of refusals as propositions). What bytes make of
 // numbers is the crate bytes', and what is accepted of a kind, a frame and coefficients is machine's.
 ghost use mathlib.Core.Path.{_≡_};
-ghost use mathlib.Core.Bool.{true};
+ghost use mathlib.Core.Bool.{true, cond};
 ghost use Prim.Native.Nat.{_+_, _<_, _≤_};
 ghost use lib.ListN.{length, take};
+ghost use Rattle.machine.specs.Kinds.{known, within, all};
+ghost use Rattle.bytes.specs.Numbers.{coefficientsOf};
 ghost use Rattle.records.specs.Table.{
   tags,
   tagNumber,
@@ -23,13 +25,11 @@ ghost use Rattle.records.specs.Reading.{
   lengthAt,
   standsAt,
   headed,
-  ready,
   fieldRefusal,
   noField,
   endExtent,
-  blank,
+  extentAt,
   withField,
-  passed,
   taken,
   finished,
   readingOf,
@@ -40,14 +40,18 @@ ghost use Rattle.records.specs.Reading.{
   bytesOf,
 };
 ghost use Rattle.records.specs.Causes.{Told};
+ghost use Rattle.records.specs.declared.Layout.{Layout};
+ghost use Rattle.records.specs.declared.Tag.the-variants.{Moves, Point};
+ghost use Rattle.records.specs.declared.Progress.the-variants.{At, Stopped};
+ghost use Rattle.records.specs.declared.Reading.the-variants.{Refused};
 use bytes::byte_at;
-use bytes::coefficients;
+use bytes::coefficient_at;
 use bytes::first_part;
 use bytes::frame_numbers;
 use bytes::length_of;
 use bytes::part_from;
 use frames::coefficient_count;
-use frames::coefficients_in;
+use frames::coefficient_in;
 use frames::frame_in;
 use frames::known_kind;
 use frames::vertex_count;
@@ -92,7 +96,8 @@ pub enum Tag {
     Point,
 }
 
-// How far the reader has come: at an offset, with the layout so far, or stopped by a refusal.
+// How far the reader has come: at an offset, with the layout so far, or stopped by a refusal. The
+// definitions go from one to the next; the code has the numbers alone.
 enum Progress {
     At(usize, Layout),
     Stopped(Refusal),
@@ -148,6 +153,22 @@ fn length_allowed(tag: Tag, kind: u8, degree: u8, n: usize) -> bool
     }
 }
 
+// Whether the first `count` coefficients are within their limit, where the part begins with them. The
+// first that is not ends the search.
+fn coefficients_allowed(part: &[u8], count: usize) -> bool
+    requires { ⌜ count ≤ 180 ⌝ }
+    ensures { λ r. ⌜ r ≡ all (within 1048576) (take count (coefficientsOf (now (part .entry)) count)) ⌝ }
+{
+    let mut i: usize = 0;
+    while i < count {
+        if !coefficient_in(coefficient_at(part, i)) {
+            return false;
+        }
+        i = i + 1;
+    }
+    true
+}
+
 // Whether the values of a field are within their limits, where the part begins with them and the
 // length n is the table's. Moves and the point are not judged here.
 fn values_allowed(tag: Tag, kind: u8, degree: u8, part: &[u8], n: usize) -> bool
@@ -160,7 +181,7 @@ fn values_allowed(tag: Tag, kind: u8, degree: u8, part: &[u8], n: usize) -> bool
         Tag::Frame => frame_in(kind, frame_numbers(value)),
         Tag::Coefficients => {
             let count = coefficient_count(kind, degree);
-            coefficients_in(kind, degree, coefficients(part, count))
+            coefficients_allowed(part, count)
         }
         Tag::Moves => true,
         Tag::Point => true,
@@ -211,43 +232,35 @@ fn stands_at(tag: Tag, input: &[u8], at: usize) -> bool
     input[at] == tag_number(tag)
 }
 
-// The refusal where no tag that may come next stands: 1 where one or two bytes are left, else 2.
-fn no_field(input: &[u8], at: usize) -> Refusal
-    ensures { λ r. ⌜ r ≡ noField (now (input .entry)) at ⌝ }
+// The refusal's number where no tag that may come next stands: 1 where one or two bytes are left, else 2.
+fn no_field_number(input: &[u8], at: usize) -> u8
+    ensures { λ r. ⌜ r ≡ noField (now (input .entry)) at .number ⌝ }
 {
     let n = bytes_left(input, at);
     if n == 0 {
-        return Refusal {
-            number: 2,
-            offset: at,
-        };
+        return 2;
     }
     if n < 3 {
-        return Refusal {
-            number: 1,
-            offset: at,
-        };
+        return 1;
     }
-    Refusal {
-        number: 2,
-        offset: at,
-    }
+    2
 }
 
 // The number that the field at `at`, whose tag is right, is refused with; 0 where it is not. The tests
-// go by the document's order: the length, then whether the value is whole, then its numbers.
-fn field_refusal(tag: Tag, layout: Layout, input: &[u8], at: usize) -> u8
-    requires { ⌜ (at + 3 ≤ length (now input)) × (headed tag (layout .kind) (layout .degree) ≡ true) ⌝ }
-    ensures { λ r. ⌜ r ≡ fieldRefusal tag layout (now (input .entry)) at ⌝ }
+// go by the document's order: the length, then whether the value is whole, then its numbers. Of the
+// layout so far only kind and degree matter.
+fn field_refusal(tag: Tag, kind: u8, degree: u8, input: &[u8], at: usize) -> u8
+    requires { ⌜ (at + 3 ≤ length (now input)) × (headed tag kind degree ≡ true) ⌝ }
+    ensures { λ r. ⌜ ((l : Layout) → l .kind ≡ kind → l .degree ≡ degree → r ≡ fieldRefusal tag l (now (input .entry)) at) ⌝ }
 {
     let n = length_at(input, at);
-    if !length_allowed(tag, layout.kind, layout.degree, n) {
+    if !length_allowed(tag, kind, degree, n) {
         return 3;
     }
     if bytes_left(input, at + 3) < n {
         return 1;
     }
-    if values_allowed(tag, layout.kind, layout.degree, part_from(input, at + 3), n) {
+    if values_allowed(tag, kind, degree, part_from(input, at + 3), n) {
         return 0;
     }
     values_number(tag)
@@ -266,110 +279,117 @@ fn end_extent(input: &[u8]) -> Extent
     }
 }
 
-// The layout before any field.
-fn blank_layout(input: &[u8]) -> Layout
-    ensures { λ r. ⌜ r ≡ blank (now (input .entry)) ⌝ }
+// The extent of the field at `at`.
+fn extent_at(input: &[u8], at: usize) -> Extent
+    requires { ⌜ at + 3 ≤ length (now input) ⌝ }
+    ensures { λ r. ⌜ r ≡ extentAt (now (input .entry)) at ⌝ }
 {
-    let e = end_extent(input);
-    Layout {
-        kind: 0,
-        degree: 0,
-        head: e,
-        frame: e,
-        coefficients: e,
-        moves: e,
-        point: e,
+    Extent {
+        field: at,
+        start: at + 3,
+        length: length_at(input, at),
     }
 }
 
-// The layout with the field at `at`.
-fn with_field(tag: Tag, layout: Layout, input: &[u8], at: usize) -> Layout
-    requires { ⌜ at + 3 ≤ length (now input) ⌝ }
-    ensures { λ r. ⌜ r ≡ withField tag layout (now (input .entry)) at ⌝ }
+// The extent of the field with the tag, which may be absent, where the reader comes to it at `at`.
+fn extent_if_there(tag: Tag, input: &[u8], at: usize) -> Extent
+    ensures { λ r. ⌜ r ≡ cond (standsAt tag (now (input .entry)) at) (extentAt (now (input .entry)) at) (endExtent (now (input .entry))) ⌝ }
 {
-    let start = at + 3;
-    let here = Extent {
-        field: at,
-        start,
-        length: length_at(input, at),
-    };
-    let mut next = layout;
-    match tag {
-        Tag::Kind => {
-            next.kind = byte_at(input, start);
-            next.degree = byte_at(input, at + 4);
-            next.head = here;
-            next
-        }
-        Tag::Frame => {
-            next.frame = here;
-            next
-        }
-        Tag::Coefficients => {
-            next.coefficients = here;
-            next
-        }
-        Tag::Moves => {
-            next.moves = here;
-            next
-        }
-        Tag::Point => {
-            next.point = here;
-            next
-        }
+    if stands_at(tag, input, at) {
+        return extent_at(input, at);
     }
+    end_extent(input)
 }
 
 // ---- the fields, front to back
 
-// Judges the field at `at`, whose tag is right, and passes it.
-fn pass_field(tag: Tag, layout: Layout, input: &[u8], at: usize) -> Progress
-    requires { ⌜ (at + 3 ≤ length (now input)) × (headed tag (layout .kind) (layout .degree) ≡ true) ⌝ }
-    ensures { λ r. ⌜ r ≡ passed tag layout (now (input .entry)) at ⌝ }
+// The number that the reader stops with where it comes to a tag at `at`; 0 where it goes on. It takes
+// the field with the tag; where there is none, it stops at a required tag and goes on at another.
+fn tag_refusal(tag: Tag, kind: u8, degree: u8, input: &[u8], at: usize) -> u8
+    requires { ⌜ headed tag kind degree ≡ true ⌝ }
+    ensures stops { λ r. ⌜ ((l : Layout) → l .kind ≡ kind → l .degree ≡ degree → (r ≡ 0 → ⊥) → taken (now (input .entry)) (At at l) tag ≡ Stopped (record { number = r; offset = at })) ⌝ }
+    ensures takes { λ r. ⌜ ((l : Layout) → l .kind ≡ kind → l .degree ≡ degree → r ≡ 0 → standsAt tag (now (input .entry)) at ≡ true → taken (now (input .entry)) (At at l) tag ≡ At (at + 3 + lengthAt (now (input .entry)) at) (withField tag l (now (input .entry)) at)) ⌝ }
+    ensures there { λ r. ⌜ (r ≡ 0 → required tag ≡ true → standsAt tag (now (input .entry)) at ≡ true) ⌝ }
 {
-    let number = field_refusal(tag, layout, input, at);
-    let start = at + 3;
-    if number != 0 {
-        return Progress::Stopped(Refusal { number, offset: at });
-    }
-    Progress::At(
-        start + length_at(input, at),
-        with_field(tag, layout, input, at),
-    )
-}
-
-// The reader comes to a tag: it takes the field with the tag; where there is none, it stops at a
-// required tag and goes on at another.
-fn take_field(input: &[u8], progress: Progress, tag: Tag) -> Progress
-    requires { ⌜ ready tag progress ≡ true ⌝ }
-    ensures { λ r. ⌜ r ≡ taken (now (input .entry)) progress tag ⌝ }
-{
-    let Progress::At(at, layout) = progress else {
-        return progress;
-    };
     if stands_at(tag, input, at) {
-        return pass_field(tag, layout, input, at);
+        return field_refusal(tag, kind, degree, input, at);
     }
     if is_required(tag) {
-        return Progress::Stopped(no_field(input, at));
+        return no_field_number(input, at);
     }
-    progress
+    0
 }
 
-// After the last tag: nothing may be left.
-fn finish(input: &[u8], progress: Progress) -> Reading
-    ensures { λ r. ⌜ r ≡ finished (now (input .entry)) progress ⌝ }
+// Where the field at `at` ends.
+fn field_end(input: &[u8], at: usize) -> usize
+    requires { ⌜ at + 3 ≤ length (now input) ⌝ }
+    ensures { λ r. ⌜ r ≡ at + 3 + lengthAt (now (input .entry)) at ⌝ }
 {
-    match progress {
-        Progress::Stopped(refusal) => Reading::Refused(refusal),
-        Progress::At(at, layout) => {
-            if bytes_left(input, at) == 0 {
-                Reading::Accepted(layout)
-            } else {
-                Reading::Refused(no_field(input, at))
-            }
-        }
+    at + 3 + length_at(input, at)
+}
+
+// Where the reader goes on after a tag that may be absent: past the field with the tag, or where it is.
+fn offset_after(tag: Tag, input: &[u8], at: usize) -> usize
+    ensures { λ r. ⌜ r ≡ cond (standsAt tag (now (input .entry)) at) (at + 3 + lengthAt (now (input .entry)) at) at ⌝ }
+{
+    if stands_at(tag, input, at) {
+        return field_end(input, at);
     }
+    at
+}
+
+// A refusal as a reading.
+fn refused(number: u8, offset: usize) -> Reading
+    ensures { λ r. ⌜ r ≡ Refused (record { number = number; offset = offset }) ⌝ }
+{
+    Reading::Refused(Refusal { number, offset })
+}
+
+// The layout of a record whose fields begin at these offsets, or would begin there.
+fn layout_at(
+    kind: u8,
+    degree: u8,
+    input: &[u8],
+    frame: usize,
+    coefficients: usize,
+    moves: usize,
+    point: usize,
+) -> Layout
+    requires { ⌜ (3 ≤ length (now input)) × (frame + 3 ≤ length (now input)) × (coefficients + 3 ≤ length (now input)) ⌝ }
+    ensures { λ r. ⌜ r ≡ record { kind = kind; degree = degree; head = extentAt (now (input .entry)) 0; frame = extentAt (now (input .entry)) frame; coefficients = extentAt (now (input .entry)) coefficients; moves = cond (standsAt Moves (now (input .entry)) moves) (extentAt (now (input .entry)) moves) (endExtent (now (input .entry))); point = cond (standsAt Point (now (input .entry)) point) (extentAt (now (input .entry)) point) (endExtent (now (input .entry))) } ⌝ }
+{
+    Layout {
+        kind,
+        degree,
+        head: extent_at(input, 0),
+        frame: extent_at(input, frame),
+        coefficients: extent_at(input, coefficients),
+        moves: extent_if_there(Tag::Moves, input, moves),
+        point: extent_if_there(Tag::Point, input, point),
+    }
+}
+
+// Reads on after field 3, which begins at `coefficients`: moves and the point may be absent, and
+// nothing may be left after them.
+fn read_on(kind: u8, degree: u8, input: &[u8], frame: usize, coefficients: usize) -> Reading
+    requires { ⌜ (known kind degree ≡ true) × (3 ≤ length (now input)) × (frame + 3 ≤ length (now input)) × (coefficients + 3 ≤ length (now input)) ⌝ }
+    ensures { λ r. ⌜ r ≡ finished (now (input .entry)) (taken (now (input .entry)) (taken (now (input .entry)) (At (coefficients + 3 + lengthAt (now (input .entry)) coefficients) (record { kind = kind; degree = degree; head = extentAt (now (input .entry)) 0; frame = extentAt (now (input .entry)) frame; coefficients = extentAt (now (input .entry)) coefficients; moves = endExtent (now (input .entry)); point = endExtent (now (input .entry)) })) Moves) Point) ⌝ }
+{
+    let moves = field_end(input, coefficients);
+    let fourth = tag_refusal(Tag::Moves, kind, degree, input, moves);
+    if fourth != 0 {
+        return refused(fourth, moves);
+    }
+    let point = offset_after(Tag::Moves, input, moves);
+    let fifth = tag_refusal(Tag::Point, kind, degree, input, point);
+    if fifth != 0 {
+        return refused(fifth, point);
+    }
+    let end = offset_after(Tag::Point, input, point);
+    if bytes_left(input, end) != 0 {
+        return refused(no_field_number(input, end), end);
+    }
+    Reading::Accepted(layout_at(kind, degree, input, frame, coefficients, moves, point))
 }
 
 // Reads a record: the tags are taken in their order, and so the fields front to back. Number and
@@ -378,13 +398,23 @@ pub fn read(input: &[u8]) -> Reading
     ensures reading { λ r. ⌜ r ≡ readingOf (now (input .entry)) ⌝ }
     ensures told { λ r. ⌜ Told (now (input .entry)) (readingNumber r) (readingValues r) ⌝ }
 {
-    let begun = Progress::At(0, blank_layout(input));
-    let after_kind = take_field(input, begun, Tag::Kind);
-    let after_frame = take_field(input, after_kind, Tag::Frame);
-    let after_coefficients = take_field(input, after_frame, Tag::Coefficients);
-    let after_moves = take_field(input, after_coefficients, Tag::Moves);
-    let after_point = take_field(input, after_moves, Tag::Point);
-    finish(input, after_point)
+    let first = tag_refusal(Tag::Kind, 0, 0, input, 0);
+    if first != 0 {
+        return refused(first, 0);
+    }
+    let kind = byte_at(input, 3);
+    let degree = byte_at(input, 4);
+    let frame = field_end(input, 0);
+    let second = tag_refusal(Tag::Frame, kind, degree, input, frame);
+    if second != 0 {
+        return refused(second, frame);
+    }
+    let coefficients = field_end(input, frame);
+    let third = tag_refusal(Tag::Coefficients, kind, degree, input, coefficients);
+    if third != 0 {
+        return refused(third, coefficients);
+    }
+    read_on(kind, degree, input, frame, coefficients)
 }
 
 // ---- one field's value

@@ -1,5 +1,5 @@
-// Runs document 01's samples B1 to B10 by the functions of the crate nets, and writes the answer of
-// each call and the net after the calls. The file stdout beside src has what the document gives.
+// Runs document 01's samples B1 to B10 by the functions of the crates nets and moves, and writes the
+// answer of each call and the net after the calls. The file stdout beside src has what the document gives.
 mod asked;
 mod first;
 mod text;

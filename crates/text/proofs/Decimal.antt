@@ -1,17 +1,17 @@
--- Base ten and base sixteen. A number below ten is its digit, and another is its tenth's digits and its last one (`decimal-small`, `decimal-large`). `io` spells
--- by the same step, so its digits are the definition's wherever it takes the fewest; and the tenth of a number below a power of ten is below the power before.
+-- Base ten and base sixteen. A number below ten is its digit, and another is its tenth's digits and its last one (`decimal-small`, `decimal-large`), and
+-- the tenth of a number below a power of ten is below the power before. A pattern of 64 bits takes 16 digits in base sixteen, so `io` spells those of the definition.
 use Prim.Native.Nat.{ℕ, zero, suc, _+_, _-_, _*_, _/_, _%_, _^_, _≤_, _<_}
-use native.Mathlib.Nat.{mod-lt, mod-eq-of-lt, pow-suc, pow-le-pow-right, one-le-pow}
+use native.Mathlib.Nat.{pow-suc, pow-le-pow-right}
 use native.Mathlib.Omega.{arith}
 use borrow.Author.Tests.{lt-ltb, le-ltb, ltb-true, ltb-false}
-use mathlib.Core.Path.{_≡_, refl, sym, ap, ap₂, _∙_, subst}
+use mathlib.Core.Path.{_≡_, refl, sym, ap, _∙_, subst}
 use mathlib.Core.Bool.{Bool, true, false, true≢false, cond}
 use mathlib.Core.List.{List, [], _∷_, _++_}
 use lib.Dec.{ltb}
 use lib.IntN.{ℤ, pos, negsuc, natAbs}
 use lib.ListN.{length, length-append}
 use lib.Signed.{ltZ}
-use Rattle.io.specs.Digits.{glyph, digits, Fewest}
+use Rattle.io.specs.Digits.{digits, Fewest}
 use Rattle.projection.specs.Projection.{limit}
 use Rattle.text.specs.Words.{digit, decimalBy, decimal, signedDecimal, hexBits}
 
@@ -48,36 +48,22 @@ pub decimal-large : (n : ℕ) → 10 ≤ n → decimal n ≡ decimal (n / 10) ++
 unfolding decimal
 decimal-large n h = large n n h ∙ ap (λ (ds : List ℕ). ds ++ (digit (n % 10) ∷ [])) (enough n (suc (n / 10)) (n / 10) (omega arith) (omega arith))
 
--- ---- the digits that `io` spells
+-- ---- how long a number is
 
-last-digit : (n : ℕ) → digit (n % 10) ≡ glyph (n % 10)
-last-digit n = sym (ap (λ (b : Bool). cond b (48 + n % 10) (87 + n % 10)) (lt-ltb (n % 10) 10 (mod-lt n (omega arith))))
+-- as long as its tenth and one digit more, where there is a tenth
+pub length-large : (n : ℕ) → 10 ≤ n → length (decimal n) ≡ suc (length (decimal (n / 10)))
+length-large n h = let e = ap length (decimal-large n h) ∙ length-append (decimal (n / 10)) (digit (n % 10) ∷ []) in omega (arith, e)
+
+-- every number has a digit
+pub length-some : (n : ℕ) → 0 < length (decimal n)
+length-some n = by (ltb n 10) refl
+  where
+    by : (b : Bool) → ltb n 10 ≡ b → 0 < length (decimal n)
+    by true h = omega (arith, ap length (decimal-small n (ltb-true n 10 h)))
+    by false h = omega (arith, length-large n (ltb-false n 10 h))
 
 tenth-below : (n k : ℕ) → n < 10 ^ suc k → n / 10 < 10 ^ k
 tenth-below n k below = let h : n < 10 ^ k * 10 = subst (λ (p : ℕ). n < p) (pow-suc 10 k) below in omega arith
-
--- a number of two digits or more is no smaller than the power of ten that has as many
-from : (j n : ℕ) → Fewest 10 1 n (suc (suc j)) → 10 ^ j * 10 ≤ n
-from j n (one, below, least) =
-    let before : suc (suc j) - 1 ≡ suc j = omega arith in
-    subst (λ (p : ℕ). p ≤ n) (ap (λ (k : ℕ). 10 ^ k) before ∙ pow-suc 10 j) (least (omega arith))
-
--- the tenth of a number of the fewest digits has one digit fewer, and that is the fewest
-tenth : (j n : ℕ) → Fewest 10 1 n (suc (suc j)) → Fewest 10 1 (n / 10) (suc j)
-tenth j n f =
-    let before : suc j - 1 ≡ j = omega arith in
-    let h : 10 ^ j ≤ n / 10 = omega (arith, from j n f) in
-    (omega arith, tenth-below n (suc j) (f .1), λ more. subst (λ (k : ℕ). 10 ^ k ≤ n / 10) (sym before) h)
-
-pub decimal-digits : (k n : ℕ) → Fewest 10 1 n k → digits 10 k n ≡ decimal n
-decimal-digits zero n (one, below, least) = absurd (omega arith)
-decimal-digits (suc zero) n (one, below, least) =
-    ap (λ (d : ℕ). d ∷ []) (sym (last-digit n)) ∙ ap (λ (d : ℕ). digit d ∷ []) (mod-eq-of-lt below) ∙ sym (decimal-small n below)
-decimal-digits (suc (suc j)) n f =
-    let ten : 10 ≤ n = omega (arith, from j n f, one-le-pow j 10 (omega arith)) in
-    ap₂ (λ (ds : List ℕ) (d : ℕ). ds ++ (d ∷ [])) (decimal-digits (suc j) (n / 10) (tenth j n f)) (sym (last-digit n)) ∙ sym (decimal-large n ten)
-
--- ---- how long a number is
 
 -- a digit more than a tenth of at most k digits, where there is a tenth
 longer : (k n : ℕ) → length (decimal (n / 10)) ≤ k → length (decimal n) ≤ suc k
@@ -85,7 +71,7 @@ longer k n tens = by (ltb n 10) refl
   where
     by : (b : Bool) → ltb n 10 ≡ b → length (decimal n) ≤ suc k
     by true h = omega (arith, ap length (decimal-small n (ltb-true n 10 h)))
-    by false h = omega (arith, ap length (decimal-large n (ltb-false n 10 h)), length-append (decimal (n / 10)) (digit (n % 10) ∷ []))
+    by false h = omega (arith, length-large n (ltb-false n 10 h))
 
 pub length-decimal : (n k : ℕ) → n < 10 ^ k → 0 < k → length (decimal n) ≤ k
 length-decimal n zero below some = absurd (omega arith)

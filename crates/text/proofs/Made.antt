@@ -1,38 +1,37 @@
 -- Moves and points as they are made: an improper move is refused 8 by every net that is not refused as handed, and what is left of the moves is the list from there on.
-use Prim.Native.Nat.{ℕ, zero, suc, _+_, _*_, _-_, _/_, _≤_, _<_}
+use Prim.Native.Nat.{ℕ, zero, suc, _+_, _-_, _/_, _≤_, _<_}
 use native.Mathlib.Nat.{not-suc-le-zero, le-of-suc-le-suc}
 use native.Mathlib.Omega.{arith}
-use mathlib.Core.Path.{_≡_, refl, sym, ap, ap₂, _∙_, subst}
-use mathlib.Core.Bool.{Bool, true, false, _&&_, cond}
+use mathlib.Core.Path.{_≡_, refl, sym, ap, ap₂, _∙_}
+use mathlib.Core.Bool.{true, cond}
 use mathlib.Core.List.{List, [], _∷_, _++_, map, append-nil}
-use lib.Dec.{eqb, leb}
-use lib.ListN.{length, take, drop}
-use borrow.Author.Tests.{leb-true, ne-eqb, eqb-true}
-use Rattle.integers.specs.Sum.{upto}
-use Rattle.polar.specs.Order.{joined, counts}
-use Rattle.machine.specs.Kinds.{further, highest, known, firstOf, unless, all}
-use Rattle.machine.specs.Calls.{outside, degenerate, judged}
-use Rattle.machine.specs.Answers.{refusalNumber}
-use Rattle.machine.specs.Nets.{used, handed, netSize, netRefusal, accepted, stepBy, stepOf}
+use lib.Dec.{eqb, ltb}
+use lib.IntN.{ℤ, pos}
+use lib.ListN.{length, getD, take}
+use borrow.Author.Tests.{eq-eqb, ne-eqb}
+use Rattle.polar.specs.Order.{joined}
+use Rattle.machine.specs.Kinds.{further, known, firstOf, unless, all}
+use Rattle.machine.specs.Calls.{degenerate}
+use Rattle.machine.specs.Answers.{refusalNumber, foundBy}
+use Rattle.machine.specs.Nets.{used, handed, netSize, netRefusal, answerAt, accepted, stepBy, stepOf}
+use Rattle.machine.specs.Lent.{placed, lentNumber, lentEntries, pointNumber, pointPlaces}
 use Rattle.machine.specs.Lists.{netAfter, netAnswers}
 use Rattle.machine.specs.declared.Net.{Net}
-use Rattle.machine.specs.declared.Step.{Step}
-use Rattle.machine.specs.declared.Answer.{Answer}
 use Rattle.machine.specs.declared.Answer.the-variants as answer
 use Rattle.machine.specs.declared.Weights.{Weights}
 use Rattle.machine.specs.declared.Call.{Call}
 use Rattle.machine.specs.declared.Call.the-variants as call
-use Rattle.machine.proofs.All.{first-none, unless-none, and-parts}
+use Rattle.machine.proofs.All.{first-none, unless-none}
+use Rattle.machine.proofs.Answers.{numbered}
 use Rattle.bytes.specs.Moves.{callOf, moveAt, callAt, weightsOf}
 use Rattle.bytes.specs.declared.Move.{Move}
 use Rattle.bytes.specs.declared.Move.the-variants.{Proper, Improper}
 use Rattle.bytes.proofs.Decoded.{improper-refused, move-call}
 use Rattle.frames.proofs.Counts.{further-few}
-use Rattle.projection.specs.Projection.{inRange}
-use Rattle.nets.specs.Rows.{Sized}
-use Rattle.text.specs.Text.{moveLine, moveLines, pointLine, netLines}
+use Rattle.projection.specs.Projection.{inRange, projectionOf}
+use Rattle.text.specs.Text.{moveLine, moveLines, pointRefusedLine, projectionLine, pointLine}
 use Rattle.text.specs.Rows.{callsOf, pointsOf, Sturdy}
-use Rattle.text.proofs.NetRows.{from, upto-from, from-next, from-none}
+use Rattle.text.proofs.NetRows.{from, upto-from, from-next}
 
 -- ---- an improper move
 
@@ -49,6 +48,17 @@ improper-step net value k m o v w h is e =
 -- a proper one is the call that is made of it
 pub proper-call : (value : List ℕ) (k : ℕ) (m : Move) (o v : ℕ) (w : Weights) → m ≡ moveAt value k → m ≡ Proper o v w → call.Move o v w ≡ callOf (moveAt value k)
 proper-call value k m o v w is e = ap callOf (sym e ∙ is)
+
+-- ---- a call as the code makes it, on places of a net's number
+
+module _ (net : Net) (c : Call) (long : length (net .entries) ≡ 180) where
+  pub lent-number : {k : ℕ} → k ≡ lentNumber net c → k ≡ refusalNumber (stepOf net c .answer)
+  unfolding lentNumber
+  lent-number is = is ∙ ap (λ b. cond b (netRefusal net c) 11) (eq-eqb (length (net .entries)) 180 long) ∙ sym (numbered net c (stepOf net c) refl .1 .0)
+
+  pub lent-entries : {out : List ℤ} → out ≡ lentEntries net c → out ≡ stepOf net c .net .entries
+  unfolding lentEntries
+  lent-entries is = is ∙ ap (λ b. cond b (stepOf net c .net .entries) (net .entries)) (eq-eqb (length (net .entries)) 180 long)
 
 -- ---- the moves one after the other
 
@@ -118,6 +128,35 @@ unfolding netAnswers
 point-one net value h =
     ap (λ b. joined pointLine (netAnswers net (cond b [] (call.Point (weightsOf value) ∷ [])))) (ne-eqb (length value) 0 h)
     ∙ append-nil (pointLine (stepOf net (call.Point (weightsOf value)) .answer))
+
+-- the point as the code finds it, in four places
+module _ (net : Net) (w : Weights) (found : List ℤ) (long : length (net .entries) ≡ 180) (four : length found ≡ 4) {k : ℕ} (is : k ≡ pointNumber net (call.Point w) found) where
+  number-is : k ≡ netRefusal net (call.Point w)
+  unfolding pointNumber lentNumber
+  number-is =
+      is
+      ∙ ap (λ n. cond (ltb n 4) 11 (lentNumber net (call.Point w))) four
+      ∙ ap (λ b. cond b (netRefusal net (call.Point w)) 11) (eq-eqb (length (net .entries)) 180 long)
+
+  pub point-refused : (k ≡ 0 → ⊥) → pointLine (stepOf net (call.Point w) .answer) ≡ pointRefusedLine k
+  unfolding stepOf stepBy pointLine
+  point-refused some = ap (λ n. pointLine (stepBy n net (call.Point w) .answer)) (sym number-is) ∙ by k some
+    where
+      by : (n : ℕ) → (n ≡ 0 → ⊥) → pointLine (stepBy n net (call.Point w) .answer) ≡ pointRefusedLine n
+      by zero h = absurd (h refl)
+      by (suc n) h = refl
+
+  pub point-found : k ≡ 0 → {new : List ℤ} → new ≡ pointPlaces net (call.Point w) found → {x y z t : ℤ}
+      → x ≡ getD new 0 (pos 0) → y ≡ getD new 1 (pos 0) → z ≡ getD new 2 (pos 0) → t ≡ getD new 3 (pos 0)
+      → pointLine (stepOf net (call.Point w) .answer) ≡ projectionLine (projectionOf x y z t)
+  unfolding stepOf stepBy accepted answerAt pointLine pointPlaces
+  point-found none {new} left a b c d =
+      let places : new ≡ placed (foundBy 0 net (call.Point w)) found = left ∙ ap (λ n. placed (foundBy n net (call.Point w)) found) (sym is ∙ none) in
+      ap (λ n. pointLine (stepBy n net (call.Point w) .answer)) (sym number-is ∙ none)
+      ∙ sym
+      (λ i.
+      projectionLine
+      (projectionOf ((a ∙ ap (λ l. getD l 0 (pos 0)) places) i) ((b ∙ ap (λ l. getD l 1 (pos 0)) places) i) ((c ∙ ap (λ l. getD l 2 (pos 0)) places) i) ((d ∙ ap (λ l. getD l 3 (pos 0)) places) i)))
 
 -- ---- a net that is not refused as handed has a known kind and degree
 

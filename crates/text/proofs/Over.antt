@@ -1,12 +1,12 @@
 -- Texts written into a buffer one after the other are their concatenation written once. The idea: at the second text's place the first half of the buffer is
 -- `take at old ++ a`, whose length is that place, so the second write leaves it whole.
-use Prim.Native.Nat.{ℕ, _+_, _≤_}
+use Prim.Native.Nat.{ℕ, suc, _+_, _≤_, _<_}
 use native.Mathlib.Nat.{add-zero, add-assoc}
 use native.Mathlib.Omega.{arith}
 use mathlib.Core.Path.{_≡_, sym, ap, ap₂, _∙_}
 use mathlib.Core.List.{List, [], _∷_, _++_, append-assoc}
-use lib.ListN.{length, take, drop, length-append, length-drop, take-append-drop}
-use lib.Seq.{length-take-le, take-length, take-at, drop-append-add, drop-drop, paste}
+use lib.ListN.{length, take, drop, set, length-append, length-drop, take-append-drop}
+use lib.Seq.{length-take-le, take-length, take-at, drop-at, drop-append-add, drop-drop, append-snoc, set-split, take-set-le, paste}
 use Rattle.text.specs.Words.{over, Wrote}
 
 -- ---- an empty text, and the length
@@ -55,6 +55,26 @@ unfolding over
 copied old at word =
     ap (λ (l : List ℕ). take at old ++ l ++ drop (at + length word) old) (take-length word)
     ∙ append-assoc (take at old) word (drop (at + length word) old)
+
+-- ---- a text that is written from its end
+
+-- its last byte first, then the rest before it
+pub over-last : (old : List ℕ) (at : ℕ) (a : List ℕ) (b : ℕ) → at + length a < length old → over (set old (at + length a) b) at a ≡ over old at (a ++ (b ∷ []))
+unfolding over
+over-last old at a b room =
+    let place = at + length a in
+    let tail : drop place (set old place b) ≡ b ∷ drop (suc place) old
+    = ap (drop place) (set-split old place b room) ∙ drop-at (take place old) (b ∷ drop (suc place) old) place (length-take-le place old (omega arith)) in
+    let end : suc place ≡ at + length (a ++ (b ∷ [])) = omega (arith, length-append a (b ∷ [])) in
+    ap₂ (λ (u v : List ℕ). u ++ (a ++ v)) (take-set-le at old place b (omega arith)) tail
+    ∙ ap (λ (l : List ℕ). take at old ++ l) (sym (append-snoc a b (drop (suc place) old)) ∙ ap (λ (k : ℕ). (a ++ (b ∷ [])) ++ drop k old) end)
+
+-- a text of one byte
+pub over-one : (old : List ℕ) (at b : ℕ) → at < length old → set old at b ≡ over old at (b ∷ [])
+over-one old at b room =
+    ap (λ (k : ℕ). set old k b) (sym (add-zero at))
+    ∙ sym (over-nil (set old (at + 0) b) at)
+    ∙ over-last old at [] b (omega arith)
 
 -- ---- writers in a row
 

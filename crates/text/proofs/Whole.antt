@@ -1,41 +1,41 @@
 -- The whole text: the net machine's answers are the comparison machine's, so the text that the code puts together is the document's; and it always has room.
-use Prim.Native.Nat.{ℕ, zero, suc, _+_, _/_, _%_, _≤_, _<_, _^_}
+use Prim.Native.Nat.{ℕ, zero, suc, _+_, _/_, _%_, _≤_, _<_}
 use native.Mathlib.Omega.{arith}
 use mathlib.Core.Path.{_≡_, refl, sym, ap, ap₂, _∙_, subst}
-use mathlib.Core.Bool.{Bool, true, false, _&&_, cond}
-use mathlib.Core.List.{List, [], _∷_, _++_, map}
+use mathlib.Core.Bool.{Bool, true, false, cond}
+use mathlib.Core.List.{List, [], _∷_, _++_}
 use lib.Dec.{eqb, leb}
+use lib.IntN.{ℤ}
 use lib.ListN.{length, take, drop, length-take, length-append, length-map}
 use lib.Seq.{take-append-seam, length-take-le}
-use borrow.Author.Tests.{leb-true, le-leb, lt-leb}
+use borrow.Author.Tests.{eq-eqb, leb-true, le-leb, lt-leb}
 use Rattle.integers.specs.Sum.{upto}
 use Rattle.integers.proofs.Sums.{length-upto}
 use Rattle.polar.specs.Order.{joined}
 use Rattle.machine.specs.Comparison.{Polynomials, Frame, netOver}
 use Rattle.machine.specs.Nets.{handed}
-use Rattle.machine.specs.Lists.{netAfter, netAnswers, frameAfter, machineAnswers}
+use Rattle.machine.specs.Lists.{netAnswers, frameAfter}
 use Rattle.machine.specs.First.{firstRefusal}
 use Rattle.machine.specs.declared.Net.{Net}
 use Rattle.machine.specs.declared.Call.{Call}
 use Rattle.machine.proofs.All.{and-parts}
 use Rattle.machine.proofs.Over.{Reached, reached-handed}
-use Rattle.machine.proofs.Demand3.{nets-agree, answers-agree, reached-after, start-is, start-reached}
+use Rattle.machine.proofs.Demand3.{nets-agree, answers-agree, reached-after, start-reached}
 use Rattle.machine.specs.declared.Call.the-variants as call
 use Rattle.bytes.specs.Moves.{weightsOf, callAt}
 use Rattle.records.specs.Reading.{bytesOf, readingOf, extentBy, fieldExtent}
-use Rattle.records.specs.Table.{movesLengthAllowed}
 use Rattle.records.specs.declared.Reading.{Reading}
 use Rattle.records.specs.declared.Reading.the-variants as reading
 use Rattle.records.proofs.Accepted.{accepted-sound}
-use Rattle.opening.specs.Opening.{polynomialsIn, numbersIn, frameIn, movesIn, pointIn, refusalIn, openedOf}
+use Rattle.opening.specs.Opening.{polynomialsIn, numbersIn, frameIn, firstNetIn, movesIn, pointIn, refusalIn, unopened, openedOf, openedIn, entriesIn}
 use Rattle.opening.specs.declared.Opened.{Opened}
 use Rattle.opening.proofs.Steps.{accepted-numbers}
 use Rattle.text.specs.Words.{over, Wrote}
 use Rattle.text.specs.Text.{refusedLine, headLine, moveLines, netLines, pointLine, acceptedText, textBy, textOf, fits, writtenOf, bufferOf}
-use Rattle.text.specs.Rows.{callsOf, pointsOf, Sturdy, netText}
+use Rattle.text.specs.Rows.{netOf, callsOf, pointsOf, Sturdy, netText}
 use Rattle.text.specs.Within.{Within}
 use Rattle.text.specs.declared.Written.the-variants.{Bytes, Refused}
-use Rattle.text.proofs.Room.{accepted-room, refused-room}
+use Rattle.text.proofs.Room.{accepted-room}
 
 -- ---- the two machines tell the same text
 
@@ -83,20 +83,14 @@ module _ (s : List ℕ) (ok : refusalIn s .number ≡ 0) where
   at-start : Reached (polynomialsIn s) (frameIn s)
   at-start = start-reached (polynomialsIn s) (numbersIn s) none
 
-  net-is : openedOf s .net ≡ netOver (polynomialsIn s) (frameIn s)
-  unfolding openedOf
-  net-is = start-is (polynomialsIn s) (numbersIn s) none
-
-  pub sturdy-opened : Sturdy (openedOf s .net)
-  sturdy-opened calls =
-      ap (λ n. handed (netAfter n calls)) net-is
-      ∙ ap handed (nets-agree (polynomialsIn s) (frameIn s) at-start calls)
+  sturdy-first : Sturdy (firstNetIn s)
+  sturdy-first calls =
+      ap handed (nets-agree (polynomialsIn s) (frameIn s) at-start calls)
       ∙ reached-handed (polynomialsIn s) (frameAfter (polynomialsIn s) (frameIn s) calls) (reached-after (polynomialsIn s) (frameIn s) at-start calls)
 
-  text-of : netText (openedOf s .net) (movesIn s) (pointIn s) ≡ textOf s
+  text-of : netText (firstNetIn s) (movesIn s) (pointIn s) ≡ textOf s
   unfolding textOf
-  text-of =
-      ap (λ n. netText n (movesIn s) (pointIn s)) net-is ∙ machine-text (polynomialsIn s) (frameIn s) at-start (movesIn s) (pointIn s) ∙ sym (ap (λ k. textBy k s) ok)
+  text-of = machine-text (polynomialsIn s) (frameIn s) at-start (movesIn s) (pointIn s) ∙ sym (ap (λ k. textBy k s) ok)
 
   text-room : length (textOf s) ≤ 4096
   unfolding textOf
@@ -104,26 +98,38 @@ module _ (s : List ℕ) (ok : refusalIn s .number ≡ 0) where
       subst (λ k. length (textBy k s) ≤ 4096) (sym ok)
       (accepted-room (polynomialsIn s) (frameIn s) at-start (movesIn s) (pointIn s) (moves-few s) (points-few s))
 
--- ---- a record as the code has opened it
+-- ---- a record as the code has opened it, in places of a net's number
 
-module _ (s : List ℕ) (o : Opened) (is : o ≡ openedOf s) where
+module _ (s : List ℕ) (lent : List ℤ) {entries : List ℤ} {o : Opened} (long : length lent ≡ 180) (is : (o ≡ openedIn s lent) × (entries ≡ entriesIn s lent)) where
+  opened-is : o ≡ openedOf s
+  unfolding openedIn
+  opened-is = is .0 ∙ ap (λ b. cond b (openedOf s) (unopened s (record { number = 11; offset = 0 }))) (eq-eqb (length lent) 180 long)
+
   number-is : o .refusal .number ≡ refusalIn s .number
   unfolding openedOf
-  number-is = ap (λ x. x .refusal .number) is
+  number-is = ap (λ x. x .refusal .number) opened-is
 
-  pub opened-sturdy : o .refusal .number ≡ 0 → Sturdy (o .net)
-  opened-sturdy ok = subst (λ (x : Opened). Sturdy (x .net)) (sym is) (sturdy-opened s (sym number-is ∙ ok))
+  module _ (ok : o .refusal .number ≡ 0) where
+    net-is : netOf (o .kind) (o .degree) entries ≡ firstNetIn s
+    unfolding openedOf entriesIn polynomialsIn netOver
+    net-is =
+        let made : entries ≡ firstNetIn s .entries = is .1 ∙ ap (λ k. cond (eqb k 0) (firstNetIn s .entries) lent) (sym (ap (λ x. x .refusal .number) (is .0)) ∙ ok) in
+        λ i. netOf (opened-is i .kind) (opened-is i .degree) (made i)
 
-  pub opened-text : o .refusal .number ≡ 0 → netText (o .net) (callsOf (bytesOf (o .moves) s)) (pointsOf (bytesOf (o .point) s)) ≡ textOf s
-  unfolding openedOf movesIn pointIn
-  opened-text ok = ap (λ (x : Opened). netText (x .net) (callsOf (bytesOf (x .moves) s)) (pointsOf (bytesOf (x .point) s))) is ∙ text-of s (sym number-is ∙ ok)
+    pub opened-sturdy : Sturdy (netOf (o .kind) (o .degree) entries)
+    opened-sturdy = subst (λ (n : Net). Sturdy n) (sym net-is) (sturdy-first s (sym number-is ∙ ok))
 
-  pub opened-room : o .refusal .number ≡ 0 → length (netText (o .net) (callsOf (bytesOf (o .moves) s)) (pointsOf (bytesOf (o .point) s))) ≤ 4096
-  opened-room ok = subst (λ t. length t ≤ 4096) (sym (opened-text ok)) (text-room s (sym number-is ∙ ok))
+    pub opened-text : netText (netOf (o .kind) (o .degree) entries) (callsOf (bytesOf (o .moves) s)) (pointsOf (bytesOf (o .point) s)) ≡ textOf s
+    unfolding openedOf movesIn pointIn
+    opened-text =
+        (λ i. netText (net-is i) (callsOf (bytesOf (opened-is i .moves) s)) (pointsOf (bytesOf (opened-is i .point) s))) ∙ text-of s (sym number-is ∙ ok)
+
+    pub opened-room : length (netText (netOf (o .kind) (o .degree) entries) (callsOf (bytesOf (o .moves) s)) (pointsOf (bytesOf (o .point) s))) ≤ 4096
+    opened-room = subst (λ t. length t ≤ 4096) (sym opened-text) (text-room s (sym number-is ∙ ok))
 
   pub refused-text : (o .refusal .number ≡ 0 → ⊥) → refusedLine (o .refusal .number) (o .refusal .offset) ≡ textOf s
   unfolding textOf openedOf
-  refused-text some = ap (λ (x : Opened). refusedLine (x .refusal .number) (x .refusal .offset)) is ∙ by (refusalIn s .number) (λ z. some (number-is ∙ z))
+  refused-text some = ap (λ (x : Opened). refusedLine (x .refusal .number) (x .refusal .offset)) opened-is ∙ by (refusalIn s .number) (λ z. some (number-is ∙ z))
     where
       by : (n : ℕ) → (n ≡ 0 → ⊥) → refusedLine n (refusalIn s .offset) ≡ textBy n s
       by zero h = absurd (h refl)

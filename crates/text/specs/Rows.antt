@@ -4,6 +4,7 @@ use mathlib.Core.Path.{_≡_}
 use mathlib.Core.Bool.{cond}
 use mathlib.Core.List.{List, [], _∷_, _++_, map}
 use lib.Dec.{eqb}
+use lib.IntN.{ℤ}
 use lib.ListN.{length}
 use Rattle.integers.specs.Sum.{upto}
 use Rattle.nets.specs.Flips.{countsAt}
@@ -32,6 +33,10 @@ abbrev pub indexText : ℕ → ℕ → ℕ → ℕ → List ℕ
 indexText zero m n k = []
 indexText (suc zero) m n k = decimal n
 indexText (suc (suc kind)) m n k = decimal (m - n) ++ ((32 ∷ decimal (n - k)) ++ (32 ∷ decimal k))
+
+-- the net of this kind and degree whose entries stand in lent places
+abbrev pub netOf : ℕ → ℕ → List ℤ → Net
+netOf kind degree entries = record { kind = kind; degree = degree; entries = entries }
 
 -- the moves in the value of field 4
 abbrev pub callsOf : List ℕ → List Call

@@ -5,9 +5,11 @@ mod net;
 mod words;
 
 ghost use mathlib.Core.Path.{_≡_};
+ghost use Prim.Native.Nat.{_≤_};
 ghost use lib.ListN.{length};
 ghost use Rattle.text.specs.Words.{Wrote};
 ghost use Rattle.text.specs.Within.{Within};
+ghost use Rattle.text.specs.Rows.{netOf, callsOf, pointsOf, Sturdy, netText};
 ghost use Rattle.text.specs.Text.{refusedLine, textOf, writtenOf, bufferOf};
 use crate::lines::write_head;
 use crate::lines::write_refused;
@@ -19,6 +21,9 @@ use opening::open;
 use records::Refusal;
 use records::value;
 
+// No text has more bytes.
+const LONGEST: usize = 4096;
+
 // What writing a text answers.
 pub enum Written {
     // How many bytes the text has.
@@ -29,44 +34,72 @@ pub enum Written {
 
 // Makes the one line of a refused record.
 fn write_refusal(out: &mut [u8], refusal: Refusal) -> usize
-    requires { ⌜ length (now out) ≡ 4096 ⌝ }
+    requires { ⌜ 4096 ≤ length (now out) ⌝ }
     ensures { λ r. ⌜ Wrote (now (out .entry)) 0 (refusedLine (refusal .number) (refusal .offset)) (now (out .exit)) r ⌝ }
 {
     write_refused(out, 0, refusal.number, refusal.offset)
 }
 
+// Makes the text of an accepted record, whose first net stands in the lent places: the head, the moves
+// that are refused, the net that the moves leave, and the point.
+fn write_accepted(
+    out: &mut [u8],
+    entries: &mut [i64],
+    kind: u8,
+    degree: u8,
+    moves: &[u8],
+    point: &[u8],
+) -> usize
+    requires { ⌜ (length (now entries) ≡ 180) × Sturdy (netOf kind degree (now entries)) × (length (netText (netOf kind degree (now entries)) (callsOf (now moves)) (pointsOf (now point))) ≤ length (now out)) ⌝ }
+    ensures { λ r. ⌜ Wrote (now (out .entry)) 0 (netText (netOf kind degree (now (entries .entry))) (callsOf (now (moves .entry))) (pointsOf (now (point .entry)))) (now (out .exit)) r ⌝ }
+{
+    let after_head = write_head(out, 0, kind, degree);
+    let after_moves = write_moves(out, after_head, entries, kind, degree, moves);
+    let after_net = write_net(out, after_moves, kind, degree, entries);
+    write_point(out, after_net, entries, kind, degree, point)
+}
+
 // Makes the text in a buffer that every text fits into.
 fn make_text(out: &mut [u8], input: &[u8]) -> usize
-    requires { ⌜ length (now out) ≡ 4096 ⌝ }
+    requires { ⌜ 4096 ≤ length (now out) ⌝ }
     ensures { λ r. ⌜ Wrote (now (out .entry)) 0 (textOf (now (input .entry))) (now (out .exit)) r ⌝ }
 {
-    let opened = open(input);
+    let mut entries = [0i64; 180];
+    let opened = open(input, &mut entries);
     let refusal = opened.refusal;
     if refusal.number != 0 {
         return write_refusal(out, refusal);
     }
-    let net = opened.net;
-    let moves = opened.moves;
-    let point = opened.point;
-    let after_head = write_head(out, 0, net.kind, net.degree);
-    let made = write_moves(out, after_head, net, value(input, moves));
-    let reached = made.net;
-    let after_net = write_net(out, made.at, reached);
-    write_point(out, after_net, reached, value(input, point))
+    let moves = value(input, opened.moves);
+    let point = value(input, opened.point);
+    write_accepted(out, &mut entries, opened.kind, opened.degree, moves, point)
 }
 
-// Writes the text of a record. A buffer that is too short is not touched; behind the text the buffer
-// is as it was.
-pub fn write_text(input: &[u8], out: &mut [u8]) -> Written
+// Writes the text of a record into a buffer that may be too short for it: the text is made beside it
+// first, and put there where it fits.
+fn write_where_it_fits(input: &[u8], out: &mut [u8]) -> Written
     ensures answer { λ r. ⌜ r ≡ writtenOf (textOf (now (input .entry))) (now (out .entry)) ⌝ }
     ensures within { λ r. ⌜ Within r (now (out .exit)) ⌝ }
     ensures buffer { λ _. ⌜ now (out .exit) ≡ bufferOf (textOf (now (input .entry))) (now (out .entry)) ⌝ }
 {
-    let mut text = [0u8; 4096];
+    let mut text = [0u8; LONGEST];
     let n = make_text(&mut text, input);
     if out.len() < n {
         return Written::Refused(11);
     }
     put(out, 0, &text[..n]);
     Written::Bytes(n)
+}
+
+// Writes the text of a record. A buffer that is too short is not touched; behind the text the buffer
+// is as it was. Where the longest text fits, it is made in the buffer itself.
+pub fn write_text(input: &[u8], out: &mut [u8]) -> Written
+    ensures answer { λ r. ⌜ r ≡ writtenOf (textOf (now (input .entry))) (now (out .entry)) ⌝ }
+    ensures within { λ r. ⌜ Within r (now (out .exit)) ⌝ }
+    ensures buffer { λ _. ⌜ now (out .exit) ≡ bufferOf (textOf (now (input .entry))) (now (out .entry)) ⌝ }
+{
+    if out.len() < LONGEST {
+        return write_where_it_fits(input, out);
+    }
+    Written::Bytes(make_text(out, input))
 }

@@ -11,12 +11,11 @@ ghost use Rattle.nets.specs.Flips.{countsAt};
 ghost use Rattle.text.specs.Words.{Wrote, signedDecimal, line};
 ghost use Rattle.machine.specs.Nets.{handed};
 ghost use Rattle.text.specs.Text.{entryLine, entryLines, netLines};
-ghost use Rattle.text.specs.Rows.{lastOf, rowOf, indexText};
+ghost use Rattle.text.specs.Rows.{netOf, lastOf, rowOf, indexText};
 use crate::lines::end_with_three;
 use crate::lines::next_signed;
 use crate::lines::put_labelled;
 use crate::words::put_decimal;
-use machine::Net;
 
 // The largest k of row n.
 pub(crate) fn last_of(kind: u8, n: usize) -> usize
@@ -126,10 +125,9 @@ pub(crate) fn write_entries(
 }
 
 // The lines of a net.
-pub(crate) fn write_net(out: &mut [u8], at: usize, net: Net) -> usize
-    requires { ⌜ (handed net ≡ 0) × (at + length (netLines net) ≤ length (now out)) ⌝ }
-    ensures { λ r. ⌜ Wrote (now (out .entry)) at (netLines net) (now (out .exit)) r ⌝ }
+pub(crate) fn write_net(out: &mut [u8], at: usize, kind: u8, degree: u8, entries: &[i64]) -> usize
+    requires { ⌜ (length (now entries) ≡ 180) × (handed (netOf kind degree (now entries)) ≡ 0) × (at + length (netLines (netOf kind degree (now entries))) ≤ length (now out)) ⌝ }
+    ensures { λ r. ⌜ Wrote (now (out .entry)) at (netLines (netOf kind degree (now (entries .entry)))) (now (out .exit)) r ⌝ }
 {
-    let numbers = net.entries;
-    write_entries(out, at, net.kind, net.degree as usize, &numbers)
+    write_entries(out, at, kind, degree as usize, entries)
 }

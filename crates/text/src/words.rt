@@ -1,10 +1,11 @@
 // Words and numbers written into a lent buffer. Each function writes from place `at` on, leaves the
 // other places as they were, and answers the place after what it wrote. That there is room is the
 // caller's to show: whether a whole text fits is known before its first byte is written.
-ghost use Prim.Native.Nat.{_+_, _≤_};
+ghost use mathlib.Core.Path.{_≡_};
+ghost use Prim.Native.Nat.{_+_, _≤_, _<_};
 ghost use lib.ListN.{length};
 ghost use lib.Ieee.{binary64, toBits};
-ghost use Rattle.text.specs.Words.{Wrote, decimal, signedDecimal, hexBits};
+ghost use Rattle.text.specs.Words.{Wrote, digit, decimal, signedDecimal, hexBits};
 use integers::magnitude;
 use projection::bits;
 
@@ -21,14 +22,43 @@ pub(crate) fn put(out: &mut [u8], at: usize, word: &[u8]) -> usize
     at + i
 }
 
-// A number in base ten.
+// A digit's code.
+pub(crate) fn digit_of(d: u64) -> u8
+    requires { ⌜ d < 10 ⌝ }
+    ensures { λ r. ⌜ r ≡ digit d ⌝ }
+{
+    48 + d as u8
+}
+
+// How many digits a number has in base ten.
+pub(crate) fn digit_count(n: u64) -> usize
+    ensures { λ r. ⌜ r ≡ length (decimal n) ⌝ }
+{
+    let mut left = n;
+    let mut count = 1;
+    while left > 9 {
+        left = left / 10;
+        count += 1;
+    }
+    count
+}
+
+// A number in base ten, straight into the buffer: from its last digit, whose place is known by their
+// count, to its first.
 pub(crate) fn put_decimal(out: &mut [u8], at: usize, n: u64) -> usize
     requires { ⌜ at + length (decimal n) ≤ length (now out) ⌝ }
     ensures { λ r. ⌜ Wrote (now (out .entry)) at (decimal n) (now (out .exit)) r ⌝ }
 {
-    let mut digits = [0u8; 20];
-    let k = io::decimal(n, &mut digits);
-    put(out, at, &digits[..k])
+    let end = at + digit_count(n);
+    let mut place = end - 1;
+    let mut left = n;
+    while left > 9 {
+        out[place] = digit_of(left % 10);
+        place -= 1;
+        left = left / 10;
+    }
+    out[place] = digit_of(left);
+    end
 }
 
 // The same with a minus sign where the number is negative.

@@ -15,6 +15,10 @@ use std::time::Instant;
 #[link(name = "exports", kind = "static")]
 extern "C" {
     fn gadwemosh_open(input: *const u8, input_length: usize, net: *mut i64, net_length: usize, offset: *mut u64) -> u8;
+    fn gadwemosh_first(
+        kind: u8, degree: u8, frame: *const i64, frame_length: usize, coefficients: *const i64, coefficients_length: usize,
+        net: *mut i64, net_length: usize,
+    ) -> u8;
     fn gadwemosh_move(net: *mut i64, net_length: usize, operation: u8, vertex: u8, r: i64, s: i64, t: i64) -> u8;
     fn gadwemosh_point(net: *const i64, net_length: usize, r: i64, s: i64, t: i64, found: *mut i64, found_length: usize) -> u8;
     fn gadwemosh_project(
@@ -47,6 +51,34 @@ impl Lent {
     }
 }
 
+/// The numbers of a record that the reader accepts, by the places of its fields: kind, degree, frame and
+/// coefficients.
+fn polynomials(record: &[u8]) -> (u8, u8, [i64; 9], [i64; NUMBERS]) {
+    let (kind, degree) = (record[3], record[4]);
+    let vertices = kind as usize + 1;
+    let (mut frame, mut coefficients) = ([0; 9], [0; NUMBERS]);
+    let end = 8 + 2 * vertices * vertices;
+    for (number, bytes) in frame.iter_mut().zip(record[8..end].chunks_exact(2)) {
+        *number = i16::from_be_bytes([bytes[0], bytes[1]]) as i64;
+    }
+    let length = u16::from_be_bytes([record[end + 1], record[end + 2]]) as usize;
+    for (number, bytes) in coefficients.iter_mut().zip(record[end + 3..end + 3 + length].chunks_exact(4)) {
+        *number = i32::from_be_bytes([bytes[0], bytes[1], bytes[2], bytes[3]]) as i64;
+    }
+    (kind, degree, frame, coefficients)
+}
+
+/// The first net without the record: the same answer and the same places as opening it gives.
+fn first_alone(record: &[u8], before: &Net, number: u8, opened: &Lent) {
+    let (kind, degree, frame, coefficients) = polynomials(record);
+    let mut lent = Lent::of(before);
+    let alone = unsafe {
+        gadwemosh_first(kind, degree, frame.as_ptr(), 9, coefficients.as_ptr(), NUMBERS, lent.0.as_mut_ptr(), lent.0.len())
+    };
+    assert_eq!(alone, number, "a first net without its record is refused otherwise");
+    assert_eq!(lent.0, opened.0, "a first net without its record is another");
+}
+
 struct Static;
 
 impl Library for Static {
@@ -58,6 +90,9 @@ impl Library for Static {
         let mut lent = Lent::of(net);
         let mut offset = 0;
         let number = unsafe { gadwemosh_open(record.as_ptr(), record.len(), lent.0.as_mut_ptr(), lent.0.len(), &mut offset) };
+        if number == 0 || number == 7 {
+            first_alone(record, net, number, &lent);
+        }
         lent.back(net);
         if number == 0 { Ok(()) } else { Err(Refusal { number, offset: offset as usize }) }
     }

@@ -1,18 +1,69 @@
--- `frame_numbers` meets its contract: what `fill` leaves in the array is the list, since every place is below 9.
+-- `frame_numbers` meets its contract: each of the nine numbers is read back from its bits.
+use mathlib.Core.List.{[], _∷_}
+use mathlib.Core.Path.{_≡_, _∙_}
+use Prim.Native.Nat.{_^_, _<_}
+use lib.IntN.{ℤ}
+use lib.Signed.{mag}
+use Rattle.bytes.proofs.Bits.{readBack, read-back}
+use Rattle.bytes.specs.Numbers.{numbersTo, frameNumbers}
 use borrow.Author.Needs.{needs}
-use Rattle.bytes.specs.Numbers.{numbersTo, numberBelow, frameNumbers}
 use Rattle.bytes.proofs.frame_numbers.Statement.{statement}
 use Rattle.bytes.proofs.frame_numbers.Tie as tie
 
-slice-aggregate-fill : tie.Need-slice-aggregate-fill
-slice-aggregate-fill c = search needs
+short-at-requires : tie.Need-short-at-requires
+short-at-requires c κs = search needs
 
-fill-requires : tie.Need-fill-requires
-fill-requires c κs = search needs
+short-at-requires-2 : tie.Need-short-at-requires-2
+short-at-requires-2 c κs = search needs
+
+short-at-requires-3 : tie.Need-short-at-requires-3
+short-at-requires-3 c κs = search needs
+
+short-at-requires-4 : tie.Need-short-at-requires-4
+short-at-requires-4 c κs = search needs
+
+short-at-requires-5 : tie.Need-short-at-requires-5
+short-at-requires-5 c κs = search needs
+
+short-at-requires-6 : tie.Need-short-at-requires-6
+short-at-requires-6 c κs = search needs
+
+short-at-requires-7 : tie.Need-short-at-requires-7
+short-at-requires-7 c κs = search needs
+
+short-at-requires-8 : tie.Need-short-at-requires-8
+short-at-requires-8 c κs = search needs
+
+short-at-requires-9 : tie.Need-short-at-requires-9
+short-at-requires-9 c κs = search needs
+
+read : {z w : ℤ} → mag z < 2 ^ 63 → z ≡ w → readBack z ≡ w
+read {z} small is = read-back z small ∙ is
 
 returns : tie.Need-returns
-unfolding frameNumbers numbersTo numberBelow
-returns c = c .before .fill .ensures
+unfolding frameNumbers numbersTo
+returns c = λ i.
+    read (c .before .before .before .before .before .before .before .before .short-at .ok) (c .before .before .before .before .before .before .before .before .short-at .ensures) i ∷
+    read (c .before .before .before .before .before .before .before .short-at2 .ok) (c .before .before .before .before .before .before .before .short-at2 .ensures) i ∷
+    read (c .before .before .before .before .before .before .short-at3 .ok) (c .before .before .before .before .before .before .short-at3 .ensures) i ∷
+    read (c .before .before .before .before .before .short-at4 .ok) (c .before .before .before .before .before .short-at4 .ensures) i ∷
+    read (c .before .before .before .before .short-at5 .ok) (c .before .before .before .before .short-at5 .ensures) i ∷
+    read (c .before .before .before .short-at6 .ok) (c .before .before .before .short-at6 .ensures) i ∷
+    read (c .before .before .short-at7 .ok) (c .before .before .short-at7 .ensures) i ∷
+    read (c .before .short-at8 .ok) (c .before .short-at8 .ensures) i ∷
+    read (c .short-at9 .ok) (c .short-at9 .ensures) i ∷ []
 
 pub frame-numbers-spec : {M : Type 1} → statement M
-frame-numbers-spec = tie.close (tie.spec slice-aggregate-fill fill-requires returns)
+frame-numbers-spec =
+    tie.close
+    (tie.spec
+    short-at-requires
+    short-at-requires-2
+    short-at-requires-3
+    short-at-requires-4
+    short-at-requires-5
+    short-at-requires-6
+    short-at-requires-7
+    short-at-requires-8
+    short-at-requires-9
+    returns)

@@ -1,28 +1,31 @@
--- `length_of` meets its contract: two bytes make a number below 256 ^ 2.
-use mathlib.Core.Path.{_∙_, ap}
-use Prim.Native.Nat.{_≤_}
+-- `length_of` meets its contract: fewer than two bytes are a byte or nothing.
+use mathlib.Core.Path.{sym, _∙_}
 use native.Mathlib.Omega.{arith}
-use borrow.Author.Needs.{needs}
-use lib.ListN.{length, length-take}
 use denote.Ref.{now}
-use Rattle.bytes.proofs.Numbers.{power-le}
-use Rattle.bytes.specs.Numbers.{unsignedOf}
+use Rattle.bytes.proofs.Numbers.{few-bytes}
+use borrow.Author.Needs.{needs}
 use Rattle.bytes.proofs.length_of.Statement.{statement}
 use Rattle.bytes.proofs.length_of.Tie as tie
 
-first-part-requires : tie.Need-first-part-requires
-first-part-requires c κs = search needs
+byte-at-requires : tie.Need-byte-at-requires
+byte-at-requires c κs = search needs
 
-two : (c : tie.After-first-part) → length (now (c .first-part .result)) ≤ 2
-two c = rw (c .first-part .ensures) (simp length-take (omega arith))
-
-unsigned-requires : tie.Need-unsigned-requires
-unsigned-requires c κs = let s = two c in omega arith
+wide-requires : tie.Need-wide-requires
+wide-requires c κs = search needs
 
 returns : tie.Need-returns
 returns c =
-    let p = power-le (length (now (c .before .first-part .result))) 2 (two (c .before)) in
-    (c .unsigned .ensures .0 ∙ ap unsignedOf (c .before .first-part .ensures), omega arith)
+    let a = c .before .before .before .before .args in
+    let low = c .before .before .before .shared-slice-known .given 0 in
+    let e = c .wide .ensures ∙ c .before .byte-at .ensures in
+    (c .wide .ensures ∙ c .before .byte-at .ensures ∙ sym (few-bytes (now (a .part)) (c .before .before .if1 .taken)), omega arith)
+
+two-bytes-requires : tie.Need-two-bytes-requires
+two-bytes-requires c κs = search needs
+
+returns-2 : tie.Need-returns-2
+returns-2 c = search needs
 
 pub length-of-spec : {M : Type 1} → statement M
-length-of-spec = tie.close (tie.spec first-part-requires unsigned-requires returns)
+length-of-spec =
+    tie.close (tie.spec byte-at-requires wide-requires returns two-bytes-requires returns-2)

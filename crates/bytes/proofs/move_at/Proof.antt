@@ -14,8 +14,8 @@ use Rattle.machine.specs.declared.Weights.{Weights}
 use Rattle.bytes.proofs.move_at.Statement.{statement}
 use Rattle.bytes.proofs.move_at.Tie as tie
 
-item-requires : tie.Need-item-requires
-item-requires c κs = search needs
+move-bytes-requires : tie.Need-move-bytes-requires
+move-bytes-requires c κs = search needs
 
 byte-at-requires : tie.Need-byte-at-requires
 byte-at-requires c κs = search needs
@@ -48,7 +48,7 @@ decoded : (c : tie.After-point-weights) → let at = c .before .before .before i
 unfolding moveAt
 decoded c =
     parts
-    (c .before .before .before .before .item .ensures)
+    (c .before .before .before .before .move-bytes .ensures)
     (c .before .before .before .byte-at .ensures)
     (c .before .before .byte-at2 .ensures)
     (c .before .part-from .ensures)
@@ -84,7 +84,7 @@ pub move-at-spec : {M : Type 1} → statement M
 move-at-spec =
     tie.close
     (tie.spec
-    item-requires
+    move-bytes-requires
     byte-at-requires
     byte-at-requires-2
     part-from-requires

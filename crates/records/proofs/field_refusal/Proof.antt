@@ -1,16 +1,26 @@
--- `field_refusal` meets its contract: each return is the first test that fails.
+-- `field_refusal` meets its contract: each return is the first test that fails, for a layout with the kind and degree and so for every one.
 use mathlib.Core.Bool.{Bool, true, cond}
+use mathlib.Core.List.{List, []}
 use mathlib.Core.Path.{_≡_, sym, _∙_, ap}
+use Prim.Native.Nat.{ℕ}
 use native.Mathlib.Omega.{arith}
 use borrow.Author.Needs.{needs}
 use borrow.Author.Tests.{not-true, not-false}
 use lib.ListN.{take}
 use denote.Ref.{now}
-use Rattle.records.proofs.Fields.{wrong-length, cut-short, by-values}
-use Rattle.records.specs.Reading.{left, lengthAt, valueAt, fieldRefusal}
+use Rattle.records.proofs.Fields.{same-refusal, wrong-length, cut-short, by-values}
+use Rattle.records.specs.Reading.{left, lengthAt, valueAt, fieldRefusal, endExtent}
 use Rattle.records.specs.Table.{lengthAllowed, valuesAllowed, valuesNumber}
+use Rattle.records.specs.declared.Tag.{Tag}
+use Rattle.records.specs.declared.Layout.{Layout}
 use Rattle.records.proofs.field_refusal.Statement.{statement}
 use Rattle.records.proofs.field_refusal.Tie as tie
+
+-- a layout with the kind and degree, and nothing else
+abbrev headOnly : ℕ → ℕ → Layout
+headOnly kind degree =
+    let e = endExtent [] in
+    record { kind = kind; degree = degree; head = e; frame = e; coefficients = e; moves = e; point = e }
 
 length-at-requires : tie.Need-length-at-requires
 length-at-requires c κs = search needs
@@ -20,19 +30,24 @@ length-allowed-requires c κs = search needs
 
 -- the test of the length
 length-test : (c : tie.After-length-allowed) → let a = c .before .before .before .args in
-    c .length-allowed .result ≡ lengthAllowed (a .tag) (a .layout .kind) (a .layout .degree) (lengthAt (now (a .input)) (a .at))
+    c .length-allowed .result ≡ lengthAllowed (a .tag) (a .kind) (a .degree) (lengthAt (now (a .input)) (a .at))
 length-test c =
     let a = c .before .before .before .args in
-    c .length-allowed .ensures ∙ ap (lengthAllowed (a .tag) (a .layout .kind) (a .layout .degree)) (c .before .length-at .ensures .0)
+    c .length-allowed .ensures ∙ ap (lengthAllowed (a .tag) (a .kind) (a .degree)) (c .before .length-at .ensures .0)
 
 length-right : (c : tie.Else1) → let a = c .before .before .before .before .args in
-    lengthAllowed (a .tag) (a .layout .kind) (a .layout .degree) (lengthAt (now (a .input)) (a .at)) ≡ true
+    lengthAllowed (a .tag) (a .kind) (a .degree) (lengthAt (now (a .input)) (a .at)) ≡ true
 length-right c = sym (length-test (c .before)) ∙ not-false (c .before .length-allowed .result) (c .if1 .left)
+
+-- what holds of that layout holds of every one with its kind and degree
+every : (tag : Tag) (kind degree : ℕ) (s : List ℕ) (at : ℕ) {r : ℕ} → r ≡ fieldRefusal tag (headOnly kind degree) s at
+    → (l : Layout) → l .kind ≡ kind → l .degree ≡ degree → r ≡ fieldRefusal tag l s at
+every tag kind degree s at e l k d = e ∙ sym (same-refusal tag l (headOnly kind degree) s at k d)
 
 returns : tie.Need-returns
 returns c =
     let a = c .before .before .before .before .args in
-    sym (wrong-length (a .tag) (a .layout) (now (a .input)) (a .at) (sym (length-test (c .before)) ∙ not-true (c .before .length-allowed .result) (c .if1 .taken)))
+    every (a .tag) (a .kind) (a .degree) (now (a .input)) (a .at) (sym (wrong-length (a .tag) (headOnly (a .kind) (a .degree)) (now (a .input)) (a .at) (sym (length-test (c .before)) ∙ not-true (c .before .length-allowed .result) (c .if1 .taken))))
 
 add-bytes-left : tie.Need-add-bytes-left
 add-bytes-left c = search needs
@@ -45,7 +60,7 @@ returns-2 c =
     let a = c .before .before .before .before .before .before .args in
     let n = c .before .before .before .before .length-at .ensures .0 in
     let e = c .before .bytes-left .ensures in
-    sym (cut-short (a .tag) (a .layout) (now (a .input)) (a .at) (length-right (c .before .before)) (omega arith))
+    every (a .tag) (a .kind) (a .degree) (now (a .input)) (a .at) (sym (cut-short (a .tag) (headOnly (a .kind) (a .degree)) (now (a .input)) (a .at) (length-right (c .before .before)) (omega arith)))
 
 add-part-from : tie.Need-add-part-from
 add-part-from c = search needs
@@ -60,29 +75,29 @@ values-allowed-requires c κs =
 
 -- the test of the values, which are all there
 by-test : (c : tie.After-values-allowed) → let a = c .before .before .before .before .before .before .before .before .args in
-    fieldRefusal (a .tag) (a .layout) (now (a .input)) (a .at) ≡ cond (c .values-allowed .result) 0 (valuesNumber (a .tag))
+    fieldRefusal (a .tag) (headOnly (a .kind) (a .degree)) (now (a .input)) (a .at) ≡ cond (c .values-allowed .result) 0 (valuesNumber (a .tag))
 unfolding valueAt
 by-test c =
     let a = c .before .before .before .before .before .before .before .before .args in
     let tested = c .before .before in
     let n = tested .before .before .before .before .length-at .ensures .0 in
     let e = tested .before .bytes-left .ensures in
-    by-values (a .tag) (a .layout) (now (a .input)) (a .at) (length-right (tested .before .before)) (omega arith)
+    by-values (a .tag) (headOnly (a .kind) (a .degree)) (now (a .input)) (a .at) (length-right (tested .before .before)) (omega arith)
     ∙ ap (λ (b : Bool). cond b 0 (valuesNumber (a .tag)))
-    (sym (c .values-allowed .ensures ∙ (λ i. valuesAllowed (a .tag) (a .layout .kind) (a .layout .degree) (take (n i) (c .before .part-from .ensures i)))))
+    (sym (c .values-allowed .ensures ∙ (λ i. valuesAllowed (a .tag) (a .kind) (a .degree) (take (n i) (c .before .part-from .ensures i)))))
 
 returns-3 : tie.Need-returns-3
 returns-3 c =
-    let tag = c .before .before .before .before .before .before .before .before .before .args .tag in
-    sym (by-test (c .before) ∙ ap (λ (b : Bool). cond b 0 (valuesNumber tag)) (c .if3 .taken))
+    let a = c .before .before .before .before .before .before .before .before .before .args in
+    every (a .tag) (a .kind) (a .degree) (now (a .input)) (a .at) (sym (by-test (c .before) ∙ ap (λ (b : Bool). cond b 0 (valuesNumber (a .tag))) (c .if3 .taken)))
 
 values-number-requires : tie.Need-values-number-requires
 values-number-requires c κs = search needs
 
 returns-4 : tie.Need-returns-4
 returns-4 c =
-    let tag = c .before .before .before .before .before .before .before .before .before .before .args .tag in
-    c .values-number .ensures ∙ sym (by-test (c .before .before) ∙ ap (λ (b : Bool). cond b 0 (valuesNumber tag)) (c .before .if3 .left))
+    let a = c .before .before .before .before .before .before .before .before .before .before .args in
+    every (a .tag) (a .kind) (a .degree) (now (a .input)) (a .at) (c .values-number .ensures ∙ sym (by-test (c .before .before) ∙ ap (λ (b : Bool). cond b 0 (valuesNumber (a .tag))) (c .before .if3 .left)))
 
 pub field-refusal-spec : {M : Type 1} → statement M
 field-refusal-spec =

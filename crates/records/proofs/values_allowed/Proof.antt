@@ -1,13 +1,15 @@
 -- `values_allowed` meets its contract: each arm is the row of its tag. The coefficients are read from the part that begins with the value, and are those of
 -- the value, since its length is the table's.
-use mathlib.Core.Bool.{true, _&&_}
+use mathlib.Core.Bool.{true}
 use mathlib.Core.Path.{_≡_, refl, sym, _∙_, ap, subst}
+use native.Mathlib.Omega.{arith}
 use borrow.Author.Tests.{eqb-true}
-use lib.ListN.{getD}
+use lib.ListN.{getD, take}
 use denote.Ref.{now}
-use Rattle.machine.specs.Kinds.{known}
+use Rattle.machine.specs.Kinds.{known, within, all}
 use Rattle.machine.specs.First.{frameIn, coefficientsIn}
 use Rattle.bytes.specs.Numbers.{frameNumbers, coefficientsOf}
+use Rattle.frames.proofs.Counts.{coefficients-room}
 use Rattle.records.specs.Table.{vertices, coefficientsLength, lengthAllowed, valuesAllowed}
 use Rattle.records.specs.Reading.{headed}
 use Rattle.records.proofs.Fields.{same-polynomials}
@@ -45,11 +47,16 @@ enum-told-3 c = search needs
 coefficient-count-requires : tie.Need-coefficient-count-requires
 coefficient-count-requires c κs = search needs
 
-coefficients-requires : tie.Need-coefficients-requires
-coefficients-requires c κs = search needs
+-- in the arm of the coefficients: kind and degree are known
+headed-known : (c : tie.After-coefficient-count) → let a = c .before .before .before .before .before .args in known (a .kind) (a .degree) ≡ true
+headed-known c =
+    let start = c .before .before .before .before .before in
+    subst (λ t. headed t (start .args .kind) (start .args .degree) ≡ true) (c .before .enum-told3 .given .1) (start .pre .0)
 
-coefficients-in-requires : tie.Need-coefficients-in-requires
-coefficients-in-requires c κs = search needs
+coefficients-allowed-requires : tie.Need-coefficients-allowed-requires
+coefficients-allowed-requires c κs =
+    let a = c .before .before .before .before .before .args in
+    omega (arith, coefficients-room (a .kind) (a .degree) (headed-known c), c .coefficient-count .ensures)
 
 enum-told-4 : tie.Need-enum-told-4
 enum-told-4 c = search needs
@@ -77,17 +84,15 @@ returns-2 c =
     ∙ ap (frameIn (vertices (found .before .before .args .kind))) (c .before .frame-numbers .ensures ∙ ap frameNumbers (found .first-part .ensures)))
 
 returns-3 : tie.Need-returns-3
-unfolding valuesAllowed lengthAllowed
+unfolding valuesAllowed lengthAllowed coefficientsIn
 returns-3 c =
-    let start = c .before .before .before .before .before .before .before in
+    let start = c .before .before .before .before .before .before in
     let a = start .args in
-    let is = c .before .before .before .enum-told3 .given .1 in
-    let right : known (a .kind) (a .degree) ≡ true = subst (λ t. headed t (a .kind) (a .degree) ≡ true) is (start .pre .0) in
+    let is = c .before .before .enum-told3 .given .1 in
     let long = eqb-true (a .n) (coefficientsLength (a .kind) (a .degree)) (subst (λ t. lengthAllowed t (a .kind) (a .degree) (a .n) ≡ true) is (start .pre .1)) in
-    let read = c .before .coefficients .ensures ∙ ap (coefficientsOf (now (a .part))) (c .before .before .coefficient-count .ensures) in
     rw is
-    (c .coefficients-in .ensures
-    ∙ (λ i. right i && coefficientsIn (record { kind = a .kind; degree = a .degree; coefficients = read i }))
+    (c .coefficients-allowed .ensures
+    ∙ ap (λ n. all (within 1048576) (take n (coefficientsOf (now (a .part)) n))) (c .before .coefficient-count .ensures)
     ∙ ap coefficientsIn (sym (same-polynomials (a .kind) (a .degree) (a .n) (now (a .part)) long)))
 
 returns-4 : tie.Need-returns-4
@@ -112,8 +117,7 @@ values-allowed-spec =
     frame-in-requires
     enum-told-3
     coefficient-count-requires
-    coefficients-requires
-    coefficients-in-requires
+    coefficients-allowed-requires
     enum-told-4
     enum-told-5
     returns

@@ -5,7 +5,8 @@ use mathlib.Core.List.{List, [], _∷_}
 use lib.IntN.{ℤ}
 use Rattle.projection.specs.Projection.{coordinateBits, directionNumbers}
 use Rattle.nets.proofs.Row.{seen, element}
-use Rattle.exports.specs.Lent.{placed, projectionNumber}
+use Rattle.machine.specs.Lent.{placed}
+use Rattle.exports.specs.Lent.{projectionNumber}
 use Rattle.exports.proofs.answers.write_projection.Statement.{statement}
 use Rattle.exports.proofs.answers.write_projection.Tie as tie
 

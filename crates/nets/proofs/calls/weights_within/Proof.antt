@@ -10,6 +10,7 @@ use lib.ListN.{drop}
 use Rattle.projection.specs.Projection.{isZero}
 use Rattle.projection.proofs.Signed.{zero-bits}
 use Rattle.machine.specs.Kinds.{further, within, all}
+use Rattle.machine.proofs.All.{and-one}
 use Rattle.nets.proofs.Judging.{weights-r, weights-s, weights-t, weights-used, weight-test}
 use Rattle.nets.proofs.calls.weights_within.Statement.{statement}
 use Rattle.nets.proofs.calls.weights_within.Tie as tie
@@ -26,10 +27,6 @@ second c = let s = c .before .before .before .before in weight-test (s .args .s)
 
 third : (c : tie.Else3) → within 4096 (c .before .before .before .before .before .before .args .t) ≡ true
 third c = let s = c .before .before .before .before .before .before in weight-test (s .args .t) true (s .fits .t) (sym (not-false (c .before .weight-within3 .result) (c .if3 .left)) ∙ c .before .weight-within3 .ensures)
-
-and-one : (b : Bool) → (b && true) ≡ b
-and-one true = refl
-and-one false = refl
 
 weight-within-requires : tie.Need-weight-within-requires
 weight-within-requires c κs = search needs

@@ -3,20 +3,29 @@ use borrow.Author.Needs.{needs}
 use Prim.Native.Nat.{ℕ, suc, pred, _+_, _*_, _-_, _≤_, _<_}
 use native.Mathlib.Omega.{arith}
 use mathlib.Core.Path.{_≡_, refl, sym, ap, _∙_}
-use mathlib.Core.List.{[], _∷_}
+use mathlib.Core.Bool.{Bool, true}
+use mathlib.Core.List.{List, [], _∷_}
 use lib.IntN.{ℤ, pos, natAbs}
-use lib.ListN.{length, getD}
-use Rattle.machine.specs.Kinds.{further}
+use lib.ListN.{length, getD, take}
+use Rattle.machine.specs.Kinds.{further, within, all}
 use Rattle.machine.specs.Nets.{used}
 use Rattle.nets.specs.Rows.{Sized, Bounded, blended}
 use Rattle.nets.specs.FirstNet.{vertexWeights}
 use Rattle.nets.proofs.Row.{seen, element}
-use Rattle.nets.proofs.Through.{curve-weights, patch-weights, vertex-bounded}
+use Rattle.nets.proofs.Through.{curve-weights, patch-weights, vertex-bounded, vertex-fits}
 use Rattle.nets.proofs.first.blend_vertex.Statement.{statement}
 use Rattle.nets.proofs.first.blend_vertex.Tie as tie
 use Rattle.nets.proofs.first.blend_vertex.Reads as reads
 use Rattle.nets.proofs.first.blend_vertex.Lts as lts
 use Rattle.nets.proofs.rows.blend.Reads as blend-reads
+
+-- a blend with the weights of the vertex is made to its end
+within-all : (s : tie.Start) (b : Bool) (ws : List ℤ)
+    → b ≡ all (within 9223372036854775807) (take (used (s .args .kind) (pred (s .args .degree))) (blended (further (s .args .kind)) (pred (s .args .degree)) ws (s .args .cur .now)))
+    → ws ≡ vertexWeights (s .args .kind) (s .args .frame .now) (s .args .v) → b ≡ true
+within-all s b ws is weights =
+    is ∙ ap (λ l. all (within 9223372036854775807) (take (used (s .args .kind) (pred (s .args .degree))) (blended (further (s .args .kind)) (pred (s .args .degree)) l (s .args .cur .now)))) weights
+    ∙ vertex-fits (s .args .kind) (s .args .degree) (s .args .v) (s .args .frame .now) (s .args .cur .now) (s .pre .0) (s .pre .1) (s .pre .5) (s .pre .2) (s .pre .3) (s .pre .6)
 
 mul-z : tie.Need-mul-z
 mul-z c = search needs
@@ -63,7 +72,8 @@ returns : tie.Need-returns
 returns c =
     let s = c .before .before .before .before .before .before in
     let a = s .args in
-    c .before .blend .ensures ∙ ap (λ ws. blended (further (a .kind)) (pred (a .degree)) ws (a .cur .now)) (curve-is (c .before .before .before))
+    let is = curve-is (c .before .before .before) in
+    c .before .blend .ensures .1 (within-all s (c .before .blend .result) _ (c .before .blend .ensures .0) is) ∙ ap (λ ws. blended (further (a .kind)) (pred (a .degree)) ws (a .cur .now)) is
 
 mul-z-3 : tie.Need-mul-z-3
 mul-z-3 c = search needs
@@ -124,7 +134,8 @@ returns-2 : tie.Need-returns-2
 returns-2 c =
     let s = c .before .before .before .before .before .before .before in
     let a = s .args in
-    c .before .blend2 .ensures ∙ ap (λ ws. blended (further (a .kind)) (pred (a .degree)) ws (a .cur .now)) (patch-is (c .before .before .before))
+    let is = patch-is (c .before .before .before) in
+    c .before .blend2 .ensures .1 (within-all s (c .before .blend2 .result) _ (c .before .blend2 .ensures .0) is) ∙ ap (λ ws. blended (further (a .kind)) (pred (a .degree)) ws (a .cur .now)) is
 
 pub blend-vertex-spec : {M : Type 1} → statement M
 blend-vertex-spec =

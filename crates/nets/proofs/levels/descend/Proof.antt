@@ -16,7 +16,7 @@ use Rattle.integers.specs.Sum.{upto}
 use Rattle.projection.specs.Projection.{inRange}
 use Rattle.machine.specs.Kinds.{further, all}
 use Rattle.machine.specs.Nets.{used}
-use Rattle.nets.specs.Rows.{Sized, Bounded, level}
+use Rattle.nets.specs.Rows.{Sized, Bounded, blended, level}
 use Rattle.machine.specs.Sizes.{allNamed}
 use Rattle.machine.proofs.All.{clash}
 use Rattle.nets.specs.Levels.{valuesOf}
@@ -27,7 +27,7 @@ use Rattle.nets.proofs.levels.descend.Statement.{statement}
 use Rattle.nets.proofs.levels.descend.Tie as tie
 use Rattle.nets.proofs.levels.descend.Reads as reads
 use Rattle.nets.proofs.levels.descend.Lts as lts
-use Rattle.nets.proofs.levels.next_level.Reads as next-level-reads
+use Rattle.nets.proofs.rows.blend.Reads as blend-reads
 
 abbrev Inv-loop : tie.InvT-loop
 Inv-loop cur₀ kind degree r s t h₀ cur h = At kind degree (toZ w64 r ∷ toZ w64 s ∷ toZ w64 t ∷ []) cur₀ cur h
@@ -40,11 +40,11 @@ loop-holds c =
     let s = c in
     at-first (s .args .kind) (s .args .degree) (seen (s .args .r) ∷ seen (s .args .s) ∷ seen (s .args .t) ∷ []) (s .args .cur .now) (s .pre .0) (s .pre .1) (s .pre .2)
 
-sub-next-level : tie.Need-sub-next-level Inv-loop μ-loop
-sub-next-level c = omega (arith, c .before .before .loop .inv .below)
+sub-blend : tie.Need-sub-blend Inv-loop μ-loop
+sub-blend c = omega (arith, c .before .before .loop .inv .below)
 
-next-level-requires : tie.Need-next-level-requires Inv-loop μ-loop
-next-level-requires c κs =
+blend-requires : tie.Need-blend-requires Inv-loop μ-loop
+blend-requires c κs =
     let s = c .before .before .before in
     let l = c .before .before .loop in (
       smaller (s .pre .0) (omega arith),
@@ -55,15 +55,15 @@ next-level-requires c κs =
     )
 
 same-length : tie.Need-same-length Inv-loop μ-loop
-same-length c = c .before .before .next-level .kept .0 ∙ c .before .before .before .before .before .loop .inv .long ∙ sym (c .before .before .before .before .before .before .pre .1)
+same-length c = c .before .before .blend .kept .0 ∙ c .before .before .before .before .before .loop .inv .long ∙ sym (c .before .before .before .before .before .before .pre .1)
 
 returns : tie.Need-returns Inv-loop μ-loop
 returns c =
     let s = c .before .before .before .before .before .before in
     let l = c .before .before .before .before .before .loop in
-    let k = c .before .before .next-level in (
-      at-fails (s .args .kind) (s .args .degree) (seen (s .args .r) ∷ seen (s .args .s) ∷ seen (s .args .t) ∷ []) (s .args .cur .now) (s .pre .0) (s .pre .1) (l .cur) (k .last .0) (l .h) (l .inv) (c .before .before .before .before .loop-test .taken) (k .ensures .0)
-          (k .result) (k .ensures .1) (not-true (k .result) (c .if1 .taken))
+    let k = c .before .before .blend in (
+      at-fails (s .args .kind) (s .args .degree) (seen (s .args .r) ∷ seen (s .args .s) ∷ seen (s .args .t) ∷ []) (s .args .cur .now) (s .pre .0) (s .pre .1) (l .cur) (blended (further (s .args .kind)) (pred (s .args .degree - l .h)) (seen (s .args .r) ∷ seen (s .args .s) ∷ seen (s .args .t) ∷ []) (l .cur)) (l .h) (l .inv) (c .before .before .before .before .loop-test .taken) refl
+          (k .result) (k .ensures .0) (not-true (k .result) (c .if1 .taken))
           ∙ ap (λ ws. allNamed (further (s .args .kind)) (s .args .degree) (valuesOf (further (s .args .kind)) (s .args .degree) ws (s .args .cur .now))) (seen-list (s .args .r) (s .args .s) (s .args .t) (s .fits .r) (s .fits .s) (s .fits .t)),
       λ b. absurd (clash b refl),
       k .kept .0 ∙ l .inv .long,
@@ -79,9 +79,11 @@ loop-again : tie.Need-loop-again Inv-loop μ-loop
 loop-again c =
     let s = c .before .before .before .before .before .before in
     let l = c .before .before .before .before .before .loop in
-    let k = c .before .before .next-level in
-    at-next (s .args .kind) (s .args .degree) (seen (s .args .r) ∷ seen (s .args .s) ∷ seen (s .args .t) ∷ []) (s .args .cur .now) (s .pre .0) (s .pre .1) (l .cur) (k .last .0) (l .h) (l .inv) (c .before .before .before .before .loop-test .taken) (k .ensures .0)
-    (k .result) (k .ensures .1) (not-false (k .result) (c .if1 .left)) (k .kept .0)
+    let k = c .before .before .blend in
+    let ok = not-false (k .result) (c .if1 .left) in
+    let is = k .ensures .1 ok in
+    at-next (s .args .kind) (s .args .degree) (seen (s .args .r) ∷ seen (s .args .s) ∷ seen (s .args .t) ∷ []) (s .args .cur .now) (s .pre .0) (s .pre .1) (l .cur) (k .last .0) (l .h) (l .inv) (c .before .before .before .before .loop-test .taken) is
+    (k .result) (k .ensures .0 ∙ ap (λ ys. all inRange (take (used (s .args .kind) (pred (s .args .degree - l .h))) ys)) (sym is)) ok (k .kept .0)
 
 same-length-2 : tie.Need-same-length-2 Inv-loop μ-loop
 same-length-2 c = c .before .loop .inv .long ∙ sym (c .before .before .pre .1)
@@ -104,8 +106,8 @@ descend-spec =
     Inv-loop
     μ-loop
     loop-holds
-    sub-next-level
-    next-level-requires
+    sub-blend
+    blend-requires
     same-length
     returns
     add-h

@@ -1,16 +1,20 @@
 -- `blend` meets its contract: a curve is one row, a patch a row for each number of copies of s and t together.
 use borrow.Author.Needs.{needs}
-use Prim.Native.Nat.{_+_, _*_, _≤_}
+use Prim.Native.Nat.{pred, _+_, _*_, _≤_}
 use native.Mathlib.Omega.{arith}
-use mathlib.Core.Path.{_≡_, sym, ap, _∙_, subst}
-use lib.IntN.{natAbs}
-use lib.ListN.{length}
+use mathlib.Core.Path.{_≡_, refl, sym, ap, _∙_, subst}
+use mathlib.Core.List.{[], _∷_}
+use lib.IntN.{pos, natAbs}
+use lib.ListN.{length, take}
 use Rattle.integers.proofs.Signed.{back-fits}
+use Rattle.machine.specs.Kinds.{within, all}
 use Rattle.machine.specs.Nets.{used}
-use Rattle.nets.specs.Rows.{Bounded}
+use Rattle.nets.specs.Rows.{Bounded, written, mixed, rowsBlended}
+use Rattle.nets.proofs.Lists.{length-written, ranged-written}
+use Rattle.nets.proofs.PatchRows.{tri, length-rows}
 use Rattle.nets.proofs.Row.{seen}
 use Rattle.nets.proofs.Ranks.{used-curve}
-use Rattle.nets.proofs.Blended.{bounded-less, blend-curve, blend-patch}
+use Rattle.nets.proofs.Blended.{bounded-less, blend-curve, blend-patch, curve-whole, patch-whole, level-ranged}
 use Rattle.nets.proofs.rows.blend.Statement.{statement}
 use Rattle.nets.proofs.rows.blend.Tie as tie
 use Rattle.nets.proofs.rows.blend.Reads as reads
@@ -41,8 +45,19 @@ same-length c = search needs
 returns : tie.Need-returns
 returns c =
     let s = c .before .before .before .before in
-    blend-curve (s .args .xs .now) (c .before .blend-row .last .0) (s .args .kind) (s .args .r) (s .args .s) (s .args .t) (s .fits .r) (s .fits .s) (s .fits .t) (s .pre .2) (s .args .degree)
-    (c .before .before .before .if1 .taken) (s .pre .1) (s .pre .0 .sized) (c .before .blend-row .ensures)
+    let row = c .before .blend-row in
+    let one = c .before .before .before .if1 .taken in
+    let room : 0 + 4 * s .args .degree ≤ length (s .args .xs .now) = omega (arith, s .pre .0, s .pre .2) in
+    let g = mixed (s .args .xs .now) 4 4 (seen (s .args .r)) (seen (s .args .s)) (pos 0) in
+    let ys = written (s .args .xs .now) 0 (4 * s .args .degree) g in
+    let is = blend-curve (s .args .xs .now) ys (s .args .kind) (s .args .r) (s .args .s) (s .args .t) (s .fits .r) (s .fits .s) (s .fits .t) (s .pre .2) (s .args .degree) one (s .pre .1) (s .pre .0 .sized) refl in (
+      row .ensures .0
+          ∙ ranged-written (s .args .limit) (s .args .xs .now) ys 0 (4 * s .args .degree) g room refl
+          ∙ level-ranged (s .args .limit) (s .args .kind) (s .args .degree) ys (s .pre .0) (s .pre .1) (length-written (s .args .xs .now) 0 (4 * s .args .degree) g ∙ s .pre .2) (4 * s .args .degree)
+          (curve-whole (s .args .kind) (s .args .degree) one (s .pre .1))
+          ∙ ap (λ l. all (within (s .args .limit)) (take (used (s .args .kind) (pred (s .args .degree))) l)) is,
+      λ b. row .ensures .1 b ∙ is,
+    )
 
 blend-rows-requires : tie.Need-blend-rows-requires
 blend-rows-requires c κs =
@@ -62,8 +77,16 @@ same-length-2 c = search needs
 returns-2 : tie.Need-returns-2
 returns-2 c =
     let s = c .before .before .before .before in
-    blend-patch (s .args .xs .now) (c .before .blend-rows .last .0) (s .args .kind) (s .args .r) (s .args .s) (s .args .t) (s .fits .r) (s .fits .s) (s .fits .t) (s .pre .2) (s .args .degree)
-    (omega (arith, s .pre .0, c .before .before .before .if1 .left)) (s .pre .1) (s .pre .0 .sized) (c .before .blend-rows .ensures)
+    let rows = c .before .blend-rows in
+    let two : s .args .kind ≡ 2 = omega (arith, s .pre .0, c .before .before .before .if1 .left) in
+    let ys = rowsBlended (s .args .xs .now) (seen (s .args .r) ∷ seen (s .args .s) ∷ seen (s .args .t) ∷ []) (s .args .degree) in
+    let is = blend-patch (s .args .xs .now) ys (s .args .kind) (s .args .r) (s .args .s) (s .args .t) (s .fits .r) (s .fits .s) (s .fits .t) (s .pre .2) (s .args .degree) two (s .pre .1) (s .pre .0 .sized) refl in (
+      rows .ensures .0
+          ∙ level-ranged (s .args .limit) (s .args .kind) (s .args .degree) ys (s .pre .0) (s .pre .1) (length-rows (s .args .xs .now) (seen (s .args .r) ∷ seen (s .args .s) ∷ seen (s .args .t) ∷ []) (s .args .degree) ∙ s .pre .2) (4 * tri (s .args .degree))
+          (patch-whole (s .args .kind) (s .args .degree) two (s .pre .1))
+          ∙ ap (λ l. all (within (s .args .limit)) (take (used (s .args .kind) (pred (s .args .degree))) l)) is,
+      λ b. rows .ensures .1 b ∙ is,
+    )
 
 pub blend-spec : {M : Type 1} → statement M
 blend-spec =

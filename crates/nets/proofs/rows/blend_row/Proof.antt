@@ -1,5 +1,6 @@
--- `blend_row` meets its contract: the numbers at and past f are as they were, so each blend is of the old numbers.
+-- `blend_row` meets its contract: the numbers at and past f are as they were, so each blend is of the old numbers, and those before f are within the limit.
 use borrow.Author.Needs.{needs, sfits-of}
+use borrow.Author.Tests.{not-true, not-false}
 use Prim.Native.Nat.{ℕ, suc, _≤_, _<_, _+_, _*_, _-_, _^_}
 use native.Mathlib.Nat.{sub-self}
 use native.Mathlib.Numerals.{add-one}
@@ -10,8 +11,12 @@ use lib.ListN.{length, getD, set, length-set}
 use mir.Syntax.{w64}
 use mir.Val.{toZ, ofZ, SFits}
 use Rattle.integers.proofs.Signed.{back-fits}
-use Rattle.nets.specs.Rows.{written, mixed, Bounded}
-use Rattle.nets.proofs.Row.{row-small, row-step, row-weights}
+use Rattle.nets.specs.Rows.{written, mixed, ranged, Bounded}
+use Rattle.nets.proofs.Row.{seen, row-small, row-value, row-step, row-weights}
+use Rattle.machine.specs.Kinds.{within}
+use Rattle.machine.proofs.All.{clash}
+use Rattle.nets.proofs.Lists.{ranged-next, ranged-fails}
+use mathlib.Core.Bool.{true, false}
 use Rattle.nets.proofs.rows.blend_row.Statement.{statement}
 use Rattle.nets.proofs.rows.blend_row.Tie as tie
 use Rattle.nets.proofs.rows.blend_row.Reads as reads
@@ -19,18 +24,19 @@ use Rattle.nets.proofs.rows.blend_row.Lts as lts
 use Rattle.nets.proofs.rows.mix.Reads as mix-reads
 
 abbrev Inv-loop : tie.InvT-loop
-Inv-loop xs₀ from count d e a b c end f₀ xs f =
+Inv-loop xs₀ from count d e a b c limit end f₀ xs f =
     (from ≤ f) × (f ≤ from + count) × (xs ≡ written xs₀ from (f - from) (mixed xs₀ d e (toZ w64 a) (toZ w64 b) (toZ w64 c))) × (length xs ≡ length xs₀)
+    × (ranged limit (mixed xs₀ d e (toZ w64 a) (toZ w64 b) (toZ w64 c)) from (f - from) ≡ true)
 
 abbrev μ-loop : tie.MeasureT-loop
-μ-loop xs₀ from count d e a b c end f₀ xs f = from + count - f
+μ-loop xs₀ from count d e a b c limit end f₀ xs f = from + count - f
 
 add-end : tie.Need-add-end Inv-loop μ-loop
 add-end c = search needs
 
 loop-holds : tie.Need-loop-holds Inv-loop μ-loop
-unfolding written
-loop-holds c = (search needs, search needs, rw sub-self refl, refl)
+unfolding written ranged
+loop-holds c = (search needs, search needs, rw sub-self refl, refl, rw sub-self refl)
 
 mul-mix : tie.Need-mul-mix Inv-loop μ-loop
 mul-mix c = search needs
@@ -64,11 +70,43 @@ mix-requires c κs =
     (l .xs) (l .f) (l .inv .0) (c .before .before .before .loop-test .taken) (s .pre .0) (s .pre .1) (l .inv .2)
     (c .before .before .mix-arg .given) (c .before .mix-arg2 .given) (c .mix-arg3 .given) (s .pre .3)
 
-mul-t24 : tie.Need-mul-t24 Inv-loop μ-loop
-mul-t24 c = search needs
+mul-v : tie.Need-mul-v Inv-loop μ-loop
+mul-v c = search needs
 
-slice-set-from-xs : tie.Need-slice-set-from-xs Inv-loop μ-loop
-slice-set-from-xs c = search needs
+slice-set-from-v : tie.Need-slice-set-from-v Inv-loop μ-loop
+slice-set-from-v c = search needs
+
+is-within-requires : tie.Need-is-within-requires Inv-loop μ-loop
+is-within-requires c κs = search needs
+
+-- what the row is to hold at each place
+abbrev blends : tie.Start Inv-loop μ-loop → ℕ → ℤ
+blends s = mixed (s .args .xs .now) (s .args .d) (s .args .e) (seen (s .args .a)) (seen (s .args .b)) (seen (s .args .c))
+
+weights : (s : tie.Start Inv-loop μ-loop) → blends s ≡ mixed (s .args .xs .now) (s .args .d) (s .args .e) (s .args .a) (s .args .b) (s .args .c)
+weights s = row-weights (s .args .xs .now) (s .args .from) (s .args .count) (s .args .d) (s .args .e) (s .args .a) (s .args .b) (s .args .c) (s .fits .a) (s .fits .b) (s .fits .c)
+
+-- the number that was made
+value : (c : tie.After-mix Inv-loop μ-loop) → seen (c .mix .result) ≡ blends (c .before .before .before .before .before .before) (c .before .before .before .before .before .loop .f)
+value c =
+    let s = c .before .before .before .before .before .before in
+    let l = c .before .before .before .before .before .loop in
+    row-value (s .args .xs .now) (s .args .from) (s .args .count) (s .args .d) (s .args .e) (s .args .a) (s .args .b) (s .args .c) (s .fits .a) (s .fits .b) (s .fits .c)
+    (l .xs) (l .f) (l .inv .0) (c .before .before .before .before .loop-test .taken) (s .pre .0) (s .pre .1) (l .inv .2)
+    (c .before .before .before .mix-arg .given) (c .before .before .mix-arg2 .given) (c .before .mix-arg3 .given) (c .mix .result) (sfits-of (c .mix .ok)) (c .mix .ensures)
+
+same-length : tie.Need-same-length Inv-loop μ-loop
+same-length c = search needs
+
+returns : tie.Need-returns Inv-loop μ-loop
+returns c =
+    let m = c .before .before in
+    let s = m .before .before .before .before .before .before in
+    let l = m .before .before .before .before .before .loop in
+    let beyond = sym (ap (within (s .args .limit)) (value m)) ∙ sym (c .before .is-within .ensures) ∙ not-true (c .before .is-within .result) (c .if1 .taken) in (
+      sym (ap (λ g. ranged (s .args .limit) g (s .args .from) (s .args .count)) (sym (weights s)) ∙ ranged-fails (s .args .limit) (blends s) (s .args .from) (l .f) (s .args .count) (l .inv .0) (m .before .before .before .before .loop-test .taken) beyond),
+      λ b. absurd (clash b refl),
+    )
 
 add-f : tie.Need-add-f Inv-loop μ-loop
 add-f c = search needs
@@ -78,27 +116,30 @@ loop-less c = search needs
 
 loop-again : tie.Need-loop-again Inv-loop μ-loop
 loop-again c =
-    let s = c .before .before .before .before .before .before in
-    let l = c .before .before .before .before .before .loop in (
+    let m = c .before .before in
+    let s = m .before .before .before .before .before .before in
+    let l = m .before .before .before .before .before .loop in (
       search needs,
       search needs,
       row-step (s .args .xs .now) (s .args .from) (s .args .count) (s .args .d) (s .args .e) (s .args .a) (s .args .b) (s .args .c) (s .fits .a) (s .fits .b) (s .fits .c)
-          (l .xs) (l .f) (l .inv .0) (c .before .before .before .before .loop-test .taken) (s .pre .0) (s .pre .1) (l .inv .2)
-          (c .before .before .before .mix-arg .given) (c .before .before .mix-arg2 .given) (c .before .mix-arg3 .given) (c .mix .result) (sfits-of (c .mix .ok)) (c .mix .ensures),
+          (l .xs) (l .f) (l .inv .0) (m .before .before .before .before .loop-test .taken) (s .pre .0) (s .pre .1) (l .inv .2)
+          (m .before .before .before .mix-arg .given) (m .before .before .mix-arg2 .given) (m .before .mix-arg3 .given) (m .mix .result) (sfits-of (m .mix .ok)) (m .mix .ensures),
       length-set (l .xs) (l .f) _ ∙ l .inv .3,
+      ranged-next (s .args .limit) (blends s) (s .args .from) (l .f) (l .inv .0) (l .inv .4)
+          (sym (ap (within (s .args .limit)) (value m)) ∙ sym (c .before .is-within .ensures) ∙ not-false (c .before .is-within .result) (c .if1 .left)),
     )
 
-same-length : tie.Need-same-length Inv-loop μ-loop
-same-length c = search needs
+same-length-2 : tie.Need-same-length-2 Inv-loop μ-loop
+same-length-2 c = search needs
 
-returns : tie.Need-returns Inv-loop μ-loop
-returns c =
+returns-2 : tie.Need-returns-2 Inv-loop μ-loop
+returns-2 c =
     let s = c .before .before in
     let l = c .before .loop in
-    let whole : l .f - s .args .from ≡ s .args .count = omega arith in
-    l .inv .2
-    ∙ ap₂ (λ k g. written (s .args .xs .now) (s .args .from) k g) whole
-    (row-weights (s .args .xs .now) (s .args .from) (s .args .count) (s .args .d) (s .args .e) (s .args .a) (s .args .b) (s .args .c) (s .fits .a) (s .fits .b) (s .fits .c))
+    let whole : l .f - s .args .from ≡ s .args .count = omega arith in (
+      sym (ap₂ (λ k g. ranged (s .args .limit) g (s .args .from) k) (sym whole) (sym (weights s)) ∙ l .inv .4),
+      λ b. l .inv .2 ∙ ap₂ (λ k g. written (s .args .xs .now) (s .args .from) k g) whole (weights s),
+    )
 
 pub blend-row-spec : {M : Type 1} → statement M
 blend-row-spec =
@@ -117,10 +158,13 @@ blend-row-spec =
     mul-mix-3
     slice-copy-out-mix-3
     mix-requires
-    mul-t24
-    slice-set-from-xs
+    mul-v
+    slice-set-from-v
+    is-within-requires
+    same-length
+    returns
     add-f
     loop-less
     loop-again
-    same-length
-    returns)
+    same-length-2
+    returns-2)
