@@ -1,6 +1,6 @@
 -- The step of a call has the document's number and values: by the refusal, and where there is none by the call.
 use Prim.Native.Nat.{ℕ, zero, suc}
-use mathlib.Core.Path.{_≡_, refl, sym, ap, _∙_, subst}
+use mathlib.Core.Path.{_≡_, refl, sym, subst}
 use Rattle.machine.specs.Nets.{netRefusal, answerAt, accepted, stepBy, stepOf}
 use Rattle.machine.specs.Answers.{refusalNumber, pointValues, foundBy, Numbered}
 use Rattle.machine.specs.declared.Net.{Net}

@@ -1,13 +1,12 @@
 -- Demand 3: along the list, the net is always the net over the comparison machine's frame, by the agreement at each single call.
-use Prim.Native.Nat.{ℕ, suc}
-use mathlib.Core.Path.{_≡_, refl, sym, ap, ap₂, _∙_, subst}
-use mathlib.Core.List.{List, [], _∷_, map}
+use Prim.Native.Nat.{suc}
+use mathlib.Core.Path.{_≡_, refl, sym, ap, ap₂, _∙_}
+use mathlib.Core.List.{List, [], _∷_}
 use lib.IntN.{ℤ}
-use lib.ListN.{length, length-map}
+use lib.ListN.{length-map}
 use Rattle.integers.specs.Sum.{upto}
 use Rattle.integers.proofs.Sums.{length-upto}
 use Rattle.machine.specs.Kinds.{further, known, unless, firstOf}
-use Rattle.machine.specs.Nets.{stepOf}
 use Rattle.machine.specs.Comparison.{Polynomials, Frame, machineStep, netOver}
 use Rattle.machine.specs.Lists.{netAfter, netAnswers, frameAfter, machineAnswers}
 use Rattle.machine.specs.First.{frameOf, frameIn, coefficientsIn, netIn, firstRefusal}

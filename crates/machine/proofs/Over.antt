@@ -1,26 +1,25 @@
 -- The net over a frame, seen by the net machine: its entries fix the polar values of its polynomials, so it refuses what the comparison machine refuses,
 -- and an accepted call leaves the net over the frame that the comparison machine reaches.
-use Prim.Native.Nat.{ℕ, zero, suc, pred, _+_, _*_, _-_, _<_, _≤_, suc-le-suc, zero-le}
+use Prim.Native.Nat.{ℕ, zero, suc, pred, _+_, _-_, _<_, _≤_}
 use native.Mathlib.Nat.{le-of-suc-le-suc, not-suc-le-zero, zero-add, add-zero}
 use native.Mathlib.Omega.{arith}
 use mathlib.Core.Path.{_≡_, refl, sym, ap, ap₂, _∙_, fun-ext, subst}
-use mathlib.Core.Logic.{⊎-elim}
 use mathlib.Core.Bool.{Bool, true, false, _&&_, cond}
 use mathlib.Core.List.{List, [], _∷_, _++_, map, List·Memᴰ, append-nil}
 use lib.Dec.{eqb, leb, lit≤}
-use lib.IntN.{ℤ, pos, negℤ, natAbs}
+use lib.IntN.{ℤ, pos, negℤ}
 use lib.ListN.{length, getD, set, take, drop, replicate, length-set}
 use lib.Seq.{take-at, drop-at}
 use Rattle.integers.specs.Sum.{upto}
 use Rattle.integers.proofs.Laws.{natAbs-neg}
 use Rattle.integers.proofs.Sums.{upto-below}
 use Rattle.polar.specs.Sigma.{Point}
-use Rattle.polar.specs.Order.{joined, total, counts, monomials}
+use Rattle.polar.specs.Order.{total, counts, monomials}
 use Rattle.polar.specs.Polar.{polar, terms}
 use Rattle.polar.proofs.Order.{counts-total}
 use Rattle.polar.proofs.Value.{polar-diagonal}
-use Rattle.entries.specs.Frame.{taken, combination}
-use Rattle.entries.specs.Entries.{entryAt, listed, fixed, odd}
+use Rattle.entries.specs.Frame.{taken}
+use Rattle.entries.specs.Entries.{entryAt, listed, odd}
 use Rattle.entries.proofs.Form.{Form, fixes, put, putting, flipping}
 use Rattle.entries.proofs.Polar.{polar-form}
 use Rattle.entries.proofs.Places.{member-counts}
@@ -30,17 +29,15 @@ use Rattle.machine.specs.Calls.{weightList, weightsIn, operationIn, vert
 use borrow.Author.Tests.{leb-true}
 use Rattle.machine.specs.Sizes.{allNamed}
 use Rattle.machine.specs.Nets.{used, netPolar, handed, netSize, netRefusal, withEntries, replacedNet, flippedNet, answerAt, accepted, stepBy, stepOf}
-use Rattle.machine.specs.Comparison.{Polynomials, Frame, vertexAt, polarOf, scaledValue, pointOf, machineSize, machineRefusal, Answered, machineAccepted, machineBy, machineStep, netOver}
+use Rattle.machine.specs.Comparison.{Polynomials, Frame, vertexAt, polarOf, scaledValue, pointOf, machineSize, machineRefusal, machineAccepted, machineBy, machineStep, netOver}
 use Rattle.machine.specs.First.{netIn}
 use Rattle.machine.specs.declared.Net.{Net}
 use Rattle.machine.specs.declared.Weights.{Weights}
 use Rattle.machine.specs.declared.Call.{Call}
 use Rattle.machine.specs.declared.Call.the-variants as call
 use Rattle.projection.specs.Projection.{inRange, projectionOf}
-use Rattle.machine.specs.declared.Answer.{Answer}
 use Rattle.machine.specs.declared.Answer.the-variants as answer
-use Rattle.machine.specs.declared.Step.{Step}
-use Rattle.machine.proofs.All.{all-pass, all-at, all-joined, all-cong, all-map, and-true, and-parts, first-none, unless-none}
+use Rattle.machine.proofs.All.{all-pass, all-at, all-joined, all-cong, all-map, and-parts, first-none, unless-none}
 
 -- ---- frames as lists and as functions
 

@@ -1,9 +1,7 @@
 -- The samples: one test that is computed over the whole table, and a law that turns it into what each row says.
-use Prim.Native.Nat.{ℕ}
-use mathlib.Core.Path.{_≡_, refl, ap₂, sym, subst}
+use mathlib.Core.Path.{_≡_, refl, ap₂}
 use mathlib.Core.Bool.{Bool, true, false, _&&_}
 use mathlib.Core.List.{List, [], _∷_, map, List·Memᴰ}
-use lib.IntN.{ℤ}
 use lib.ListN.{length, take}
 use Rattle.integers.specs.Test.{eqZ}
 use Rattle.integers.proofs.Signed.{eqZ→eq}

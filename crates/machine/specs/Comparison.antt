@@ -1,10 +1,10 @@
 -- The comparison machine of demand 3: it keeps the record's polynomials and an exact, unbounded frame, and sees no net.
 use Prim.Native.Nat.{ℕ, zero, suc, pred, _-_, _+_, _*_}
-use mathlib.Core.Bool.{Bool, true, false, cond}
-use mathlib.Core.List.{List, [], _∷_, _++_, map}
+use mathlib.Core.Bool.{cond}
+use mathlib.Core.List.{List, [], _++_, map}
 use lib.Dec.{eqb}
 use lib.IntN.{ℤ, pos, negℤ, _*ℤ_}
-use lib.ListN.{length, getD, set, replicate}
+use lib.ListN.{getD, set, replicate}
 use Rattle.polar.specs.Sigma.{Point}
 use Rattle.polar.specs.Order.{monomials}
 use Rattle.polar.specs.Scale.{scale}

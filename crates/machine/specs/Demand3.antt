@@ -3,7 +3,7 @@
 -- f are a record's polynomials and `numbers` its frame; they are accepted when `firstRefusal` is 0. `calls` is any list of replaces, flips, points and broken calls of
 -- every sort, the empty list among them. `netAfter` and `netAnswers` go by `stepOf`, which is what the library's functions are proved to do; `frameAfter` and
 -- `machineAnswers` are the comparison machine, which keeps the polynomials and an exact frame and sees no net.
-use Prim.Native.Nat.{ℕ, suc}
+use Prim.Native.Nat.{suc}
 use mathlib.Core.Path.{_≡_}
 use mathlib.Core.List.{List}
 use lib.IntN.{ℤ}

@@ -1,11 +1,10 @@
 -- The first net of polynomials over a frame, and what is refused of them (document 01, 'Frame and first net', with the refusals 4, 5, 6 and 7).
 use Prim.Native.Nat.{ℕ, zero, suc, _+_, _*_}
-use mathlib.Core.Bool.{Bool, true, false, _&&_, not, cond}
+use mathlib.Core.Bool.{Bool, _&&_, not, cond}
 use mathlib.Core.List.{List, [], _∷_, _++_, map}
 use lib.IntN.{ℤ, pos, negℤ, _*ℤ_}
-use lib.ListN.{length, getD, take, drop, replicate}
+use lib.ListN.{length, getD, take, drop}
 use Rattle.integers.specs.Sum.{sum, upto}
-use Rattle.polar.specs.Sigma.{Point}
 use Rattle.polar.specs.Order.{monomials}
 use Rattle.entries.specs.Entries.{odd}
 use Rattle.projection.specs.Projection.{inRange, isZero}

@@ -1,9 +1,9 @@
 -- What a call does to a handed net (document 01, 'Moves and points', with the refusals 4, 8, 9 and 10). The polar values are those that the net's own entries fix.
 use Prim.Native.Nat.{ℕ, zero, suc, pred, _+_, _*_}
-use mathlib.Core.Bool.{Bool, true, false, cond}
-use mathlib.Core.List.{List, [], _∷_, _++_}
+use mathlib.Core.Bool.{cond}
+use mathlib.Core.List.{List, _++_}
 use lib.Dec.{eqb}
-use lib.IntN.{ℤ, pos}
+use lib.IntN.{ℤ}
 use lib.ListN.{length, take, drop, replicate}
 use Rattle.polar.specs.Order.{counts}
 use Rattle.entries.specs.Entries.{entryAt, listed, fixed, replaced, flipped}
@@ -11,11 +11,9 @@ use Rattle.projection.specs.Projection.{inRange, projectionOf}
 use Rattle.machine.specs.Kinds.{further, known, all, firstOf, unless}
 use Rattle.machine.specs.Calls.{weightList, judged}
 use Rattle.machine.specs.Sizes.{allNamed}
-use Rattle.machine.specs.declared.Weights.{Weights}
 use Rattle.machine.specs.declared.Net.{Net}
 use Rattle.machine.specs.declared.Call.{Call}
 use Rattle.machine.specs.declared.Call.the-variants.{Move, Point}
-use Rattle.machine.specs.declared.Found.{Found}
 use Rattle.machine.specs.declared.Answer.{Answer}
 use Rattle.machine.specs.declared.Answer.the-variants as answer
 use Rattle.machine.specs.declared.Step.{Step}

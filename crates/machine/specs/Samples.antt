@@ -1,8 +1,8 @@
--- The shop samples B1 to B10 of document 01, as one table of what the definitions must give. proofs/Samples.antt proves every row.
+-- The samples B1 to B10 of document 01, as one table of what the definitions must give. proofs/Samples.antt proves every row.
 use Prim.Native.Nat.{ℕ}
 use mathlib.Core.Path.{_≡_}
 use mathlib.Core.List.{List, [], _∷_, map}
-use lib.IntN.{ℤ, pos, negsuc}
+use lib.IntN.{ℤ, pos}
 use lib.ListN.{length, take}
 use Rattle.machine.specs.Comparison.{Polynomials, netOver}
 use Rattle.machine.specs.Lists.{frameAfter, machineAnswers}

@@ -1,27 +1,27 @@
 -- A blend in place gives the polar values with one copy of q: an entry's blend reads the places of the entries with one more copy of each vertex.
 use Prim.Native.Nat.{ℕ, zero, suc, pred, _+_, _*_, _-_, _≤_, _<_}
-use native.Mathlib.Nat.{add-zero, suc-add, add-suc, not-suc-le-zero, mul-le-mul-right}
+use native.Mathlib.Nat.{suc-add, add-suc, not-suc-le-zero, mul-le-mul-right}
 use native.Mathlib.Numerals.{add-one}
 use native.Mathlib.Omega.{arith}
 use mathlib.Core.Path.{_≡_, refl, sym, ap, ap₂, _∙_, subst}
-use mathlib.Core.List.{List, [], _∷_, _++_}
+use mathlib.Core.List.{List, [], _∷_}
 use lib.IntN.{ℤ, pos, _+ℤ_, _*ℤ_}
-use lib.ListN.{length, getD, take, drop}
+use lib.ListN.{length, getD, take}
 use mir.Syntax.{w64}
 use mir.Val.{SFits}
 use Rattle.integers.proofs.Signed.{back-fits}
 use Rattle.integers.proofs.Ring.{ring, ring-rules}
 use Rattle.polar.specs.Order.{total, counts}
 use Rattle.entries.specs.Entries.{entryAt, fixed, raise}
-use Rattle.entries.proofs.Places.{rank, offset, length-counts}
-use Rattle.entries.proofs.Listed.{size, net-ext, entry-rank}
+use Rattle.entries.proofs.Places.{rank, length-counts}
+use Rattle.entries.proofs.Listed.{net-ext, entry-rank}
 use Rattle.entries.proofs.Form.{total-raise, length-raise}
 use Rattle.machine.specs.Kinds.{further, within, all}
 use Rattle.machine.specs.Nets.{used}
 use Rattle.nets.specs.Rows.{written, mixed, ranged, Bounded, Sized, rowsBlended, blended}
 use Rattle.nets.proofs.Row.{seen}
 use Rattle.nets.proofs.Lists.{length-written, written-outside, written-at, ranged-list}
-use Rattle.nets.proofs.Collect.{smaller, used-room}
+use Rattle.nets.proofs.TwoKinds.{smaller, used-room}
 use Rattle.nets.proofs.Ranks.{rank-curve, rank-patch, by-two, by-three, length-one, tri-suc, tri-mono, tri-nine, used-curve, used-patch}
 use Rattle.nets.proofs.PatchRows.{tri, length-rows, rows-still, rows-at}
 

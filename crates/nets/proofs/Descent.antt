@@ -1,14 +1,13 @@
 -- Going down the levels, turn by turn, on plain numbers.
-use Prim.Native.Nat.{ℕ, zero, suc, pred, _+_, _*_, _-_, _≤_, _<_, suc-le-suc}
-use native.Mathlib.Nat.{sub-zero, le-refl}
+use Prim.Native.Nat.{ℕ, suc, pred, _+_, _*_, _-_, _≤_, _<_}
+use native.Mathlib.Nat.{sub-zero}
 use native.Mathlib.Numerals.{add-one}
 use native.Mathlib.Omega.{arith}
 use mathlib.Core.Path.{_≡_, refl, sym, ap, ap₂, _∙_, subst}
 use mathlib.Core.Bool.{Bool, true, false}
-use mathlib.Core.List.{List, [], _∷_}
-use lib.IntN.{ℤ, pos}
-use lib.ListN.{length, getD, set, take}
-use Rattle.entries.proofs.Places.{rank}
+use mathlib.Core.List.{List}
+use lib.IntN.{ℤ}
+use lib.ListN.{length, take}
 use Rattle.integers.specs.Sum.{upto}
 use Rattle.projection.specs.Projection.{inRange}
 use Rattle.machine.specs.Kinds.{further, all}
@@ -16,8 +15,8 @@ use Rattle.machine.specs.Nets.{used}
 use Rattle.machine.specs.Sizes.{allNamed}
 use Rattle.nets.specs.Rows.{Sized, Bounded, blended, level}
 use Rattle.nets.specs.Levels.{valuesOf, namedAt}
-use Rattle.nets.proofs.Collect.{by-kind, smaller, used-room}
-use Rattle.nets.proofs.LevelValues.{size-mono, range-bounded, length-level, level-named, level-next, named-all, named-first, named-next, named-fails}
+use Rattle.nets.proofs.TwoKinds.{smaller, used-room}
+use Rattle.nets.proofs.LevelValues.{range-bounded, level-named, level-next, named-all, named-first, named-next, named-fails}
 
 -- where the numbers cur of a net stand after h levels
 pub record At (kind m : ℕ) (ws xs cur : List ℤ) (h : ℕ) : Type 0 where

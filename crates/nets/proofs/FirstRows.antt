@@ -1,14 +1,13 @@
 -- The entries of a first net in their places. The code fixes an entry's points in the order first, third, second vertex; a form does not see the order, so the value
 -- is the entry's. Rows are written from the last to the first, and all of them together are the net over the frame.
 use Prim.Native.Nat.{ℕ, zero, suc, pred, _+_, _*_, _-_, _/_, _%_, _≤_, _<_, zero-le}
-use native.Mathlib.Nat.{add-zero, sub-zero, sub-self, le-refl}
+use native.Mathlib.Nat.{sub-zero, sub-self, le-refl}
 use native.Mathlib.Omega.{arith}
 use native.Mathlib.Decide.{decLt}
 use mathlib.Core.Path.{_≡_, refl, sym, ap, ap₂, _∙_, subst}
 use mathlib.Core.List.{List, [], _++_, append-nil}
-use lib.Dec.{lit≤}
 use lib.IntN.{ℤ, pos}
-use lib.ListN.{length, getD, set, drop, replicate, length-replicate}
+use lib.ListN.{length, getD, drop, replicate, length-replicate}
 use lib.Seq.{ext-getD}
 use Rattle.polar.specs.Sigma.{Point}
 use Rattle.polar.specs.Order.{counts, monomials}
@@ -29,7 +28,7 @@ use Rattle.nets.specs.Flips.{countsAt}
 use Rattle.nets.specs.Coordinates.{Coordinates}
 use Rattle.nets.specs.FirstNet.{Small, FrameWithin, vertexOf, vertexWeights, Values, Holds, valueAt}
 use Rattle.nets.proofs.Lists.{length-written, written-outside, written-at}
-use Rattle.nets.proofs.Collect.{by-kind, smaller, used-room}
+use Rattle.nets.proofs.TwoKinds.{by-kind, smaller, used-room}
 use Rattle.nets.proofs.Writes.{entry-copied}
 use Rattle.nets.proofs.Signs.{written-cong, counts-at-place, place-step, place-row, place-whole, place-used}
 use Rattle.nets.proofs.Writes.{row-more}

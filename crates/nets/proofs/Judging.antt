@@ -1,18 +1,18 @@
 -- Refusals of a call, test by test: each test of the code settles one part of the definition.
-use Prim.Native.Nat.{ℕ, zero, suc, pred, _+_, _*_, _≤_, _<_}
+use Prim.Native.Nat.{ℕ, zero, suc, _+_, _≤_, _<_}
 use native.Mathlib.Nat.{not-suc-le-zero}
 use native.Mathlib.Omega.{arith}
 use mathlib.Core.Path.{_≡_, refl, sym, ap, ap₂, _∙_, subst}
 use mathlib.Core.Bool.{Bool, true, false, _&&_, _||_, not}
 use mathlib.Core.List.{List, [], _∷_}
 use lib.Dec.{leb, eqb}
-use borrow.Author.Tests.{le-leb, lt-leb, eq-eqb, ne-eqb, leb-true}
+use borrow.Author.Tests.{le-leb, lt-leb, ne-eqb, leb-true}
 use lib.IntN.{ℤ, pos, negℤ, natAbs}
 use lib.ListN.{drop}
 use lib.Signed.{ltZ, leZ}
 use mir.Syntax.{w64}
 use mir.Val.{SFits}
-use Rattle.integers.proofs.Signed.{back-fits, under, over-le, within-le, under-le}
+use Rattle.integers.proofs.Signed.{back-fits, under, over-le, within-le}
 use Rattle.projection.specs.Projection.{isZero, allZero}
 use Rattle.machine.specs.Kinds.{further, highest, known, within, all, firstOf, unless}
 use Rattle.machine.specs.Calls.{weightOf, weightsIn, operationIn, vertexIn}
@@ -21,9 +21,6 @@ use Rattle.nets.specs.Judged.{judgedMove, judgedPoint}
 use Rattle.nets.proofs.Row.{seen}
 
 -- ---- kind and degree
-
-pub known-zero : (kind : ℕ) → false ≡ known kind 0
-known-zero kind = refl
 
 -- a degree that is not 0, by the kind's highest
 pub known-is : (kind degree : ℕ) → (degree ≡ 0 → ⊥) → leb degree (highest kind) ≡ known kind degree

@@ -1,19 +1,19 @@
 -- The levels of a net: h blends give the polar values with h copies of q, and their ranges are the size rule's.
-use Prim.Native.Nat.{ℕ, zero, suc, pred, _+_, _*_, _-_, _^_, _≤_, _<_, suc-le-suc, zero-le}
+use Prim.Native.Nat.{ℕ, zero, suc, pred, _+_, _*_, _-_, _≤_, _<_, suc-le-suc}
 use native.Mathlib.Nat.{not-suc-le-zero, le-of-suc-le-suc, le-refl, mul-le-mul-right, sub-zero, sub-self, add-zero, add-suc, zero-add}
 use native.Mathlib.Omega.{arith}
-use native.Mathlib.Decide.{decLe, ℕ-discrete}
+use native.Mathlib.Decide.{decLe}
 use mathlib.Core.Path.{_≡_, refl, sym, ap, ap₂, _∙_, subst}
 use mathlib.Core.Logic.{_⊎_, inl, inr}
 use mathlib.Core.Bool.{Bool, true, false, _&&_}
-use mathlib.Core.List.{List, [], _∷_, _++_, map, List·Memᴰ, List·Memᴰ·head, List·Memᴰ·tail, List·Memᴰ·not-nil, List·Memᴰ·cases-cons}
+use mathlib.Core.List.{List, [], _∷_, _++_, map, List·Memᴰ, List·Memᴰ·not-nil, List·Memᴰ·cases-cons}
 use lib.IntN.{ℤ, pos, natAbs, _*ℤ_}
 use lib.ListN.{length, getD, set, take, drop, replicate, length-set, length-append, length-drop}
 use lib.Seq.{take-at, getD-append-add, getD-drop}
 use borrow.Author.Tests.{leb-true}
 use Rattle.integers.specs.Sum.{upto}
 use Rattle.integers.proofs.Sums.{sum-upto-cong, upto-snoc, upto-below}
-use Rattle.polar.specs.Order.{joined, total, counts}
+use Rattle.polar.specs.Order.{total, counts}
 use Rattle.polar.proofs.Order.{counts-total}
 use Rattle.entries.specs.Entries.{entryAt, listed, fixed, replaced, raise}
 use Rattle.entries.proofs.Form.{total-raise, length-raise}
@@ -25,7 +25,7 @@ use Rattle.machine.specs.Sizes.{allNamed}
 use Rattle.machine.proofs.All.{all-cong, all-joined, all-map, all-append, and-true, and-none}
 use Rattle.machine.proofs.Over.{below-upto, total-set, total-zeros, length-zeros}
 use Rattle.nets.specs.Rows.{Bounded, blended, level}
-use Rattle.nets.specs.Levels.{valuesOf, replacedList, namedAt}
+use Rattle.nets.specs.Levels.{valuesOf, namedAt}
 
 -- ---- fewer entries at a lower degree
 

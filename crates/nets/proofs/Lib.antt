@@ -3,7 +3,7 @@ pub mod Row
 pub mod Ranks
 pub mod PatchRows
 pub mod Blended
-pub mod Collect
+pub mod TwoKinds
 pub mod LevelValues
 pub mod Descent
 pub mod Renaming

@@ -1,17 +1,14 @@
 -- Places in numbers: a curve's entry with j copies of s stands at j, and a patch's entry with n copies of s and t together, k of t, at n(n+1)/2 + k.
-use Prim.Native.Nat.{ℕ, zero, suc, _+_, _*_, _-_, _/_, _≤_, _<_, zero-le, suc-le-suc}
-use native.Mathlib.Nat.{le-refl, le-trans, mul-div-right, div-eq-of-eq-mul-right, le-of-suc-le-suc, not-suc-le-zero, add-zero}
+use Prim.Native.Nat.{ℕ, zero, suc, _+_, _*_, _-_, _/_, _≤_}
+use native.Mathlib.Nat.{le-refl, add-zero}
 use native.Mathlib.Numerals.{add-one}
 use native.Mathlib.Omega.{arith}
 use native.Mathlib.Decide.{decLe}
 use mathlib.Core.Path.{_≡_, refl, sym, ap, ap₂, _∙_, subst}
 use mathlib.Core.List.{List, [], _∷_}
-use lib.Dec.{lit≤, lit<}
-use lib.ListN.{length, getD}
-use Rattle.polar.specs.Order.{total, counts}
-use Rattle.entries.proofs.Places.{offset, offset-snoc, length-counts, rank, placed, place-rank, member-counts}
-use Rattle.entries.proofs.Listed.{size}
-use Rattle.machine.specs.Kinds.{further}
+use lib.ListN.{length}
+use Rattle.polar.specs.Order.{counts}
+use Rattle.entries.proofs.Places.{offset, offset-snoc, length-counts, rank}
 use Rattle.machine.specs.Nets.{used}
 
 -- ---- a curve
@@ -62,13 +59,6 @@ rank-curve i j = add-zero (offset (counts 0) (j + 0)) ∙ offset-zero (j + 0) �
 
 pub rank-patch : (i j k : ℕ) → rank 2 (i ∷ j ∷ k ∷ []) ≡ offset (counts 1) (j + k) + k
 rank-patch i j k = ap₂ _+_ (ap (offset (counts 1)) (ap (λ x. j + x) (add-zero k))) (rank-curve j k)
-
--- counts with one rank are the same counts
-pub rank-injective : (n m : ℕ) (e r : List ℕ) → length e ≡ suc n → total e ≡ m → length r ≡ suc n → total r ≡ m → rank n e ≡ rank n r → e ≡ r
-rank-injective n m e r le te lr tr h =
-    sym (placed e (counts n m) (member-counts n m e le te) .1)
-    ∙ ap (λ p. getD (counts n m) p []) (place-rank n m e le te ∙ h ∙ sym (place-rank n m r lr tr))
-    ∙ placed r (counts n m) (member-counts n m r lr tr) .1
 
 -- ---- how many numbers a net has
 

@@ -1,10 +1,10 @@
 -- A replaced vertex by way of the first one: the net is renamed, the levels are blended in place, and what they leave is renamed back.
 -- Renaming keeps the polar values, in another order; and the levels leave each entry with as many copies of q as it had of the first vertex.
-use Prim.Native.Nat.{ℕ, zero, suc, pred, _+_, _*_, _-_, _/_, _%_, _≤_, _<_, suc-le-suc, zero-le}
+use Prim.Native.Nat.{ℕ, zero, suc, pred, _+_, _*_, _-_, _/_, _%_, _≤_, _<_}
 use native.Mathlib.Nat.{not-suc-le-zero, add-zero}
 use native.Mathlib.Omega.{arith}
 use mathlib.Core.Path.{_≡_, refl, sym, ap, ap₂, _∙_, subst}
-use mathlib.Core.Bool.{Bool, true, false}
+use mathlib.Core.Bool.{Bool, true}
 use mathlib.Core.List.{List, [], _∷_}
 use lib.IntN.{ℤ, pos}
 use lib.ListN.{length, getD, set, take, replicate, length-set}
@@ -12,7 +12,7 @@ use Rattle.integers.specs.Sum.{upto}
 use Rattle.integers.proofs.Sums.{upto-below}
 use Rattle.polar.specs.Order.{total, counts}
 use Rattle.polar.proofs.Order.{counts-total}
-use Rattle.entries.specs.Entries.{entryAt, fixed, replaced}
+use Rattle.entries.specs.Entries.{entryAt, replaced}
 use Rattle.entries.proofs.Places.{rank, offset, placed, place-rank, member-counts, counts-at, rank-at}
 use Rattle.entries.proofs.Listed.{size, net-ext, entry-rank, rank-below}
 use Rattle.entries.proofs.Renamed.{exchanged, exchange, length-exchanged, total-exchanged, exchanged-at, exchanged-back, exchanged-none, fixed-renamed}
@@ -21,13 +21,13 @@ use Rattle.machine.specs.Kinds.{further, all}
 use Rattle.machine.specs.Nets.{used}
 use Rattle.machine.specs.Sizes.{allNamed}
 use Rattle.machine.proofs.All.{all-pass, all-at, both-ways}
-use Rattle.machine.proofs.Over.{total-set, total-zeros, length-zeros, below-upto, named-cong, named-at}
+use Rattle.machine.proofs.Over.{total-set, total-zeros, length-zeros, named-cong, named-at}
 use Rattle.nets.specs.Rows.{Sized, placeAt, written, level}
 use Rattle.nets.specs.Flips.{countsAt}
 use Rattle.nets.specs.Levels.{copied, renamedAt, valuesOf, replacedList, Descended}
 use Rattle.nets.proofs.Lists.{length-written, written-outside, written-at}
 use Rattle.nets.proofs.Ranks.{rank-curve, rank-patch}
-use Rattle.nets.proofs.Collect.{by-kind, used-room}
+use Rattle.nets.proofs.TwoKinds.{by-kind, used-room}
 use Rattle.nets.proofs.Signs.{written-cong, counts-length, counts-total-is, counts-rank, counts-at-place}
 use Rattle.nets.proofs.Writes.{entry-copied}
 use Rattle.nets.proofs.LevelValues.{range-entries, level-made, level-last}

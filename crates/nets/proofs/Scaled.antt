@@ -5,13 +5,10 @@ use native.Mathlib.Numerals.{add-one}
 use native.Mathlib.Omega.{arith}
 use native.Mathlib.Decide.{decLe}
 use mathlib.Core.Path.{_≡_, refl, sym, ap, ap₂, _∙_, subst}
-use mathlib.Core.Bool.{true}
 use mathlib.Core.List.{List, [], _∷_}
-use lib.Dec.{leb, lit≤}
+use lib.Dec.{lit≤}
 use lib.IntN.{ℤ, pos, natAbs, _*ℤ_}
 use lib.ListN.{length, getD, set}
-use borrow.Author.Tests.{leb-true}
-use Rattle.integers.specs.Sum.{upto}
 use Rattle.integers.proofs.Signed.{abs-*-le}
 use Rattle.polar.specs.Order.{total, counts, monomials}
 use Rattle.polar.specs.Scale.{factorial, factorials, multinomial, scale}
@@ -25,14 +22,12 @@ use Rattle.entries.proofs.Standard.{units, standard, place-below, place-two, of
 use Rattle.machine.specs.Kinds.{highest, further, all}
 use Rattle.machine.specs.Nets.{used}
 use Rattle.machine.specs.Comparison.{polarOf}
-use Rattle.machine.proofs.All.{all-at}
-use Rattle.machine.proofs.Over.{below-upto}
 use Rattle.nets.specs.Rows.{Sized, written, placeAt}
 use Rattle.nets.specs.Flips.{countsAt}
 use Rattle.nets.specs.Coordinates.{exponentsAt, Limited, coordinateAt, Coordinates}
 use Rattle.nets.proofs.Lists.{length-written, written-at}
-use Rattle.nets.proofs.Collect.{by-kind, used-room, spread-most}
-use Rattle.nets.proofs.Signs.{written-cong, written-append, counts-at-place, place-whole}
+use Rattle.nets.proofs.TwoKinds.{by-kind, used-room, spread-most}
+use Rattle.nets.proofs.Signs.{written-cong, counts-at-place, place-whole}
 use Rattle.scales.proofs.Tables.{up-to, scale-up}
 
 -- ---- bounds

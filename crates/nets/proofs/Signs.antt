@@ -1,16 +1,13 @@
 -- Signs written place by place: what is written is the old number or its negative, so rows of writes join, and all of them together flip the vertex.
-use Prim.Native.Nat.{ℕ, zero, suc, pred, _+_, _*_, _-_, _/_, _%_, _≤_, _<_, suc-le-suc}
+use Prim.Native.Nat.{ℕ, zero, suc, pred, _+_, _*_, _-_, _/_, _%_, _≤_, _<_}
 use native.Mathlib.Nat.{add-zero, zero-add, add-assoc, not-suc-le-zero}
 use native.Mathlib.Numerals.{add-one}
 use native.Mathlib.Omega.{arith}
 use mathlib.Core.Path.{_≡_, refl, sym, ap, ap₂, _∙_, subst}
-use mathlib.Core.Bool.{Bool, true, false, not, cond}
-use mathlib.Core.List.{List, [], _∷_, _++_}
-use lib.Dec.{eqb}
-use borrow.Author.Tests.{eq-eqb, ne-eqb}
-use lib.IntN.{ℤ, pos, negℤ, natAbs}
+use mathlib.Core.Bool.{true, false, not}
+use mathlib.Core.List.{List, []}
+use lib.IntN.{ℤ, pos}
 use lib.ListN.{length, getD, set}
-use Rattle.integers.proofs.Laws.{natAbs-neg}
 use Rattle.polar.specs.Order.{total, counts}
 use Rattle.entries.specs.Entries.{entryAt, flipped, odd}
 use Rattle.entries.proofs.Places.{rank, offset, placed, place-rank, member-counts}
@@ -21,7 +18,7 @@ use Rattle.nets.specs.Rows.{Sized, written, placeAt}
 use Rattle.nets.specs.Flips.{countsAt, signed, signedAt, flippedList}
 use Rattle.nets.proofs.Lists.{length-written, written-outside, written-at}
 use Rattle.nets.proofs.Ranks.{rank-curve, rank-patch, tri-suc, used-curve, used-patch}
-use Rattle.nets.proofs.Collect.{by-kind, smaller, used-room}
+use Rattle.nets.proofs.TwoKinds.{by-kind, used-room}
 
 -- ---- odd counts
 

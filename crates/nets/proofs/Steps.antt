@@ -1,5 +1,5 @@
 -- A call's step put together from its parts: the first refusal that is not 0, or what the accepted call does.
-use Prim.Native.Nat.{ℕ, zero, suc, pred, _+_, _*_, _^_, _≤_, _<_}
+use Prim.Native.Nat.{ℕ, zero, suc, pred, _+_, _^_, _≤_, _<_}
 use native.Mathlib.Nat.{not-suc-le-zero, le-of-suc-le-suc}
 use native.Mathlib.Omega.{arith}
 use mathlib.Core.Path.{_≡_, refl, sym, ap, ap₂, _∙_, subst}
@@ -10,11 +10,9 @@ use borrow.Author.Tests.{leb-true, eq-eqb, ne-eqb, lt-ltb, le-ltb}
 use lib.IntN.{ℤ, pos, natAbs}
 use lib.Signed.{mag}
 use lib.ListN.{length, getD, take, drop, replicate}
-use Rattle.polar.specs.Order.{counts}
-use Rattle.entries.specs.Entries.{entryAt, listed, fixed, replaced, flipped}
 use Rattle.projection.specs.Projection.{inRange, isZero}
 use Rattle.machine.specs.Kinds.{further, known, within, all, firstOf, unless}
-use Rattle.machine.specs.Calls.{weightList, weightOf, weightsIn, operationIn, vertexIn, judged}
+use Rattle.machine.specs.Calls.{weightOf, weightsIn, operationIn, vertexIn, judged}
 use Rattle.machine.specs.Sizes.{allNamed}
 use Rattle.machine.specs.Nets.{used, netPolar, handed, netSize, netRefusal, withEntries, replacedNet, flippedNet, accepted, stepBy, stepOf}
 use Rattle.machine.specs.Answers.{foundBy}
@@ -29,7 +27,7 @@ use Rattle.nets.specs.Levels.{valuesOf, replacedList}
 use Rattle.nets.specs.Flips.{flippedList}
 use Rattle.nets.specs.Judged.{judgedMove, judgedPoint, Stepped, Pointed}
 use Rattle.nets.proofs.Row.{seen, element}
-use Rattle.nets.proofs.Collect.{used-room}
+use Rattle.nets.proofs.TwoKinds.{used-room}
 use Rattle.nets.proofs.LevelValues.{all-take}
 use Rattle.nets.proofs.Judging.{known-sized}
 
@@ -81,10 +79,6 @@ module _ (n operation vertex : ℕ) (r s t : ℤ) (ok : judgedMove n operation v
   move-within =
       let p = and-parts (leb 1 vertex) (leb vertex (suc n)) (move-parts .0) in
       (leb-true 1 vertex (p .0), leb-true vertex (suc n) (p .1))
-
-  -- what is no replace is a flip
-  pub move-two : (operation ≡ 1 → ⊥) → eqb operation 1 ≡ false
-  move-two h = ne-eqb operation 1 h
 
 pub point-small : (n : ℕ) (r s t : ℤ) → judgedPoint n (r ∷ s ∷ t ∷ []) ≡ 0 → natAbs r + natAbs s + natAbs t ≤ 12288
 point-small n r s t ok =

@@ -4,9 +4,10 @@ use Prim.Native.Nat.{ℕ, zero, suc, pred, _+_, _*_, _-_, _/_, _%_, _^_, _≤_, 
 use native.Mathlib.Nat.{not-suc-le-zero, le-of-suc-le-suc, le-refl, sub-zero, add-zero, mul-le-mul-right, mul-assoc, mul-comm, pow-suc, pow-le-pow-right, one-le-pow}
 use native.Mathlib.Numerals.{add-one}
 use native.Mathlib.Omega.{arith}
-use mathlib.Core.Path.{_≡_, refl, sym, ap, ap₂, _∙_, subst}
-use mathlib.Core.Bool.{true}
+use mathlib.Core.Path.{_≡_, refl, sym, ap, _∙_, subst}
+use mathlib.Core.Bool.{true, cond}
 use mathlib.Core.List.{List, [], _∷_, _++_, append-nil}
+use lib.Dec.{eqb}
 use lib.IntN.{ℤ, pos, natAbs, _*ℤ_}
 use lib.ListN.{length, getD, take, replicate}
 use Rattle.integers.specs.Sum.{sum, upto}
@@ -27,7 +28,7 @@ use Rattle.machine.specs.First.{frameOf}
 use Rattle.machine.proofs.Over.{total-zeros, length-zeros}
 use Rattle.nets.specs.Rows.{Sized, Bounded, blended, level}
 use Rattle.nets.specs.FirstNet.{Small, FrameWithin, vertexOf, vertexWeights, Values, Holds}
-use Rattle.nets.proofs.Collect.{by-kind, smaller, used-room}
+use Rattle.nets.proofs.TwoKinds.{by-kind, smaller, used-room}
 use Rattle.nets.proofs.Lists.{ranged-each}
 use Rattle.nets.proofs.Blended.{bounded-less}
 use Rattle.nets.proofs.LevelValues.{entry-blended, length-blended, level-entry, level-last}
@@ -117,14 +118,18 @@ blended-small kind m d v B frame ys s w b small i inside =
 
 -- ---- as the code reads the frame
 
-pub curve-weights : (kind v : ℕ) (frame : List ℤ) (z t : ℤ) → kind ≡ 1 → z ≡ getD frame (2 * v + 1) (pos 0) → t ≡ getD frame (2 * v) (pos 0)
-    → z ∷ t ∷ pos 0 ∷ [] ≡ vertexWeights kind frame v
-curve-weights kind v frame z t one a b = ap₂ (λ x y. x ∷ y ∷ pos 0 ∷ []) a b ∙ ap (λ i. vertexWeights i frame v) (sym one)
+-- a vertex's numbers are within the frame
+pub vertex-place : (kind m v : ℕ) → Sized kind m → v ≤ kind → ((kind + 1) * v + kind < 9) × ((kind + 1) * v + 2 ≤ 9)
+vertex-place kind m v s = by-kind (λ i. v ≤ i → ((i + 1) * v + i < 9) × ((i + 1) * v + 2 ≤ 9)) kind m s (λ h. (omega arith, omega arith)) (λ h. (omega arith, omega arith))
 
-pub patch-weights : (kind v : ℕ) (frame : List ℤ) (z a b : ℤ) → kind ≡ 2 → z ≡ getD frame (3 * v + 2) (pos 0) → a ≡ getD frame (3 * v) (pos 0) → b ≡ getD frame (3 * v + 1) (pos 0)
-    → z ∷ a ∷ b ∷ [] ≡ vertexWeights kind frame v
-patch-weights kind v frame z a b two x y w =
-    ap₂ (λ i l. i ∷ l) x (ap₂ (λ i j. i ∷ j ∷ []) y w) ∙ ap (λ i. vertexWeights i frame v) (sym two)
+pub weights-read : (kind m v : ℕ) (frame : List ℤ) (z a b : ℤ) → Sized kind m → z ≡ getD frame ((kind + 1) * v + kind) (pos 0) → a ≡ getD frame ((kind + 1) * v) (pos 0)
+    → b ≡ cond (eqb kind 1) (pos 0) (getD frame ((kind + 1) * v + 1) (pos 0)) → z ∷ a ∷ b ∷ [] ≡ vertexWeights kind frame v
+weights-read kind m v frame z a b s =
+    by-kind
+    (λ i.
+    z ≡ getD frame ((i + 1) * v + i) (pos 0) → a ≡ getD frame ((i + 1) * v) (pos 0) → b ≡ cond (eqb i 1) (pos 0) (getD frame ((i + 1) * v + 1) (pos 0))
+    → z ∷ a ∷ b ∷ [] ≡ vertexWeights i frame v) kind m s
+    (λ p q r j. p j ∷ q j ∷ r j ∷ []) (λ p q r j. p j ∷ q j ∷ r j ∷ [])
 
 -- the blend fits
 pub vertex-bounded : (kind m v hi : ℕ) (frame cur : List ℤ) (z a b : ℤ) → Sized kind m → FrameWithin kind frame → v ≤ kind → Bounded cur 0 hi (4 * suc kind)

@@ -9,7 +9,7 @@ use lib.IntN.{ℤ, pos}
 use lib.ListN.{getD, set}
 use Rattle.nets.specs.Rows.{Sized, placeAt, written}
 use Rattle.nets.specs.Levels.{copied}
-use Rattle.nets.proofs.Collect.{by-kind}
+use Rattle.nets.proofs.TwoKinds.{by-kind}
 use Rattle.nets.proofs.Signs.{written-append, place-step, place-row}
 
 -- the four numbers of an entry, copied

@@ -10,10 +10,10 @@ use Rattle.entries.specs.Frame.{taken}
 use Rattle.entries.specs.Entries.{entryAt}
 use Rattle.entries.proofs.Form.{Form}
 use Rattle.entries.proofs.Standard.{units}
-use Rattle.machine.specs.Kinds.{further}
+use Rattle.machine.specs.Kinds.{further, known, firstOf, unless}
 use Rattle.machine.specs.Nets.{used}
-use Rattle.machine.specs.Comparison.{vertexAt}
-use Rattle.machine.specs.First.{frameOf}
+use Rattle.machine.specs.Comparison.{Polynomials, vertexAt}
+use Rattle.machine.specs.First.{frameOf, frameIn, coefficientsIn}
 
 -- every number of a net of degree m is so small that m blends with the frame's vertices fit 64 bits
 pub record Small (kind m : ℕ) (xs : List ℤ) : Type 0 where
@@ -47,3 +47,8 @@ pub record Holds (kind m : ℕ) (G : Values) (xs : List ℤ) : Type 0 where
 -- the number at place i of the net of degree m with the values of G over the frame
 abbrev pub valueAt : ℕ → ℕ → List ℤ → Values → ℕ → ℤ
 valueAt kind m frame G i = G (i % 4) (taken (vertexOf kind frame) (getD (counts (further kind) m) (i / 4) []))
+
+-- what is refused of polynomials and a frame before a net is made: the number, or 0
+unfoldable pub judgedFirst : Polynomials → List ℤ → ℕ
+judgedFirst f numbers =
+    firstOf (unless (known (f .kind) (f .degree)) 4) (firstOf (unless (frameIn (suc (further (f .kind))) numbers) 5) (unless (coefficientsIn f) 6))

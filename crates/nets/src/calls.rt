@@ -22,7 +22,6 @@ use crate::rows::copy;
 use crate::rows::numbers;
 use frames::known_kind;
 use machine::Call;
-use machine::Net;
 use projection::all_zero;
 
 // The largest absolute value of a weight.

@@ -3,13 +3,14 @@
 // share the blends: the rows are made from the last to the first, each from the net with its copies of
 // the first vertex fixed, and in a row each entry from the net with its copies of the third fixed too.
 ghost use mathlib.Core.Path.{_≡_};
-ghost use mathlib.Core.Bool.{true};
 ghost use Prim.Native.Nat.{pred, suc, _+_, _*_, _-_, _%_, _≤_};
+ghost use mathlib.Core.Bool.{cond};
+ghost use lib.Dec.{eqb};
 ghost use lib.IntN.{pos};
 ghost use lib.ListN.{length, getD, replicate};
-ghost use Rattle.machine.specs.Kinds.{further, known};
+ghost use Rattle.machine.specs.Kinds.{further};
 ghost use Rattle.machine.specs.Comparison.{netOver};
-ghost use Rattle.machine.specs.First.{frameOf, frameIn, coefficientsIn};
+ghost use Rattle.machine.specs.First.{frameOf, netIn};
 ghost use Rattle.machine.specs.Nets.{used};
 ghost use Rattle.nets.specs.Rows.{Bounded, Sized, blended, level, written, placeAt};
 ghost use Rattle.nets.specs.FirstNet.{
@@ -20,35 +21,48 @@ ghost use Rattle.nets.specs.FirstNet.{
   vertexWeights,
   vertexOf,
   valueAt,
+  judgedFirst,
 };
 use crate::coordinates::coordinate_numbers;
 use crate::levels::copy_entry;
 use crate::levels::spread;
 use crate::rows::PLACES;
+use crate::rows::all_in_range;
 use crate::rows::blend;
 use crate::rows::copy;
 use crate::rows::numbers;
 use crate::rows::place;
+use frames::coefficients_in;
+use frames::frame_in;
+use frames::known_kind;
 
 // No blend is refused here: what fits 64 bits is within this limit. Only the entries made are judged.
 const WHOLE: u64 = 9223372036854775807;
 
 // ---- blends with vertices
 
-// One blend with a vertex of the frame.
+// The number after the first of a vertex whose numbers begin at a place; of a curve that one is Z, and
+// there is no second coordinate: 0.
+pub(crate) fn second_number(kind: u8, frame: &[i64], at: usize) -> i64
+    requires { ⌜ at + 2 ≤ length (now frame) ⌝ }
+    ensures { λ b. ⌜ b ≡ cond (eqb kind 1) (pos 0) (getD (now (frame .entry)) (at + 1) (pos 0)) ⌝ }
+{
+    if kind == 1 {
+        return 0;
+    }
+    frame[at + 1]
+}
+
+// One blend with a vertex of the frame. A vertex has one number more than the kind, Z the last.
 pub(crate) fn blend_vertex(cur: &mut [i64], kind: u8, degree: usize, frame: &[i64], v: usize)
     requires { ⌜ Sized kind degree × (1 ≤ degree) × (v ≤ kind) × (length (now cur) ≡ 180) × (length (now frame) ≡ 9) × FrameWithin kind (now frame) × Bounded (now cur) 0 (used kind degree) (4 * suc kind) ⌝ }
     ensures { λ _. ⌜ now (cur .exit) ≡ blended (further kind) (pred degree) (vertexWeights kind (now (frame .entry)) v) (now (cur .entry)) ⌝ }
 {
-    if kind == 1 {
-        let z = frame[2 * v + 1];
-        let t = frame[2 * v];
-        blend(cur, kind, degree, z, t, 0, WHOLE);
-        return;
-    }
-    let z = frame[3 * v + 2];
-    let a = frame[3 * v];
-    let b = frame[3 * v + 1];
+    let last = kind as usize;
+    let at = (last + 1) * v;
+    let z = frame[at + last];
+    let a = frame[at];
+    let b = second_number(kind, frame, at);
     blend(cur, kind, degree, z, a, b, WHOLE);
 }
 
@@ -65,6 +79,8 @@ pub(crate) fn blend_second(cur: &mut [i64], kind: u8, degree: usize, frame: &[i6
 }
 
 // ---- entries
+//
+// The contracts speak of any form G whose values a net holds: the polar value with some points fixed.
 
 // Puts the entry with n copies of the vertices after the first, k of them of the third, into its place.
 // `cur` is the net with the other points fixed, and stays; `work` is used up.
@@ -138,16 +154,41 @@ pub(crate) fn put_rows(
 
 // ---- the net
 
+// What is refused of polynomials and a frame before a net is made: the number, or 0.
+pub(crate) fn judge_first(kind: u8, degree: u8, frame: [i64; 9], coefficients: &[i64]) -> u8
+    ensures { λ k. ⌜ k ≡ judgedFirst (record { kind = kind; degree = degree; coefficients = now (coefficients .entry) }) frame ⌝ }
+{
+    if !known_kind(kind, degree) {
+        return 4;
+    }
+    if !frame_in(kind, frame) {
+        return 5;
+    }
+    if !coefficients_in(kind, degree, coefficients) {
+        return 6;
+    }
+    0
+}
+
 // Makes the entries of the first net of accepted polynomials over an accepted frame, in places that
-// are all 0.
-pub(crate) fn make_first(out: &mut [i64], kind: u8, degree: u8, frame: &[i64], coefficients: &[i64])
-    requires { ⌜ (known kind degree ≡ true) × (frameIn (suc (further kind)) (now frame) ≡ true) × (coefficientsIn (record { kind = kind; degree = degree; coefficients = now coefficients }) ≡ true) × (now out ≡ replicate 180 (pos 0)) × (length (now frame) ≡ 9) × (length (now coefficients) ≡ 180) ⌝ }
-    ensures { λ _. ⌜ now (out .exit) ≡ netOver (record { kind = kind; degree = degree; coefficients = now (coefficients .entry) }) (frameOf (suc (further kind)) (now (frame .entry))) .entries ⌝ }
+// are all 0, and says whether they are in range.
+pub(crate) fn make_first(
+    out: &mut [i64],
+    kind: u8,
+    degree: u8,
+    frame: &[i64],
+    coefficients: &[i64],
+) -> bool
+    requires { ⌜ (judgedFirst (record { kind = kind; degree = degree; coefficients = now coefficients }) (now frame) ≡ 0) × (now out ≡ replicate 180 (pos 0)) × (length (now frame) ≡ 9) × (length (now coefficients) ≡ 180) ⌝ }
+    ensures made { λ _. ⌜ now (out .exit) ≡ netOver (record { kind = kind; degree = degree; coefficients = now (coefficients .entry) }) (frameOf (suc (further kind)) (now (frame .entry))) .entries ⌝ }
+    ensures range { λ b. ⌜ b ≡ netIn (netOver (record { kind = kind; degree = degree; coefficients = now (coefficients .entry) }) (frameOf (suc (further kind)) (now (frame .entry)))) ⌝ }
 {
     let m = degree as usize;
     let mut base = [0; PLACES];
     coordinate_numbers(&mut base, kind, m, coefficients);
     let mut cur = [0; PLACES];
     let mut work = [0; PLACES];
-    put_rows(out, &mut work, &mut cur, &mut base, kind, frame, m);
+    put_rows(&mut *out, &mut work, &mut cur, &mut base, kind, frame, m);
+    let n = numbers(kind, m);
+    all_in_range(out, n)
 }

@@ -19,16 +19,11 @@ ghost use Rattle.machine.specs.Lent.{
 };
 use crate::calls::judge_and_move;
 use crate::calls::judge_and_point;
+use crate::first::judge_first;
 use crate::first::make_first;
 use crate::rows::PLACES;
-use crate::rows::all_in_range;
 use crate::rows::copy;
-use crate::rows::numbers;
-use frames::coefficients_in;
-use frames::frame_in;
-use frames::known_kind;
 use machine::Call;
-use machine::Net;
 use machine::Weights;
 
 // Makes the first net of polynomials over a frame, in places that the caller lends, and answers 0; or
@@ -50,19 +45,12 @@ pub fn first_net(
     if entries.len() != PLACES {
         return 11;
     }
-    if !known_kind(kind, degree) {
-        return 4;
-    }
-    if !frame_in(kind, frame) {
-        return 5;
-    }
-    if !coefficients_in(kind, degree, coefficients) {
-        return 6;
+    let number = judge_first(kind, degree, frame, coefficients);
+    if number != 0 {
+        return number;
     }
     let mut made = [0; PLACES];
-    make_first(&mut made, kind, degree, &frame, coefficients);
-    let n = numbers(kind, degree as usize);
-    if !all_in_range(&made, n) {
+    if !make_first(&mut made, kind, degree, &frame, coefficients) {
         return 7;
     }
     copy(entries, &made, PLACES);

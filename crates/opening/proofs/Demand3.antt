@@ -1,5 +1,5 @@
 -- Demand 3 from the bytes on: an accepted record's numbers are accepted, so the theorem about every list of calls speaks of its net.
-use mathlib.Core.Path.{_≡_, ap, _∙_}
+use mathlib.Core.Path.{ap, _∙_}
 use Rattle.machine.proofs.Demand3.{every-list, same-frame}
 use Rattle.opening.specs.Opening.{polynomialsIn, numbersIn, refusalAt}
 use Rattle.opening.specs.Demand3.{EveryRecord, OneNet, Seven}

@@ -1,10 +1,9 @@
 -- A record as the code opens it: by the reading, the definitions are the layout's own words, and an accepted layout has been judged already.
 use Prim.Native.Nat.{ℕ, zero, suc}
 use native.Mathlib.Nat.{suc-ne-zero}
-use native.Mathlib.Omega.{arith}
-use mathlib.Core.Path.{_≡_, refl, sym, ap, ap₂, _∙_, subst}
+use mathlib.Core.Path.{_≡_, refl, sym, ap, ap₂, _∙_}
 use mathlib.Core.Bool.{Bool, true, false, _&&_, cond, true≢false}
-use mathlib.Core.List.{List, []}
+use mathlib.Core.List.{List}
 use lib.Dec.{eqb}
 use lib.ListN.{length}
 use borrow.Author.Tests.{eq-eqb, ne-eqb}
@@ -17,7 +16,7 @@ use Rattle.machine.specs.Lent.{firstNumber, firstEntries}
 use Rattle.records.specs.Table.{valuesAllowed, valuesNumber}
 use Rattle.records.specs.declared.Tag.{Tag}
 use Rattle.records.specs.declared.Tag.the-variants as tags
-use Rattle.records.specs.Reading.{valueAt, endExtent, readingOf, extentBy, fieldExtent}
+use Rattle.records.specs.Reading.{valueAt, readingOf, extentBy, fieldExtent}
 use Rattle.records.specs.Causes.{Caused, Sound}
 use Rattle.records.proofs.Causes.{refused-caused}
 use Rattle.records.proofs.Accepted.{accepted-sound}
@@ -26,7 +25,6 @@ use Rattle.records.specs.declared.Refusal.{Refusal}
 use Rattle.records.specs.declared.Reading.{Reading}
 use Rattle.records.specs.declared.Reading.the-variants.{Accepted, Refused}
 use Rattle.opening.specs.Opening.{layoutBy, layoutIn, polynomialsAt, polynomialsIn, numbersAt, numbersIn, frameIn, firstNetIn, refusalAt, refusalBy, refusalIn, unopened, openedOf, openedIn, entriesIn}
-use Rattle.opening.specs.declared.Opened.{Opened}
 
 -- a refusal at an offset, by its number
 pub refusal-none : (number offset : ℕ) → number ≡ 0 → record { number = 0; offset = 0 } ≡ refusalAt number offset

@@ -18,7 +18,6 @@ use Rattle.bytes.specs.Numbers.{frameNumbers}
 use Rattle.bytes.specs.Moves.{weightsOf, callAt}
 use Rattle.records.specs.Table.{polynomialsOf}
 use Rattle.records.specs.Reading.{blank, bytesOf, endExtent, readingOf, fieldExtent}
-use Rattle.records.specs.declared.Extent.{Extent}
 use Rattle.records.specs.declared.Layout.{Layout}
 use Rattle.records.specs.declared.Refusal.{Refusal}
 use Rattle.records.specs.declared.Reading.{Reading}

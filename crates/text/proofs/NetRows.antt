@@ -13,7 +13,7 @@ use Rattle.polar.specs.Order.{joined, counts}
 use Rattle.machine.specs.Kinds.{further}
 use Rattle.nets.specs.Rows.{Sized}
 use Rattle.nets.specs.Flips.{countsAt}
-use Rattle.nets.proofs.Collect.{by-kind, used-room}
+use Rattle.nets.proofs.TwoKinds.{by-kind, used-room}
 use Rattle.machine.specs.Nets.{used}
 use Rattle.text.specs.Words.{decimal, signedDecimal, line}
 use Rattle.text.specs.Text.{indices, entryLine, entryLines}

@@ -37,7 +37,7 @@ use Rattle.machine.proofs.Demand3.{reached-after}
 use Rattle.scales.specs.Scales.{scaleOf}
 use Rattle.scales.proofs.Tables.{scale-up, scale-known, scale-zero}
 use Rattle.nets.specs.Rows.{Sized}
-use Rattle.nets.proofs.Collect.{by-kind, used-room}
+use Rattle.nets.proofs.TwoKinds.{by-kind, used-room}
 use Rattle.nets.proofs.Judging.{known-sized}
 use Rattle.text.specs.Words.{decimal, signedDecimal, line}
 use Rattle.text.specs.Text.{word, refusedLine, kindWord, headLine, moveLine, moveLines, indices, entryLine, entryLines, netLines, pointRefusedLine, coordinateWord, projectionLine, pointLine, acceptedText}

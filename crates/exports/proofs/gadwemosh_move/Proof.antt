@@ -1,5 +1,5 @@
 -- `gadwemosh_move` meets its contract: the entries are lent on, and kind and degree stay.
-use mathlib.Core.Path.{_≡_, ap, _∙_}
+use mathlib.Core.Path.{ap, _∙_}
 use lib.IntN.{pos}
 use lib.ListN.{getD}
 use Rattle.integers.proofs.Signed.{back-fits}

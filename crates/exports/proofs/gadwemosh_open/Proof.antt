@@ -1,5 +1,5 @@
 -- `gadwemosh_open` meets its contract: the record is opened in the places of the entries, and kind and degree are put in front of an accepted one.
-use mathlib.Core.Path.{_≡_, _∙_}
+use mathlib.Core.Path.{_∙_}
 use Rattle.exports.proofs.Places.{part-length}
 use Rattle.exports.proofs.Cases.{open-short, open-refused, open-taken}
 use borrow.Author.Needs.{needs}

@@ -1,6 +1,5 @@
 -- `find_point` meets its contract: too few places are refused, and the rest is judged and found.
-use Prim.Native.Nat.{ℕ, _<_, _^_}
-use mathlib.Core.Path.{_≡_, sym, ap, _∙_, subst}
+use mathlib.Core.Path.{subst}
 use Rattle.machine.specs.declared.Net.{Net}
 use Rattle.machine.specs.declared.Call.the-variants as call
 use Rattle.nets.specs.Judged.{Pointed}

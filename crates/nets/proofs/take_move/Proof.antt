@@ -1,6 +1,5 @@
 -- `take_move` meets its contract: places of another number are refused, and the rest is judged and made.
-use Prim.Native.Nat.{ℕ, _<_, _^_}
-use mathlib.Core.Path.{_≡_, sym, ap, _∙_, subst}
+use mathlib.Core.Path.{subst}
 use Rattle.machine.specs.declared.Net.{Net}
 use Rattle.machine.specs.declared.Call.the-variants as call
 use Rattle.nets.specs.Judged.{Stepped}

@@ -1,5 +1,5 @@
 -- `open` meets its contract: places of another number first, then by the reading.
-use mathlib.Core.Path.{_≡_, sym, ap, _∙_}
+use mathlib.Core.Path.{sym, _∙_}
 use Rattle.opening.proofs.Steps.{opened-accepted, entries-accepted, opened-refused, entries-refused, opened-short, entries-short}
 use borrow.Author.Needs.{needs}
 use Rattle.opening.proofs.open.Statement.{statement}

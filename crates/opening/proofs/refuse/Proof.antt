@@ -1,5 +1,4 @@
 -- `refuse` meets its contract: both extents are the end.
-use mathlib.Core.Path.{_≡_}
 use borrow.Author.Needs.{needs}
 use Rattle.opening.proofs.refuse.Statement.{statement}
 use Rattle.opening.proofs.refuse.Tie as tie

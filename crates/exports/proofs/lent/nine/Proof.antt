@@ -1,5 +1,5 @@
 -- `nine` meets its contract: nine numbers read one after the other.
-use mathlib.Core.Path.{_≡_, _∙_}
+use mathlib.Core.Path.{_∙_}
 use mathlib.Core.List.{[], _∷_}
 use lib.IntN.{pos}
 use lib.ListN.{getD}

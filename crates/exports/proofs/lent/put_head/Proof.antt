@@ -1,6 +1,6 @@
 -- `put_head` meets its contract: two writes at the front.
 use borrow.Author.Needs.{sfits-of}
-use mathlib.Core.Path.{_≡_, ap₂, _∙_}
+use mathlib.Core.Path.{ap₂, _∙_}
 use lib.IntN.{pos}
 use lib.ListN.{set}
 use Rattle.integers.proofs.Signed.{back-fits}

@@ -1,15 +1,14 @@
 -- `handed_refusal` meets its contract: the kind and degree first, then the range of the entries.
 use borrow.Author.Needs.{needs}
 use borrow.Author.Tests.{not-true, not-false}
-use Prim.Native.Nat.{_≤_}
 use native.Mathlib.Omega.{arith}
-use mathlib.Core.Path.{_≡_, refl, sym, ap, ap₂, _∙_, subst}
+use mathlib.Core.Path.{_≡_, sym, ap, ap₂, _∙_}
 use mathlib.Core.Bool.{Bool, true, false}
-use lib.ListN.{length, take}
+use lib.ListN.{take}
 use Rattle.projection.specs.Projection.{inRange}
 use Rattle.machine.specs.Kinds.{known, all, firstOf, unless}
 use Rattle.machine.specs.Nets.{used, handed}
-use Rattle.nets.proofs.Collect.{used-room}
+use Rattle.nets.proofs.TwoKinds.{used-room}
 use Rattle.nets.proofs.Judging.{known-sized}
 use Rattle.nets.proofs.calls.handed_refusal.Statement.{statement}
 use Rattle.nets.proofs.calls.handed_refusal.Tie as tie

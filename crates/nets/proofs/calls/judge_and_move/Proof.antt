@@ -1,7 +1,6 @@
 -- `judge_and_move` meets its contract: the handed net is judged first, then the arguments, then the move is made.
-use Prim.Native.Nat.{ℕ, _≤_}
 use mathlib.Core.Path.{_≡_, sym, ap, _∙_, subst}
-use mathlib.Core.List.{List, [], _∷_}
+use mathlib.Core.List.{[], _∷_}
 use Rattle.integers.proofs.Signed.{back-fits}
 use Rattle.machine.specs.Kinds.{further}
 use Rattle.machine.specs.Nets.{handed}

@@ -1,11 +1,9 @@
 -- `judge_move` meets its contract: each test of the code settles one part of the definition, in its order.
 use borrow.Author.Needs.{needs, sfits-of}
 use borrow.Author.Tests.{not-true, not-false}
-use native.Mathlib.Omega.{arith}
 use mathlib.Core.Path.{_≡_, sym, ap, _∙_}
 use mathlib.Core.Bool.{Bool, true, false}
-use mathlib.Core.List.{List, [], _∷_}
-use lib.IntN.{ℤ}
+use mathlib.Core.List.{[], _∷_}
 use Rattle.projection.specs.Projection.{isZero}
 use Rattle.projection.proofs.Signed.{is-zero, not-zero}
 use Rattle.machine.specs.Kinds.{further, all}

@@ -1,12 +1,9 @@
 -- `make_move` meets its contract: a replace, refused where a named polar value is out of range, or a flip.
-use borrow.Author.Tests.{not-true, not-false}
-use Prim.Native.Nat.{ℕ, pred, _+_, _≤_}
+use Prim.Native.Nat.{pred, _+_, _≤_}
 use native.Mathlib.Omega.{arith}
-use mathlib.Core.Path.{_≡_, refl, sym, ap, ap₂, _∙_, subst}
-use mathlib.Core.Bool.{Bool, true, false, cond}
-use mathlib.Core.List.{List, [], _∷_}
-use lib.IntN.{ℤ}
-use lib.ListN.{length}
+use mathlib.Core.Path.{_≡_, sym, ap, _∙_, subst}
+use mathlib.Core.Bool.{true, false, cond}
+use mathlib.Core.List.{[], _∷_}
 use Rattle.machine.specs.Kinds.{further}
 use Rattle.machine.specs.Sizes.{allNamed}
 use Rattle.machine.specs.declared.Net.{Net}

@@ -1,19 +1,17 @@
 -- `make_point` meets its contract: the entries in use are copied into a room of their own and taken down the levels there, and the last level has the point.
 use borrow.Author.Tests.{not-true, not-false}
-use Prim.Native.Nat.{ℕ, _+_, _≤_, _<_}
 use native.Mathlib.Omega.{arith}
 use mathlib.Core.Path.{_≡_, refl, sym, ap, _∙_, subst}
-use mathlib.Core.Bool.{Bool, true, false}
-use mathlib.Core.List.{List, [], _∷_}
-use lib.IntN.{ℤ, pos}
-use lib.ListN.{length, getD, replicate}
+use mathlib.Core.List.{[], _∷_}
+use lib.IntN.{pos}
+use lib.ListN.{getD, replicate}
 use Rattle.machine.specs.Kinds.{further}
 use Rattle.machine.specs.Nets.{used}
 use Rattle.machine.specs.declared.Net.{Net}
 use Rattle.nets.specs.Rows.{written}
 use Rattle.nets.specs.Levels.{renamedAt, Descended}
 use Rattle.nets.proofs.Row.{seen-list, seen-weights}
-use Rattle.nets.proofs.Collect.{used-room}
+use Rattle.nets.proofs.TwoKinds.{used-room}
 use Rattle.nets.proofs.Renaming.{replace-range, replace-named, point-found, copied-renamed}
 use Rattle.nets.proofs.Steps.{net-sized, net-ranged, point-small, size-pointed, found-pointed}
 use borrow.Author.Needs.{needs}

@@ -1,16 +1,14 @@
 -- `replace_entries` meets its contract: the net is renamed into a room of its own, taken down the levels there, and renamed back where all of them are in range.
 use borrow.Author.Tests.{not-true, not-false}
-use Prim.Native.Nat.{pred, _+_, _≤_}
+use Prim.Native.Nat.{pred}
 use native.Mathlib.Omega.{arith}
-use mathlib.Core.Path.{_≡_, refl, sym, ap, _∙_, subst}
-use mathlib.Core.Bool.{Bool, true, false, cond}
-use mathlib.Core.List.{List, [], _∷_}
-use lib.IntN.{ℤ, pos}
-use lib.ListN.{length}
+use mathlib.Core.Path.{refl, sym, _∙_, subst}
+use mathlib.Core.List.{[], _∷_}
+use lib.IntN.{pos}
 use Rattle.entries.proofs.Renamed.{exchanged}
 use Rattle.nets.specs.Levels.{Descended}
 use Rattle.nets.proofs.Row.{seen-list, seen-weights}
-use Rattle.nets.proofs.Renaming.{replace-long, replace-range, replace-named, replace-made}
+use Rattle.nets.proofs.Renaming.{replace-range, replace-named, replace-made}
 use borrow.Author.Needs.{needs}
 use Rattle.nets.proofs.calls.replace_entries.Statement.{statement}
 use Rattle.nets.proofs.calls.replace_entries.Tie as tie

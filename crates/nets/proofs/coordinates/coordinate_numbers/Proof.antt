@@ -1,13 +1,11 @@
 -- `coordinate_numbers` meets its contract: after n turns the first n rows are put, and after the last one the whole net.
 use borrow.Author.Needs.{needs}
-use Prim.Native.Nat.{suc, _+_, _*_, _-_, _≤_}
-use native.Mathlib.Nat.{zero-add}
+use Prim.Native.Nat.{_+_, _*_, _-_, _≤_}
 use native.Mathlib.Omega.{arith}
 use mathlib.Core.Path.{_≡_, sym, ap, _∙_}
 use lib.ListN.{length}
 use Rattle.nets.specs.Rows.{written, placeAt}
 use Rattle.nets.specs.Coordinates.{coordinateAt}
-use Rattle.nets.proofs.Signs.{place-row}
 use Rattle.nets.proofs.Scaled.{coordinates-made}
 use Rattle.nets.proofs.Writes.{rows-none, rows-more}
 use Rattle.nets.proofs.coordinates.coordinate_numbers.Statement.{statement}

@@ -6,7 +6,7 @@ use mathlib.Core.Path.{sym, _∙_, subst}
 use lib.IntN.{natAbs}
 use Rattle.integers.proofs.Signed.{back-fits}
 use Rattle.nets.proofs.Row.{seen}
-use Rattle.nets.proofs.Collect.{smaller, used-room}
+use Rattle.nets.proofs.TwoKinds.{smaller, used-room}
 use Rattle.nets.proofs.Signs.{place-used}
 use Rattle.nets.proofs.Scaled.{exponents-within, exponents-place, monomials-room, entry-put}
 use Rattle.nets.proofs.coordinates.put_entry.Statement.{statement}

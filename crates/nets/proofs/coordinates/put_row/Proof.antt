@@ -6,8 +6,7 @@ use mathlib.Core.Path.{_≡_, refl, sym, ap, _∙_}
 use lib.ListN.{length}
 use Rattle.nets.specs.Rows.{written, placeAt}
 use Rattle.nets.specs.Coordinates.{coordinateAt}
-use Rattle.nets.proofs.Collect.{smaller, spread-most}
-use Rattle.nets.proofs.Signs.{place-step}
+use Rattle.nets.proofs.TwoKinds.{smaller, spread-most}
 use Rattle.nets.proofs.Writes.{row-more}
 use Rattle.nets.proofs.coordinates.put_row.Statement.{statement}
 use Rattle.nets.proofs.coordinates.put_row.Tie as tie

@@ -6,7 +6,7 @@ use mathlib.Core.Path.{_≡_, sym, ap, _∙_}
 use Rattle.machine.specs.Kinds.{further}
 use Rattle.nets.specs.Rows.{level}
 use Rattle.nets.specs.FirstNet.{vertexWeights}
-use Rattle.nets.proofs.Collect.{smaller}
+use Rattle.nets.proofs.TwoKinds.{smaller}
 use Rattle.nets.proofs.Through.{Blends, blends-first, blends-next, small-bounded}
 use Rattle.nets.proofs.first.blend_second.Statement.{statement}
 use Rattle.nets.proofs.first.blend_second.Tie as tie

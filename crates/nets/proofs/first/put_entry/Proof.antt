@@ -11,7 +11,7 @@ use Rattle.machine.specs.Nets.{used}
 use Rattle.nets.specs.Rows.{Sized, placeAt}
 use Rattle.nets.specs.Levels.{copied}
 use Rattle.nets.specs.FirstNet.{vertexOf}
-use Rattle.nets.proofs.Collect.{smaller, spread-most, used-room}
+use Rattle.nets.proofs.TwoKinds.{smaller, spread-most, used-room}
 use Rattle.nets.proofs.Signs.{place-used}
 use Rattle.nets.proofs.Through.{small-same, holds-same, level-front}
 use Rattle.nets.proofs.FirstRows.{copied-front, copied-written}

@@ -6,7 +6,7 @@ use mathlib.Core.List.{_++_}
 use lib.ListN.{length, replicate}
 use Rattle.nets.specs.Rows.{written, placeAt}
 use Rattle.nets.specs.FirstNet.{Small, vertexOf, Values, Holds, valueAt}
-use Rattle.nets.proofs.Collect.{smaller, spread-most}
+use Rattle.nets.proofs.TwoKinds.{smaller, spread-most}
 use Rattle.nets.proofs.Through.{Blends, blends-first, blends-next, small-bounded}
 use Rattle.nets.proofs.FirstRows.{third-vertex, holds-third, row-entry}
 use Rattle.nets.proofs.first.put_row.Statement.{statement}
@@ -51,7 +51,7 @@ blend-vertex-requires c κs =
     let l = c .before .before .before .before .before .before .before .before .loop in
     let more : l .k < (a .kind - 1) * a .n = omega (arith, c .before .before .before .before .before .before .before .loop-test .taken, c .before .before .before .before .before .before .before .before .before .spread .ensures) in
     let left : 1 ≤ a .n - l .k = omega (arith, more, spread-most (a .kind) (a .n) (a .n) (s .pre .0)) in
-    (smaller (s .pre .0) (omega arith), left, third-vertex (a .kind) (a .n) (l .k) (s .pre .0) more, l .inv .1 .long, s .pre .4, s .pre .5, small-bounded (a .kind) (a .n - l .k) (l .cur) left (l .inv .1 .small))
+    (smaller (s .pre .0) (omega arith), left, omega (arith, third-vertex (a .kind) (a .n) (l .k) (s .pre .0) more), l .inv .1 .long, s .pre .4, s .pre .5, small-bounded (a .kind) (a .n - l .k) (l .cur) left (l .inv .1 .small))
 
 add-k : tie.Need-add-k Inv-loop μ-loop
 add-k c =

@@ -9,7 +9,7 @@ use lib.ListN.{length, getD, replicate}
 use Rattle.machine.specs.Nets.{used}
 use Rattle.nets.specs.Rows.{written, placeAt}
 use Rattle.nets.specs.FirstNet.{Small, vertexOf, Values, Holds, valueAt}
-use Rattle.nets.proofs.Collect.{smaller, used-room}
+use Rattle.nets.proofs.TwoKinds.{smaller, used-room}
 use Rattle.nets.proofs.Through.{Blends, blends-first, small-bounded, small-same, holds-same}
 use Rattle.nets.proofs.FirstRows.{copied-front, base-small, base-next, holds-first, rows-last, rows-whole, row-before}
 use Rattle.nets.proofs.first.put_rows.Statement.{statement}

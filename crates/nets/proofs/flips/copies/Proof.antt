@@ -1,10 +1,9 @@
 -- `copies` meets its contract, by the vertex.
 use borrow.Author.Needs.{needs}
-use Prim.Native.Nat.{_+_, _*_, _-_, _≤_}
-use native.Mathlib.Nat.{mul-le-mul-right}
+use Prim.Native.Nat.{_-_}
 use native.Mathlib.Omega.{arith}
 use mathlib.Core.Path.{_≡_, refl}
-use Rattle.nets.proofs.Collect.{spread-most}
+use Rattle.nets.proofs.TwoKinds.{spread-most}
 use Rattle.nets.proofs.Signs.{copies-is}
 use Rattle.nets.proofs.flips.copies.Statement.{statement}
 use Rattle.nets.proofs.flips.copies.Tie as tie

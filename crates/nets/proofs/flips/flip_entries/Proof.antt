@@ -1,13 +1,12 @@
 -- `flip_entries` meets its contract: the rows before n are signed, the others are as they were.
 use borrow.Author.Needs.{needs}
-use Prim.Native.Nat.{ℕ, suc, pred, _+_, _*_, _-_, _≤_, _<_}
+use Prim.Native.Nat.{pred, _+_, _*_, _-_, _≤_}
 use native.Mathlib.Omega.{arith}
-use mathlib.Core.Path.{_≡_, refl, sym, ap, ap₂, _∙_, subst}
-use lib.IntN.{ℤ, pos, natAbs}
+use mathlib.Core.Path.{_≡_, sym, ap, _∙_, subst}
+use lib.IntN.{pos, natAbs}
 use lib.ListN.{length, getD}
 use Rattle.machine.specs.Kinds.{further}
-use Rattle.machine.specs.Nets.{used}
-use Rattle.nets.specs.Rows.{Sized, written, placeAt}
+use Rattle.nets.specs.Rows.{written, placeAt}
 use Rattle.nets.specs.Flips.{signedAt}
 use Rattle.nets.proofs.Lists.{written-outside}
 use Rattle.nets.proofs.Signs.{rows-next, rows-all}

@@ -1,17 +1,16 @@
 -- `flip_row` meets its contract: the entries before k are signed, the others are as they were.
 use borrow.Author.Needs.{needs}
-use Prim.Native.Nat.{ℕ, suc, pred, _+_, _*_, _-_, _≤_, _<_}
+use Prim.Native.Nat.{suc, pred, _+_, _*_, _-_, _≤_}
 use native.Mathlib.Omega.{arith}
-use mathlib.Core.Path.{_≡_, refl, sym, ap, ap₂, _∙_, subst}
-use mathlib.Core.List.{List}
-use lib.IntN.{ℤ, pos, natAbs}
+use mathlib.Core.Path.{_≡_, refl, sym, ap, _∙_, subst}
+use lib.IntN.{pos, natAbs}
 use lib.ListN.{length, getD}
 use Rattle.machine.specs.Kinds.{further}
 use Rattle.machine.specs.Nets.{used}
-use Rattle.nets.specs.Rows.{Sized, written, placeAt}
+use Rattle.nets.specs.Rows.{written, placeAt}
 use Rattle.nets.specs.Flips.{signed, signedAt}
 use Rattle.nets.proofs.Lists.{write-still}
-use Rattle.nets.proofs.Collect.{smaller, used-room, spread-most}
+use Rattle.nets.proofs.TwoKinds.{smaller, used-room, spread-most}
 use Rattle.nets.proofs.Signs.{place-step, place-used, row-next}
 use Rattle.nets.proofs.flips.flip_row.Statement.{statement}
 use Rattle.nets.proofs.flips.flip_row.Tie as tie

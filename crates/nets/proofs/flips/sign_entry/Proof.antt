@@ -1,11 +1,11 @@
 -- `sign_entry` meets its contract: the numbers at and past i are as they were.
 use borrow.Author.Needs.{needs, sfits-of}
-use Prim.Native.Nat.{ℕ, suc, _+_, _*_, _-_, _≤_, _<_}
+use Prim.Native.Nat.{_+_, _*_, _-_, _≤_}
 use native.Mathlib.Nat.{sub-self}
 use native.Mathlib.Omega.{arith}
-use mathlib.Core.Path.{_≡_, refl, sym, ap, ap₂, _∙_, subst}
-use lib.IntN.{ℤ, pos, natAbs}
-use lib.ListN.{length, getD, set, length-set}
+use mathlib.Core.Path.{_≡_, refl, sym, ap, _∙_, subst}
+use lib.IntN.{pos, natAbs}
+use lib.ListN.{length, getD, length-set}
 use Rattle.integers.proofs.Signed.{back-fits}
 use Rattle.nets.specs.Rows.{written}
 use Rattle.nets.specs.Flips.{signed}

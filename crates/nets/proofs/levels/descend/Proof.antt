@@ -1,27 +1,23 @@
 -- `descend` meets its contract: after h turns the numbers are those of level h, and all levels so far are in range.
 use borrow.Author.Needs.{needs}
 use borrow.Author.Tests.{not-true, not-false}
-use Prim.Native.Nat.{ℕ, suc, pred, _+_, _*_, _-_, _≤_, _<_}
-use native.Mathlib.Numerals.{add-one}
-use native.Mathlib.Nat.{sub-zero}
+use Prim.Native.Nat.{pred, _+_, _-_}
 use native.Mathlib.Omega.{arith}
-use mathlib.Core.Path.{_≡_, refl, sym, ap, ap₂, _∙_, subst}
-use mathlib.Core.Bool.{Bool, true, false}
-use mathlib.Core.List.{List, [], _∷_}
-use lib.IntN.{ℤ, natAbs}
-use lib.ListN.{length, take}
+use mathlib.Core.Path.{refl, sym, ap, _∙_}
+use mathlib.Core.List.{[], _∷_}
+use lib.IntN.{natAbs}
+use lib.ListN.{take}
 use mir.Syntax.{w64}
 use mir.Val.{toZ}
-use Rattle.integers.specs.Sum.{upto}
 use Rattle.projection.specs.Projection.{inRange}
 use Rattle.machine.specs.Kinds.{further, all}
 use Rattle.machine.specs.Nets.{used}
-use Rattle.nets.specs.Rows.{Sized, Bounded, blended, level}
+use Rattle.nets.specs.Rows.{blended, level}
 use Rattle.machine.specs.Sizes.{allNamed}
 use Rattle.machine.proofs.All.{clash}
 use Rattle.nets.specs.Levels.{valuesOf}
 use Rattle.nets.proofs.Row.{seen, seen-list, seen-weights}
-use Rattle.nets.proofs.Collect.{smaller, used-room}
+use Rattle.nets.proofs.TwoKinds.{smaller}
 use Rattle.nets.proofs.Descent.{At, at-first, at-next, at-fails, at-last, at-bounded}
 use Rattle.nets.proofs.levels.descend.Statement.{statement}
 use Rattle.nets.proofs.levels.descend.Tie as tie

@@ -1,11 +1,10 @@
 -- `descend_renamed` meets its contract: the weights handed on are the exchanged ones.
 use borrow.Author.Needs.{needs}
-use Prim.Native.Nat.{pred, _+_, _≤_}
+use Prim.Native.Nat.{pred}
 use native.Mathlib.Omega.{arith}
 use mathlib.Core.Path.{_≡_, sym, ap, _∙_, subst}
-use mathlib.Core.List.{List, [], _∷_}
-use lib.IntN.{ℤ, pos}
-use lib.ListN.{length}
+use mathlib.Core.List.{[], _∷_}
+use lib.IntN.{pos}
 use Rattle.entries.proofs.Renamed.{exchanged}
 use Rattle.nets.specs.Levels.{Descended}
 use Rattle.nets.proofs.Row.{seen-list, seen-weights}

@@ -1,7 +1,6 @@
 -- `rename` meets its contract: after n turns the first n rows are renamed, and after the last one the whole net.
 use borrow.Author.Needs.{needs}
-use Prim.Native.Nat.{suc, _+_, _*_, _-_, _≤_}
-use native.Mathlib.Nat.{zero-add}
+use Prim.Native.Nat.{_+_, _*_, _-_, _≤_}
 use native.Mathlib.Omega.{arith}
 use mathlib.Core.Path.{_≡_, sym, ap, _∙_}
 use lib.ListN.{length}

@@ -1,8 +1,7 @@
 -- `rename_entry` meets its contract: the four numbers are copied from the entry with the counts exchanged.
-use Prim.Native.Nat.{_+_, _*_, _-_, _≤_}
+use Prim.Native.Nat.{_-_}
 use native.Mathlib.Omega.{arith}
-use mathlib.Core.Path.{_≡_, sym, _∙_}
-use Rattle.nets.proofs.Collect.{smaller, spread-most, used-room}
+use Rattle.nets.proofs.TwoKinds.{smaller, spread-most, used-room}
 use Rattle.nets.proofs.Signs.{place-used}
 use Rattle.nets.proofs.Renaming.{exchanged-used, renamed-copied}
 use borrow.Author.Needs.{needs}

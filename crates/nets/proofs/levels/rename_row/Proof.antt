@@ -8,8 +8,7 @@ use Rattle.nets.specs.Rows.{written, placeAt}
 use Prim.Native.Nat.{pred}
 use Rattle.machine.specs.Kinds.{further}
 use Rattle.nets.specs.Levels.{renamedAt}
-use Rattle.nets.proofs.Collect.{smaller, spread-most}
-use Rattle.nets.proofs.Signs.{place-step}
+use Rattle.nets.proofs.TwoKinds.{smaller, spread-most}
 use Rattle.nets.proofs.Writes.{row-more}
 use Rattle.nets.proofs.levels.rename_row.Statement.{statement}
 use Rattle.nets.proofs.levels.rename_row.Tie as tie

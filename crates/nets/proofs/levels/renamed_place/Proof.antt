@@ -1,8 +1,7 @@
 -- `renamed_place` meets its contract: the three vertices have three ways to exchange the counts.
-use Prim.Native.Nat.{_+_, _*_, _-_, _≤_}
+use Prim.Native.Nat.{_-_, _≤_}
 use native.Mathlib.Omega.{arith}
-use mathlib.Core.Path.{_≡_, sym, _∙_}
-use Rattle.nets.proofs.Collect.{smaller, spread-most}
+use Rattle.nets.proofs.TwoKinds.{smaller, spread-most}
 use Rattle.nets.proofs.Renaming.{exchanged-place}
 use borrow.Author.Needs.{needs}
 use Rattle.nets.proofs.levels.renamed_place.Statement.{statement}

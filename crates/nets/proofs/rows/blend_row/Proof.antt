@@ -1,22 +1,20 @@
 -- `blend_row` meets its contract: the numbers at and past f are as they were, so each blend is of the old numbers, and those before f are within the limit.
 use borrow.Author.Needs.{needs, sfits-of}
 use borrow.Author.Tests.{not-true, not-false}
-use Prim.Native.Nat.{ℕ, suc, _≤_, _<_, _+_, _*_, _-_, _^_}
+use Prim.Native.Nat.{ℕ, _≤_, _+_, _-_}
 use native.Mathlib.Nat.{sub-self}
-use native.Mathlib.Numerals.{add-one}
 use native.Mathlib.Omega.{arith}
-use mathlib.Core.Path.{_≡_, refl, sym, ap, ap₂, _∙_, subst}
-use lib.IntN.{ℤ, pos, natAbs}
-use lib.ListN.{length, getD, set, length-set}
+use mathlib.Core.Path.{_≡_, refl, sym, ap, ap₂, _∙_}
+use lib.IntN.{ℤ}
+use lib.ListN.{length, length-set}
 use mir.Syntax.{w64}
-use mir.Val.{toZ, ofZ, SFits}
-use Rattle.integers.proofs.Signed.{back-fits}
-use Rattle.nets.specs.Rows.{written, mixed, ranged, Bounded}
+use mir.Val.{toZ}
+use Rattle.nets.specs.Rows.{written, mixed, ranged}
 use Rattle.nets.proofs.Row.{seen, row-small, row-value, row-step, row-weights}
 use Rattle.machine.specs.Kinds.{within}
 use Rattle.machine.proofs.All.{clash}
 use Rattle.nets.proofs.Lists.{ranged-next, ranged-fails}
-use mathlib.Core.Bool.{true, false}
+use mathlib.Core.Bool.{true}
 use Rattle.nets.proofs.rows.blend_row.Statement.{statement}
 use Rattle.nets.proofs.rows.blend_row.Tie as tie
 use Rattle.nets.proofs.rows.blend_row.Reads as reads

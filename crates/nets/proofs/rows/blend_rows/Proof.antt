@@ -1,17 +1,17 @@
 -- `blend_rows` meets its contract: after n turns the first n rows are blended, `from` is where row n begins, and the numbers before it are within the limit.
 use borrow.Author.Needs.{needs}
 use borrow.Author.Tests.{not-true, not-false}
-use Prim.Native.Nat.{ℕ, suc, _≤_, _<_, _+_, _*_, _-_, _^_}
+use Prim.Native.Nat.{ℕ, _≤_, _+_, _*_, _-_}
 use native.Mathlib.Numerals.{add-one}
 use native.Mathlib.Omega.{arith}
 use mathlib.Core.Path.{_≡_, refl, sym, ap, ap₂, _∙_, subst}
 use mathlib.Core.Bool.{Bool, true, false}
-use mathlib.Core.List.{List, [], _∷_}
-use lib.IntN.{ℤ, pos, natAbs}
+use mathlib.Core.List.{[], _∷_}
+use lib.IntN.{pos, natAbs}
 use lib.ListN.{length, getD}
 use mir.Syntax.{w64}
-use mir.Val.{toZ, ofZ, SFits}
-use Rattle.nets.specs.Rows.{written, mixed, ranged, Bounded, rowsBlended}
+use mir.Val.{toZ}
+use Rattle.nets.specs.Rows.{mixed, ranged, Bounded, rowsBlended}
 use Rattle.nets.proofs.Lists.{ranged-more}
 use Rattle.nets.proofs.Row.{seen, seen-list, seen-weights}
 use Rattle.machine.specs.Nets.{used}

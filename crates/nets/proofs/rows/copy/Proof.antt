@@ -1,9 +1,8 @@
 -- `copy` meets its contract: after i turns the first i numbers are copied.
 use borrow.Author.Needs.{needs}
-use Prim.Native.Nat.{_+_, _-_, _≤_}
-use native.Mathlib.Nat.{sub-zero}
+use Prim.Native.Nat.{_-_, _≤_}
 use native.Mathlib.Omega.{arith}
-use mathlib.Core.Path.{_≡_, refl, sym, ap, _∙_}
+use mathlib.Core.Path.{_≡_, refl, ap, _∙_}
 use lib.IntN.{pos}
 use lib.ListN.{length, getD, length-set}
 use Rattle.nets.specs.Rows.{written}

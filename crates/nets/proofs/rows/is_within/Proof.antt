@@ -1,5 +1,5 @@
 -- `is_within` meets its contract: the absolute value is compared.
-use mathlib.Core.Path.{_≡_, ap, _∙_}
+use mathlib.Core.Path.{ap, _∙_}
 use lib.Dec.{leb}
 use lib.IntN.{natAbs}
 use Rattle.integers.proofs.Signed.{back-fits}

@@ -1,6 +1,5 @@
 -- `mix` meets its contract: every product and sum on the way is at most the bound that the caller gives.
 use Prim.Native.Nat.{_+_, _*_, _<_, _^_}
-use native.Mathlib.Nat.{lt-of-le-of-lt}
 use native.Mathlib.Omega.{arith}
 use mathlib.Core.Path.{_≡_, sym, ap₂, _∙_, subst}
 use lib.IntN.{ℤ, natAbs, _+ℤ_, _*ℤ_}

@@ -1,6 +1,6 @@
 -- `place` meets its contract: n(n+1)/2 entries stand before row n of a patch.
 use borrow.Author.Needs.{needs}
-use Prim.Native.Nat.{_+_, _*_, _/_, _≤_}
+use Prim.Native.Nat.{_+_, _/_, _≤_}
 use native.Mathlib.Nat.{mul-le-mul, div-eq-of-eq-mul-right}
 use native.Mathlib.Omega.{arith}
 use mathlib.Core.Path.{_≡_, sym, ap, _∙_}

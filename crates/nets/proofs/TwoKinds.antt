@@ -1,22 +1,10 @@
--- Collecting the polar values of a level: which places are written, and that each entry with h copies of the vertex is written once.
-use Prim.Native.Nat.{ℕ, zero, suc, pred, _+_, _*_, _-_, _≤_, _<_, suc-le-suc, zero-le}
-use native.Mathlib.Nat.{add-zero, zero-add, not-suc-le-zero, le-of-suc-le-suc}
+-- The two kinds: what holds of a curve and of a patch holds of every known kind, and the places of both fit the array.
+use Prim.Native.Nat.{ℕ, zero, suc, _+_, _*_, _-_, _≤_}
+use native.Mathlib.Nat.{not-suc-le-zero}
 use native.Mathlib.Omega.{arith}
-use native.Mathlib.Decide.{decLt, ℕ-discrete}
-use mathlib.Core.Path.{_≡_, refl, sym, ap, ap₂, _∙_, subst}
-use mathlib.Core.Logic.{_⊎_, inl, inr, _≢_}
-use mathlib.Core.List.{List, [], _∷_}
-use lib.Dec.{lit≤}
-use lib.IntN.{ℤ, pos}
-use lib.ListN.{length, getD, set, length-set}
-use lib.Seq.{getD-set-same, getD-set-other}
-use Rattle.polar.specs.Order.{total, counts}
-use Rattle.entries.proofs.Places.{rank, offset}
-use Rattle.entries.proofs.Listed.{rank-below}
-use Rattle.machine.specs.Kinds.{further}
 use Rattle.machine.specs.Nets.{used}
 use Rattle.nets.specs.Rows.{Sized, placeAt}
-use Rattle.nets.proofs.Ranks.{rank-curve, rank-patch, tri-suc, tri-mono, tri-nine, used-curve, used-patch}
+use Rattle.nets.proofs.Ranks.{tri-suc, tri-mono, tri-nine, used-curve, used-patch}
 
 -- ---- the two kinds
 
