@@ -3,7 +3,7 @@
 
 mod gadwemosh;
 
-use gadwemosh::{open, project, text, Net, Projection, RecordRefused, Refused, Vertex};
+use gadwemosh::{first, open, project, text, Net, Projection, RecordRefused, Refused, Vertex};
 use std::io::Read;
 
 fn print_net(name: &str, net: &Net) {
@@ -29,6 +29,11 @@ fn look_around(record: &[u8], net: &Net) {
             offset: 0
         })
     );
+    let mut coefficients = [0; 180];
+    coefficients[..12].copy_from_slice(&[1, 0, 0, 1, 0, 2, 0, 0, -1, 0, 0, 1]);
+    let frame = [0, 1, 1, 1, 0, 0, 0, 0, 0];
+    assert_eq!(first(1, 2, &frame, &coefficients).as_ref(), Ok(net));
+    assert_eq!(first(1, 11, &frame, &coefficients), Err(Refused(4)));
     let mut other = net.clone();
     assert_eq!(other.replace(Vertex::T, [1, 1, 0]), Err(Refused(8)));
     assert_eq!(&other, net);

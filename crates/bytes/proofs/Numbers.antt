@@ -1,19 +1,22 @@
 -- Laws of the numbers in a part: parts of lists, items, digits to base 256, and lists of numbers.
 -- Each law is over the width n, so that 16-bit and 32-bit numbers have the same proofs.
 use mathlib.Core.Path.{_≡_, refl, sym, _∙_, ap, ap₂, subst}
-use mathlib.Core.Bool.{Bool, true, false, cond}
+use mathlib.Core.Bool.{Bool, true, false, _&&_, _||_, cond}
 use mathlib.Core.List.{List, [], _∷_, foldl, map-map}
 use Prim.Native.Nat.{ℕ, zero, suc, _+_, _-_, _*_, _/_, _≤_, _<_}
 use native.Mathlib.Nat.{le-div-iff-mul-le, add-mul, one-mul, mul-comm, mul-div-right, le-trans}
 use native.Mathlib.Numerals.{add-one}
 use native.Mathlib.Omega.{arith}
-use borrow.Author.Tests.{eqb-true, eqb-false, ltb-true, ltb-false, lt-ltb, le-ltb}
+use borrow.Author.Tests.{eqb-true, eqb-false, ltb-true, ltb-false, lt-ltb, le-ltb, le-leb, lt-leb, leb-true, leb-false}
 use lib.ListN.{length, getD, set, take, drop, length-drop, drop-of-length-le, length-map}
-use lib.Seq.{take-add, drop-at, length-take-le, take-take, take-all, drop-length, take-nil, drop-cons, ext-getD, getD-set-same, getD-set-other}
-use lib.Dec.{eqb, ltb}
-use lib.IntN.{ℤ, pos}
+use lib.Seq.{take-add, drop-at, length-take-le, take-take, take-all, drop-length, take-nil, drop-cons, ext-getD, getD-take, getD-set-same, getD-set-other}
+use lib.Dec.{eqb, ltb, leb}
+use lib.IntN.{ℤ, pos, negℤ}
 use Rattle.integers.specs.Sum.{upto}
 use Rattle.integers.proofs.Sums.{length-upto}
+use Rattle.integers.proofs.Laws.{natAbs-neg}
+use Rattle.machine.specs.Kinds.{within, all}
+use Rattle.machine.proofs.All.{and-true, and-none}
 use Rattle.bytes.specs.Numbers.{item, unsignedOf, twosComplement, signedOf, numberAt, numbersTo, numberBelow, coefficientsOf}
 
 -- ---- parts of a list
@@ -121,6 +124,23 @@ pub number-lacking : (n : ℕ) (part : List ℕ) (k : ℕ) → length part / n �
 unfolding numberAt signedOf unsignedOf twosComplement
 number-lacking n part k h = ap signedOf (item-lacking n part k h)
 
+-- the absolute value is v or 256 ^ 4 - v, whichever is less: so one of the two is up to a limit or none is
+pub within-four : (v limit : ℕ) → v < 4294967296 → within limit (twosComplement 4 v) ≡ (leb v limit || leb (4294967296 - v) limit)
+unfolding twosComplement
+within-four v limit h = by-half (ltb (2 * v) 4294967296) refl
+  where
+    by-less : (t : Bool) → leb v limit ≡ t → 2 * v < 4294967296 → t ≡ (t || leb (4294967296 - v) limit)
+    by-less true e low = refl
+    by-less false e low = let over = leb-false v limit e in sym (lt-leb (4294967296 - v) limit (omega arith))
+
+    by-more : (t : Bool) → leb v limit ≡ t → 4294967296 ≤ 2 * v → leb (4294967296 - v) limit ≡ (t || leb (4294967296 - v) limit)
+    by-more true e high = let under = leb-true v limit e in le-leb (4294967296 - v) limit (omega arith)
+    by-more false e high = refl
+
+    by-half : (t : Bool) → ltb (2 * v) 4294967296 ≡ t → within limit (cond t (pos v) (negℤ (pos (4294967296 - v)))) ≡ (leb v limit || leb (4294967296 - v) limit)
+    by-half true e = by-less (leb v limit) refl (ltb-true (2 * v) 4294967296 e)
+    by-half false e = ap (λ (k : ℕ). leb k limit) (natAbs-neg (pos (4294967296 - v))) ∙ by-more (leb v limit) refl (ltb-false (2 * v) 4294967296 e)
+
 pub number-of-value : (n : ℕ) (part : List ℕ) (m k : ℕ) → 0 < n → m ≤ length part → k < m / n → numberAt n (take m part) k ≡ numberAt n part k
 unfolding numberAt
 number-of-value n part m k h b t = ap signedOf (item-of-value n part m k h b t)
@@ -142,18 +162,53 @@ pub numbersTo-by : (l : List ℤ) (f : ℕ → ℤ) → ((k : ℕ) → k < lengt
 numbersTo-by l f h =
     ext-getD (pos 0) l (numbersTo (length l) f) (sym (length-numbersTo (length l) f)) (λ k b. h k b ∙ sym (getD-numbersTo (length l) f k b))
 
+-- What is so of each number below i, and of i, is so below i + 1.
+pub one-further : (P : ℕ → Type 0) (i : ℕ) → ((k : ℕ) → k < i → P k) → P i → (k : ℕ) → k < i + 1 → P k
+one-further P i before is k below = by-case (eqb k i) refl
+  where
+    by-case : (t : Bool) → eqb k i ≡ t → P k
+    by-case true e = subst P (sym (eqb-true k i e)) is
+    by-case false e = let other = eqb-false k i e in before k (omega arith)
+
 -- What is so at each place below i is so below i + 1 after a number is put in place i.
 pub one-more : (out : List ℤ) (P : ℕ → ℤ → Type 0) (i : ℕ) (v : ℤ) → i < length out → ((k : ℕ) → k < i → P k (getD out k (pos 0))) → P i v
     → (k : ℕ) → k < i + 1 → P k (getD (set out i v) k (pos 0))
-one-more out P i v h before is k below = by-case (eqb k i) refl
-  where
-    by-case : (t : Bool) → eqb k i ≡ t → P k (getD (set out i v) k (pos 0))
-    by-case true e =
-        let same = eqb-true k i e in
-        subst (λ (j : ℕ). P j (getD (set out i v) j (pos 0))) (sym same) (subst (P i) (sym (getD-set-same out i v (pos 0) h)) is)
-    by-case false e =
-        let other = eqb-false k i e in
-        subst (P k) (sym (getD-set-other out i k v (pos 0) other)) (before k (omega arith))
+one-more out P i v h before is =
+    one-further
+    (λ k. P k (getD (set out i v) k (pos 0)))
+    i
+    (λ k below. subst (P k) (sym (getD-set-other out i k v (pos 0) (λ same. omega arith))) (before k below))
+    (subst (P i) (sym (getD-set-same out i v (pos 0) h)) is)
+
+-- ---- a test of the numbers f 0, f 1, .., f (n - 1)
+
+next-number : (n : ℕ) (f : ℕ → ℤ) → numbersTo (suc n) f ≡ f 0 ∷ numbersTo n (λ i. f (suc i))
+unfolding numbersTo
+next-number n f = ap (λ (l : List ℤ). f 0 ∷ l) (map-map f suc (upto n))
+
+module _ (test : ℤ → Bool) where
+  pub each-passes : (n : ℕ) (f : ℕ → ℤ) → ((k : ℕ) → k < n → test (f k) ≡ true) → all test (numbersTo n f) ≡ true
+  unfolding numbersTo
+  each-passes zero f h = refl
+  each-passes (suc n) f h = ap (all test) (next-number n f) ∙ and-true (h 0 (omega arith)) (each-passes n (λ i. f (suc i)) (λ k b. h (suc k) (omega arith)))
+
+  pub one-fails : (n : ℕ) (f : ℕ → ℤ) (i : ℕ) → i < n → test (f i) ≡ false → all test (numbersTo n f) ≡ false
+  one-fails zero f i b h = absurd (omega arith)
+  one-fails (suc n) f zero b h = ap (all test) (next-number n f) ∙ ap (λ (t : Bool). t && all test (numbersTo n (λ i. f (suc i)))) h
+  one-fails (suc n) f (suc i) b h =
+      ap (all test) (next-number n f)
+      ∙ ap (λ (t : Bool). test (f 0) && t) (one-fails n (λ i. f (suc i)) i (omega arith) h)
+      ∙ and-none (test (f 0))
+
+  -- numbers that pass for sure need not be looked at
+  pub first-decide : (m n : ℕ) (f : ℕ → ℤ) → m ≤ n → ((k : ℕ) → m ≤ k → test (f k) ≡ true) → all test (numbersTo m f) ≡ all test (numbersTo n f)
+  unfolding numbersTo
+  first-decide zero n f b h = sym (each-passes n f (λ k l. h k (omega arith)))
+  first-decide (suc m) zero f b h = absurd (omega arith)
+  first-decide (suc m) (suc n) f b h =
+      ap (all test) (next-number m f)
+      ∙ ap (λ (t : Bool). test (f 0) && t) (first-decide m n (λ i. f (suc i)) (omega arith) (λ k l. h (suc k) (omega arith)))
+      ∙ sym (ap (all test) (next-number n f))
 
 -- ---- the first `count` numbers
 
@@ -182,6 +237,23 @@ length-coefficients part count = length-numbersTo 180 (numberBelow 4 part count)
 pub coefficient-is : (part : List ℕ) (count k : ℕ) → k < count → count ≤ 180 → getD (coefficientsOf part count) k (pos 0) ≡ numberAt 4 part k
 unfolding coefficientsOf
 coefficient-is part count k h room = getD-numbersTo 180 (numberBelow 4 part count) k (omega arith) ∙ below-count 4 part count k h
+
+-- so those that are read are the first numbers of four bytes
+pub coefficients-are : (part : List ℕ) (count : ℕ) → count ≤ 180 → take count (coefficientsOf part count) ≡ numbersTo count (numberAt 4 part)
+coefficients-are part count room =
+    ext-getD (pos 0) first (numbersTo count f) (long ∙ sym (length-numbersTo count f)) (λ k b. is k (subst (λ (m : ℕ). k < m) long b))
+  where
+    f : ℕ → ℤ
+    f = numberAt 4 part
+
+    first : List ℤ
+    first = take count (coefficientsOf part count)
+
+    long : length first ≡ count
+    long = length-take-le count (coefficientsOf part count) (let all180 = length-coefficients part count in omega arith)
+
+    is : (k : ℕ) → k < count → getD first k (pos 0) ≡ getD (numbersTo count f) k (pos 0)
+    is k b = getD-take count (coefficientsOf part count) k (pos 0) b ∙ coefficient-is part count k b room ∙ sym (getD-numbersTo count f k b)
 
 -- ---- the numbers of a value, in the part that begins with it
 

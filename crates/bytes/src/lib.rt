@@ -9,9 +9,11 @@ ghost use Prim.Native.Nat.{ℕ, _+_, _-_, _*_, _/_, _<_, _≤_};
 ghost use lib.Dec.{ltb};
 ghost use lib.IntN.{pos, negℤ};
 ghost use lib.ListN.{length, drop, take, getD};
+ghost use Rattle.machine.specs.Kinds.{within, all};
 ghost use Rattle.bytes.specs.Numbers.{
   item,
   unsignedOf,
+  twosComplement,
   numberAt,
   numberBelow,
   numbersTo,
@@ -105,26 +107,14 @@ fn four_bytes(part: &[u8], at: usize) -> usize
     65536 * two_bytes(part, at) + two_bytes(part, at + 2)
 }
 
-// The two-byte number that the part begins with; of fewer bytes, the number that they are.
-pub fn length_of(part: &[u8]) -> usize
-    ensures value { λ r. ⌜ r ≡ unsignedOf (take 2 (now (part .entry))) ⌝ }
-    ensures below { λ r. ⌜ r < 65536 ⌝ }
+// What v stands for among the numbers below 2 half: from `half` on, for v - 2 half. Moved up by half,
+// round and down again, it needs no test.
+fn signed(v: usize, half: usize) -> i64
+    requires { ⌜ (v < 2 * half) × (half ≤ 2147483648) ⌝ }
+    ensures { λ r. ⌜ r ≡ cond (ltb (2 * v) (2 * half)) (pos v) (negℤ (pos (2 * half - v))) ⌝ }
 {
-    if part.len() < 2 {
-        return wide(byte_at(part, 0));
-    }
-    two_bytes(part, 0)
-}
-
-// What v stands for among the numbers below `full`: from the half of `full` on, for v - full.
-fn signed(v: usize, full: usize) -> i64
-    requires { ⌜ (v < full) × (full ≤ 4294967296) ⌝ }
-    ensures { λ r. ⌜ r ≡ cond (ltb (2 * v) full) (pos v) (negℤ (pos (full - v))) ⌝ }
-{
-    if 2 * v < full {
-        return v as i64;
-    }
-    -((full - v) as i64)
+    let round = (v + half) % (2 * half);
+    (round as i64) - (half as i64)
 }
 
 // Signed number k of two bytes, 0 where the part does not have them.
@@ -134,7 +124,7 @@ fn short_at(part: &[u8], k: usize) -> i64
     if part.len() / 2 <= k {
         return 0;
     }
-    signed(two_bytes(part, 2 * k), 65536)
+    signed(two_bytes(part, 2 * k), 32768)
 }
 
 // Signed number k of four bytes, which the part has.
@@ -142,7 +132,7 @@ fn long_at(part: &[u8], k: usize) -> i64
     requires { ⌜ k < length (now part) / 4 ⌝ }
     ensures { λ r. ⌜ r ≡ numberAt 4 (now (part .entry)) k ⌝ }
 {
-    signed(four_bytes(part, 4 * k), 4294967296)
+    signed(four_bytes(part, 4 * k), 2147483648)
 }
 
 // The numbers of a frame, where the part begins with field 2's value. A place whose two bytes the part
@@ -164,16 +154,6 @@ pub fn frame_numbers(part: &[u8]) -> [i64; 9]
 }
 
 // ---- coefficients
-
-// Coefficient k, where the part begins with field 3's value; 0 where the part does not have its bytes.
-pub fn coefficient_at(part: &[u8], k: usize) -> i64
-    ensures { λ r. ⌜ r ≡ numberAt 4 (now (part .entry)) k ⌝ }
-{
-    if part.len() / 4 <= k {
-        return 0;
-    }
-    long_at(part, k)
-}
 
 // How many of the first `count` coefficients the part has and `room` places can take. Every place
 // from there on is to be 0.
@@ -228,6 +208,46 @@ pub fn read_coefficients(part: &[u8], count: usize, out: &mut [i64])
     let n = number_count(part, count, out.len());
     put_numbers(&mut *out, part, n);
     put_zeros(&mut *out, n);
+}
+
+// Whether the number that v stands for among those of four bytes is from -limit to limit.
+fn is_within(v: usize, limit: usize) -> bool
+    requires { ⌜ v < 4294967296 ⌝ }
+    ensures { λ r. ⌜ r ≡ within limit (twosComplement 4 v) ⌝ }
+{
+    if v <= limit {
+        return true;
+    }
+    4294967296 - v <= limit
+}
+
+// Whether the first n coefficients, which the part has, are from -limit to limit. The first that is
+// not ends the search.
+fn first_within(part: &[u8], n: usize, limit: usize) -> bool
+    requires { ⌜ n ≤ length (now part) / 4 ⌝ }
+    ensures { λ r. ⌜ r ≡ all (within limit) (numbersTo n (numberAt 4 (now (part .entry)))) ⌝ }
+{
+    let mut i: usize = 0;
+    while i < n {
+        if !is_within(four_bytes(part, 4 * i), limit) {
+            return false;
+        }
+        i = i + 1;
+    }
+    true
+}
+
+// Whether the first `count` coefficients are from -limit to limit, where the part begins with field
+// 3's value. The length is tested once: a coefficient whose bytes the part does not have is 0, and
+// within every limit.
+pub fn coefficients_within(part: &[u8], count: usize, limit: usize) -> bool
+    ensures { λ r. ⌜ r ≡ all (within limit) (numbersTo count (numberAt 4 (now (part .entry)))) ⌝ }
+{
+    let whole = part.len() / 4;
+    if whole < count {
+        return first_within(part, whole, limit);
+    }
+    first_within(part, count, limit)
 }
 
 // ---- moves and points

@@ -1,5 +1,5 @@
 // What is refused of a record's numbers before a net is made of them: its frame (refusal 5) and its
-// coefficients (refusals 4 and 6). `frame_in`, `known_kind`, `coefficient_in` and `coefficients_in` judge
+// coefficients (refusals 4 and 6). `frame_in`, `known_kind` and `coefficients_in` judge
 // any numbers, as specs/Kinds.antt and specs/First.antt of the crate machine say. `vertex_count` and
 // `coefficient_count` say how many numbers a kind and degree have; the rest are parts of these.
 ghost use mathlib.Core.Path.{_≡_};
@@ -163,13 +163,6 @@ pub fn coefficient_count(kind: u8, degree: u8) -> usize
         return 2 * (m + 1) * (m + 2);
     }
     4
-}
-
-// Whether one coefficient is within the limit.
-pub fn coefficient_in(v: i64) -> bool
-    ensures { λ r. ⌜ r ≡ within 1048576 v ⌝ }
-{
-    is_within(v, COEFFICIENT_LIMIT)
 }
 
 // Whether the kind and degree are known and the coefficients within their limit. Where there are fewer

@@ -1,14 +1,19 @@
 -- A record as the code opens it: by the reading, the definitions are the layout's own words, and an accepted layout has been judged already.
-use Prim.Native.Nat.{ℕ, zero, suc}
+use Prim.Native.Nat.{ℕ, zero, suc, _+_, _-_, _≤_, _<_}
 use native.Mathlib.Nat.{suc-ne-zero}
-use mathlib.Core.Path.{_≡_, refl, sym, ap, ap₂, _∙_}
+use native.Mathlib.Omega.{arith}
+use mathlib.Core.Path.{_≡_, refl, sym, ap, ap₂, _∙_, subst}
 use mathlib.Core.Bool.{Bool, true, false, _&&_, cond, true≢false}
-use mathlib.Core.List.{List}
+use mathlib.Core.List.{List, _++_}
 use lib.Dec.{eqb}
-use lib.ListN.{length}
+use lib.ListN.{length, getD, take, drop, replicate, length-append, length-drop, length-replicate, List·getD-append}
+use lib.Seq.{length-take-le, getD-append-add, getD-drop}
+use native.Mathlib.Decide.{decLt}
+use Rattle.bytes.specs.Numbers.{numbersTo, numberBelow, coefficientsOf}
+use Rattle.bytes.proofs.Numbers.{length-numbersTo, getD-numbersTo, numbersTo-by, past-count}
 use borrow.Author.Tests.{eq-eqb, ne-eqb}
 use Rattle.machine.specs.Kinds.{known, further, firstOf, unless}
-use lib.IntN.{ℤ}
+use lib.IntN.{ℤ, pos}
 use Rattle.machine.specs.Comparison.{Polynomials, netOver}
 use Rattle.machine.specs.First.{coefficientsIn, netIn, firstNet, firstRefusal}
 use Rattle.machine.specs.First.{frameIn as frameAllowed}
@@ -47,6 +52,50 @@ first-whole f numbers entries out k one two is left = (
   is ∙ ap₂ (λ a b. cond (a && b) (firstRefusal f numbers) 11) (eq-eqb (length (f .coefficients)) 180 one) (eq-eqb (length entries) 180 two),
   left ∙ ap (λ j. cond (eqb j 0) (firstNet f numbers .entries) entries) (sym is),
 )
+
+-- ---- coefficients in front of zeros
+
+pub filled : (part : List ℕ) (count k : ℕ) (out ys : List ℤ) → count ≤ 180 → k ≡ count → out ≡ replicate 180 (pos 0) → ys ≡ numbersTo (length (take k (drop 0 out))) (numberBelow 4 part count)
+    → ys ++ drop k (drop 0 out) ≡ coefficientsOf part count
+unfolding coefficientsOf
+filled part count k out ys room same zeros is =
+    ap₂ (λ a b. a ++ b) (is ∙ ap₂ (λ j l. numbersTo (length (take j l)) g) same zeros ∙ ap (λ n. numbersTo n g) front) (ap₂ drop same zeros)
+    ∙ numbersTo-by whole g (λ i b. by i (decLt i count))
+    ∙ ap (λ n. numbersTo n g) long
+  where
+    g : ℕ → ℤ
+    g = numberBelow 4 part count
+
+    none : List ℤ
+    none = replicate 180 (pos 0)
+
+    front : length (take count none) ≡ count
+    front = length-take-le count none (subst (λ n. count ≤ n) (sym (length-replicate 180 (pos 0))) room)
+
+    whole : List ℤ
+    whole = numbersTo count g ++ drop count none
+
+    long : length whole ≡ 180
+    long =
+        length-append (numbersTo count g) (drop count none)
+        ∙ ap₂ _+_ (length-numbersTo count g) (length-drop count none ∙ ap (λ n. n - count) (length-replicate 180 (pos 0)))
+        ∙ omega (arith, room)
+
+    zero-at : (n i : ℕ) → getD (replicate n (pos 0)) i (pos 0) ≡ pos 0
+    zero-at zero i = refl
+    zero-at (suc n) zero = refl
+    zero-at (suc n) (suc i) = zero-at n i
+
+    by : (i : ℕ) → Dec (i < count) → getD whole i (pos 0) ≡ g i
+    by i (yes p) = List·getD-append (numbersTo count g) (drop count none) (pos 0) i (subst (λ n. i < n) (sym (length-numbersTo count g)) p) ∙ getD-numbersTo count g i p
+    by i (no p) =
+        let past : count ≤ i = omega arith in
+        let place : i ≡ length (numbersTo count g) + (i - count) = omega (arith, length-numbersTo count g) in
+        ap (λ j. getD whole j (pos 0)) place
+        ∙ getD-append-add (numbersTo count g) (drop count none) (i - count) (pos 0)
+        ∙ getD-drop count none (i - count) (pos 0)
+        ∙ zero-at 180 (count + (i - count))
+        ∙ sym (past-count 4 part count i past)
 
 -- ---- every cause has a number
 
@@ -87,6 +136,9 @@ module _ (s : List ℕ) (l : Layout) (e : readingOf s ≡ Accepted l) where
 
   sound : Sound s l
   sound = accepted-sound s l e
+
+  pub layout-known : known (l .kind) (l .degree) ≡ true
+  layout-known = sound .degree
 
   known-is : known (polynomialsIn s .kind) (polynomialsIn s .degree) ≡ true
   known-is = ap (λ f. known (f .kind) (f .degree)) polynomials-are ∙ sound .degree

@@ -1,9 +1,13 @@
 // A record opened: its first net, in places that the caller lends, or the refusal with its offset. This is
 // where demand 3 starts: specs/Demand3.antt states it from the bytes of an accepted record on.
 ghost use mathlib.Core.Path.{_≡_};
-ghost use mathlib.Core.Bool.{cond};
+ghost use Prim.Native.Nat.{_≤_};
+ghost use mathlib.Core.Bool.{true, cond};
 ghost use lib.Dec.{eqb};
-ghost use lib.ListN.{length};
+ghost use lib.IntN.{pos};
+ghost use lib.ListN.{length, replicate};
+ghost use Rattle.machine.specs.Kinds.{known};
+ghost use Rattle.bytes.specs.Numbers.{coefficientsOf};
 ghost use Rattle.machine.specs.First.{firstNet, firstRefusal};
 ghost use Rattle.records.specs.Reading.{endExtent};
 ghost use Rattle.opening.specs.Opening.{
@@ -39,10 +43,18 @@ pub struct Opened {
     pub point: Extent,
 }
 
+// Reads coefficients into places that are all 0; the reader is lent only those that it fills.
+fn read_into(part: &[u8], count: usize, out: &mut [i64])
+    requires { ⌜ (count ≤ 180) × (now out ≡ replicate 180 (pos 0)) ⌝ }
+    ensures { λ _. ⌜ now (out .exit) ≡ coefficientsOf (now (part .entry)) count ⌝ }
+{
+    read_coefficients(part, count, &mut out[0..count]);
+}
+
 // Makes the first net of a record with this layout, or tells the number of the refusal. The coefficient
 // reader gets the part of the record that begins with field 3's value.
 fn make_first(input: &[u8], layout: Layout, entries: &mut [i64]) -> u8
-    requires { ⌜ length (now entries) ≡ 180 ⌝ }
+    requires { ⌜ (length (now entries) ≡ 180) × (known (layout .kind) (layout .degree) ≡ true) ⌝ }
     ensures number { λ k. ⌜ k ≡ firstRefusal (polynomialsAt layout (now (input .entry))) (numbersAt layout (now (input .entry))) ⌝ }
     ensures entries { λ k. ⌜ now (entries .exit) ≡ cond (eqb k 0) (firstNet (polynomialsAt layout (now (input .entry))) (numbersAt layout (now (input .entry))) .entries) (now (entries .entry)) ⌝ }
 {
@@ -52,7 +64,7 @@ fn make_first(input: &[u8], layout: Layout, entries: &mut [i64]) -> u8
     let start = layout.coefficients.start;
     let count = coefficient_count(kind, degree);
     let mut coefficients = [0i64; PLACES];
-    read_coefficients(part_from(input, start), count, &mut coefficients);
+    read_into(part_from(input, start), count, &mut coefficients);
     first_net(entries, kind, degree, frame, &coefficients)
 }
 

@@ -1,7 +1,7 @@
 -- What holds of an accepted record. The steps of the reader are followed back from the end: each tag was taken or passed over, a required one was taken, and what
 -- the tests of a taken field said is kept by the steps after it.
 use mathlib.Core.Path.{_≡_, refl, sym, _∙_, ap, subst}
-use mathlib.Core.Bool.{Bool, true, false, _||_, cond}
+use mathlib.Core.Bool.{Bool, true, false, cond}
 use mathlib.Core.List.{List, [], _∷_, foldl}
 use mathlib.Core.Logic.{inl, inr}
 use Prim.Native.Nat.{ℕ, _+_, _≤_, _<_}
@@ -14,7 +14,7 @@ use Rattle.machine.specs.Kinds.{known}
 use Rattle.machine.specs.First.{frameIn, coefficientsIn}
 use Rattle.bytes.specs.Numbers.{frameNumbers}
 use Rattle.records.specs.Table.{tags, required, vertices, frameLength, coefficientsLength, pointLength, movesLengthAllowed, lengthAllowed, valuesAllowed}
-use Rattle.records.specs.Reading.{left, lengthAt, valueAt, standsAt, fieldRefusal, blank, extentAt, extentOf, sameTag, withField, bytesOf, noField, ready, taken, finished, readingOf}
+use Rattle.records.specs.Reading.{left, lengthAt, valueAt, standsAt, fieldRefusal, blank, extentAt, extentOf, sameTag, withField, bytesOf, noField, taken, finished, readingOf}
 use Rattle.records.specs.Causes.{Sound}
 use Rattle.records.specs.declared.Tag.{Tag}
 use Rattle.records.specs.declared.Tag.the-variants.{Kind, Frame, Coefficients, Moves, Point}

@@ -1,8 +1,8 @@
 -- The reader's steps in the numbers that the code has. After each tag the progress is stopped, or it is `At` with a layout that follows from the offsets of
 -- the fields so far; after the last one what is left decides.
 use mathlib.Core.Bool.{Bool, true, false, cond}
-use mathlib.Core.List.{List, [], _∷_}
-use mathlib.Core.Path.{_≡_, refl, sym, _∙_, ap}
+use mathlib.Core.List.{List}
+use mathlib.Core.Path.{_≡_, refl}
 use Prim.Native.Nat.{ℕ, _+_}
 use borrow.Author.Tests.{eq-eqb, ne-eqb}
 use Rattle.records.specs.Reading.{left, lengthAt, standsAt, noField, endExtent, extentAt, withField, taken, finished}

@@ -9,8 +9,7 @@ ghost use mathlib.Core.Path.{_≡_};
 ghost use mathlib.Core.Bool.{true, cond};
 ghost use Prim.Native.Nat.{_+_, _<_, _≤_};
 ghost use lib.ListN.{length, take};
-ghost use Rattle.machine.specs.Kinds.{known, within, all};
-ghost use Rattle.bytes.specs.Numbers.{coefficientsOf};
+ghost use Rattle.machine.specs.Kinds.{known};
 ghost use Rattle.records.specs.Table.{
   tags,
   tagNumber,
@@ -45,13 +44,11 @@ ghost use Rattle.records.specs.declared.Tag.the-variants.{Moves, Point};
 ghost use Rattle.records.specs.declared.Progress.the-variants.{At, Stopped};
 ghost use Rattle.records.specs.declared.Reading.the-variants.{Refused};
 use bytes::byte_at;
-use bytes::coefficient_at;
+use bytes::coefficients_within;
 use bytes::first_part;
 use bytes::frame_numbers;
-use bytes::length_of;
 use bytes::part_from;
 use frames::coefficient_count;
-use frames::coefficient_in;
 use frames::frame_in;
 use frames::known_kind;
 use frames::vertex_count;
@@ -103,6 +100,9 @@ enum Progress {
     Stopped(Refusal),
 }
 
+// The largest absolute value of a coefficient, 2 to the 20th.
+const COEFFICIENT_LIMIT: usize = 1048576;
+
 // ---- the table of fields
 
 fn tag_number(tag: Tag) -> u8
@@ -153,22 +153,6 @@ fn length_allowed(tag: Tag, kind: u8, degree: u8, n: usize) -> bool
     }
 }
 
-// Whether the first `count` coefficients are within their limit, where the part begins with them. The
-// first that is not ends the search.
-fn coefficients_allowed(part: &[u8], count: usize) -> bool
-    requires { ⌜ count ≤ 180 ⌝ }
-    ensures { λ r. ⌜ r ≡ all (within 1048576) (take count (coefficientsOf (now (part .entry)) count)) ⌝ }
-{
-    let mut i: usize = 0;
-    while i < count {
-        if !coefficient_in(coefficient_at(part, i)) {
-            return false;
-        }
-        i = i + 1;
-    }
-    true
-}
-
 // Whether the values of a field are within their limits, where the part begins with them and the
 // length n is the table's. Moves and the point are not judged here.
 fn values_allowed(tag: Tag, kind: u8, degree: u8, part: &[u8], n: usize) -> bool
@@ -180,8 +164,7 @@ fn values_allowed(tag: Tag, kind: u8, degree: u8, part: &[u8], n: usize) -> bool
         Tag::Kind => known_kind(byte_at(value, 0), byte_at(value, 1)),
         Tag::Frame => frame_in(kind, frame_numbers(value)),
         Tag::Coefficients => {
-            let count = coefficient_count(kind, degree);
-            coefficients_allowed(part, count)
+            coefficients_within(part, coefficient_count(kind, degree), COEFFICIENT_LIMIT)
         }
         Tag::Moves => true,
         Tag::Point => true,
@@ -219,7 +202,9 @@ fn length_at(input: &[u8], at: usize) -> usize
     ensures value { λ r. ⌜ r ≡ lengthAt (now (input .entry)) at ⌝ }
     ensures below { λ r. ⌜ r < 65536 ⌝ }
 {
-    length_of(part_from(input, at + 1))
+    let high = input[at + 1] as usize;
+    let low = input[at + 2] as usize;
+    256 * high + low
 }
 
 // Whether three bytes are left, the first of which is the tag.
@@ -257,10 +242,11 @@ fn field_refusal(tag: Tag, kind: u8, degree: u8, input: &[u8], at: usize) -> u8
     if !length_allowed(tag, kind, degree, n) {
         return 3;
     }
-    if bytes_left(input, at + 3) < n {
+    let start = at + 3;
+    if input.len() - start < n {
         return 1;
     }
-    if values_allowed(tag, kind, degree, part_from(input, at + 3), n) {
+    if values_allowed(tag, kind, degree, part_from(input, start), n) {
         return 0;
     }
     values_number(tag)

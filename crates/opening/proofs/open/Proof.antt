@@ -1,6 +1,6 @@
 -- `open` meets its contract: places of another number first, then by the reading.
 use mathlib.Core.Path.{sym, _∙_}
-use Rattle.opening.proofs.Steps.{opened-accepted, entries-accepted, opened-refused, entries-refused, opened-short, entries-short}
+use Rattle.opening.proofs.Steps.{layout-known, opened-accepted, entries-accepted, opened-refused, entries-refused, opened-short, entries-short}
 use borrow.Author.Needs.{needs}
 use Rattle.opening.proofs.open.Statement.{statement}
 use Rattle.opening.proofs.open.Tie as tie
@@ -32,7 +32,10 @@ enum-known-layout : tie.Need-enum-known-layout
 enum-known-layout c = search needs
 
 make-first-requires : tie.Need-make-first-requires
-make-first-requires c κs = search needs
+make-first-requires c κs =
+    let s = c .before .before .before .before .before .before .before in
+    let g = c .before .before .layout .given in
+    (c .before .before .before .before .before .if1 .left, layout-known (s .args .input .now) (g .0 .0) (sym (c .before .before .before .before .read .ensures .0) ∙ g .1))
 
 refusal-at-requires : tie.Need-refusal-at-requires
 refusal-at-requires c κs = search needs

@@ -49,46 +49,41 @@ returns c =
     let a = c .before .before .before .before .args in
     every (a .tag) (a .kind) (a .degree) (now (a .input)) (a .at) (sym (wrong-length (a .tag) (headOnly (a .kind) (a .degree)) (now (a .input)) (a .at) (sym (length-test (c .before)) ∙ not-true (c .before .length-allowed .result) (c .if1 .taken))))
 
-add-bytes-left : tie.Need-add-bytes-left
-add-bytes-left c = search needs
+add-start : tie.Need-add-start
+add-start c = search needs
 
-bytes-left-requires : tie.Need-bytes-left-requires
-bytes-left-requires c κs = search needs
+sub-if2 : tie.Need-sub-if2
+sub-if2 c = search needs
 
 returns-2 : tie.Need-returns-2
 returns-2 c =
-    let a = c .before .before .before .before .before .before .args in
-    let n = c .before .before .before .before .length-at .ensures .0 in
-    let e = c .before .bytes-left .ensures in
-    every (a .tag) (a .kind) (a .degree) (now (a .input)) (a .at) (sym (cut-short (a .tag) (headOnly (a .kind) (a .degree)) (now (a .input)) (a .at) (length-right (c .before .before)) (omega arith)))
-
-add-part-from : tie.Need-add-part-from
-add-part-from c = search needs
+    let a = c .before .before .before .before .before .args in
+    let n = c .before .before .before .length-at .ensures .0 in
+    every (a .tag) (a .kind) (a .degree) (now (a .input)) (a .at) (sym (cut-short (a .tag) (headOnly (a .kind) (a .degree)) (now (a .input)) (a .at) (length-right (c .before)) (omega arith)))
 
 part-from-requires : tie.Need-part-from-requires
 part-from-requires c κs = search needs
 
 values-allowed-requires : tie.Need-values-allowed-requires
 values-allowed-requires c κs =
-    let tested = c .before .before .before in
+    let tested = c .before .before in
     (tested .before .before .before .before .pre .1, sym (tested .before .length-allowed .ensures) ∙ not-false (tested .before .length-allowed .result) (tested .if1 .left))
 
 -- the test of the values, which are all there
-by-test : (c : tie.After-values-allowed) → let a = c .before .before .before .before .before .before .before .before .args in
+by-test : (c : tie.After-values-allowed) → let a = c .before .before .before .before .before .before .before .args in
     fieldRefusal (a .tag) (headOnly (a .kind) (a .degree)) (now (a .input)) (a .at) ≡ cond (c .values-allowed .result) 0 (valuesNumber (a .tag))
 unfolding valueAt
 by-test c =
-    let a = c .before .before .before .before .before .before .before .before .args in
+    let a = c .before .before .before .before .before .before .before .args in
     let tested = c .before .before in
-    let n = tested .before .before .before .before .length-at .ensures .0 in
-    let e = tested .before .bytes-left .ensures in
-    by-values (a .tag) (headOnly (a .kind) (a .degree)) (now (a .input)) (a .at) (length-right (tested .before .before)) (omega arith)
+    let n = tested .before .before .before .length-at .ensures .0 in
+    by-values (a .tag) (headOnly (a .kind) (a .degree)) (now (a .input)) (a .at) (length-right (tested .before)) (omega arith)
     ∙ ap (λ (b : Bool). cond b 0 (valuesNumber (a .tag)))
     (sym (c .values-allowed .ensures ∙ (λ i. valuesAllowed (a .tag) (a .kind) (a .degree) (take (n i) (c .before .part-from .ensures i)))))
 
 returns-3 : tie.Need-returns-3
 returns-3 c =
-    let a = c .before .before .before .before .before .before .before .before .before .args in
+    let a = c .before .before .before .before .before .before .before .before .args in
     every (a .tag) (a .kind) (a .degree) (now (a .input)) (a .at) (sym (by-test (c .before) ∙ ap (λ (b : Bool). cond b 0 (valuesNumber (a .tag))) (c .if3 .taken)))
 
 values-number-requires : tie.Need-values-number-requires
@@ -96,7 +91,7 @@ values-number-requires c κs = search needs
 
 returns-4 : tie.Need-returns-4
 returns-4 c =
-    let a = c .before .before .before .before .before .before .before .before .before .before .args in
+    let a = c .before .before .before .before .before .before .before .before .before .args in
     every (a .tag) (a .kind) (a .degree) (now (a .input)) (a .at) (c .values-number .ensures ∙ sym (by-test (c .before .before) ∙ ap (λ (b : Bool). cond b 0 (valuesNumber (a .tag))) (c .before .if3 .left)))
 
 pub field-refusal-spec : {M : Type 1} → statement M
@@ -106,10 +101,9 @@ field-refusal-spec =
     length-at-requires
     length-allowed-requires
     returns
-    add-bytes-left
-    bytes-left-requires
+    add-start
+    sub-if2
     returns-2
-    add-part-from
     part-from-requires
     values-allowed-requires
     returns-3

@@ -4,11 +4,10 @@ use mathlib.Core.List.{List, [], _∷_}
 use mathlib.Core.Path.{_≡_, refl, sym, _∙_, ap, subst}
 use Prim.Native.Nat.{ℕ, _+_, _≤_}
 use native.Mathlib.Omega.{arith}
-use lib.ListN.{length, getD}
+use lib.ListN.{length}
 use denote.Ref.{now}
 use Rattle.machine.specs.Kinds.{known}
-use Rattle.records.specs.Table.{tags}
-use Rattle.records.specs.Reading.{lengthAt, standsAt, endExtent, blank, withField, ready, taken, finished, readingOf, readingNumber, readingValues}
+use Rattle.records.specs.Reading.{lengthAt, standsAt, endExtent, blank, withField, taken, readingOf, readingNumber, readingValues}
 use Rattle.records.specs.Causes.{Told}
 use Rattle.records.specs.declared.Layout.{Layout}
 use Rattle.records.specs.declared.Tag.the-variants.{Kind, Frame, Coefficients, Moves, Point}

@@ -3,12 +3,12 @@ use mathlib.Core.List.{[], _∷_}
 use mathlib.Core.Path.{_≡_, refl, sym, _∙_, ap}
 use Prim.Native.Nat.{ℕ, _+_}
 use denote.Ref.{now}
-use Rattle.records.specs.Reading.{left, lengthAt, noField, endExtent, taken, finished}
+use Rattle.records.specs.Reading.{left, lengthAt, endExtent, taken, finished}
 use Rattle.records.specs.declared.Tag.the-variants.{Moves, Point}
 use Rattle.records.specs.declared.Progress.the-variants.{At}
 use Rattle.records.specs.declared.Reading.the-variants.{Accepted, Refused}
 use Rattle.records.proofs.Causes.{onward, stays}
-use Rattle.records.proofs.Steps.{laid, extentIf, onFrom, past-moves, past-point, none-left, some-left}
+use Rattle.records.proofs.Steps.{laid, extentIf, past-moves, past-point, none-left, some-left}
 use borrow.Author.Needs.{needs}
 use Rattle.records.proofs.read_on.Statement.{statement}
 use Rattle.records.proofs.read_on.Tie as tie

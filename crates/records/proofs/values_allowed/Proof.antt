@@ -2,6 +2,7 @@
 -- the value, since its length is the table's.
 use mathlib.Core.Bool.{true}
 use mathlib.Core.Path.{_≡_, refl, sym, _∙_, ap, subst}
+use Prim.Native.Nat.{_≤_}
 use native.Mathlib.Omega.{arith}
 use borrow.Author.Tests.{eqb-true}
 use lib.ListN.{getD, take}
@@ -9,6 +10,7 @@ use denote.Ref.{now}
 use Rattle.machine.specs.Kinds.{known, within, all}
 use Rattle.machine.specs.First.{frameIn, coefficientsIn}
 use Rattle.bytes.specs.Numbers.{frameNumbers, coefficientsOf}
+use Rattle.bytes.proofs.Numbers.{coefficients-are}
 use Rattle.frames.proofs.Counts.{coefficients-room}
 use Rattle.records.specs.Table.{vertices, coefficientsLength, lengthAllowed, valuesAllowed}
 use Rattle.records.specs.Reading.{headed}
@@ -53,8 +55,12 @@ headed-known c =
     let start = c .before .before .before .before .before in
     subst (λ t. headed t (start .args .kind) (start .args .degree) ≡ true) (c .before .enum-told3 .given .1) (start .pre .0)
 
-coefficients-allowed-requires : tie.Need-coefficients-allowed-requires
-coefficients-allowed-requires c κs =
+coefficients-within-requires : tie.Need-coefficients-within-requires
+coefficients-within-requires c κs = search needs
+
+-- so there are places for the coefficients
+enough : (c : tie.After-coefficient-count) → c .coefficient-count .result ≤ 180
+enough c =
     let a = c .before .before .before .before .before .args in
     omega (arith, coefficients-room (a .kind) (a .degree) (headed-known c), c .coefficient-count .ensures)
 
@@ -91,7 +97,8 @@ returns-3 c =
     let is = c .before .before .enum-told3 .given .1 in
     let long = eqb-true (a .n) (coefficientsLength (a .kind) (a .degree)) (subst (λ t. lengthAllowed t (a .kind) (a .degree) (a .n) ≡ true) is (start .pre .1)) in
     rw is
-    (c .coefficients-allowed .ensures
+    (c .coefficients-within .ensures
+    ∙ ap (all (within 1048576)) (sym (coefficients-are (now (a .part)) (c .before .coefficient-count .result) (enough (c .before))))
     ∙ ap (λ n. all (within 1048576) (take n (coefficientsOf (now (a .part)) n))) (c .before .coefficient-count .ensures)
     ∙ ap coefficientsIn (sym (same-polynomials (a .kind) (a .degree) (a .n) (now (a .part)) long)))
 
@@ -117,7 +124,7 @@ values-allowed-spec =
     frame-in-requires
     enum-told-3
     coefficient-count-requires
-    coefficients-allowed-requires
+    coefficients-within-requires
     enum-told-4
     enum-told-5
     returns
