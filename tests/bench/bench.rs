@@ -3,6 +3,7 @@
 mod plain;
 mod records;
 
+use plain::NET;
 use records::record;
 use std::fs::File;
 use std::hint::black_box;
@@ -68,20 +69,19 @@ fn main() {
     for (kind, degree) in [(1u8, 1u8), (1, 3), (1, 10), (2, 1), (2, 3), (2, 8)] {
         let word = if kind == 1 { "curve" } else { "patch" };
         let s = record(kind, degree);
-        let mut lent = [0i64; 182];
+        let (mut lent, mut net) = ([0i64; NET], [0i64; NET]);
         let mut offset = 0u64;
-        let mut net = plain::Net { kind: 0, degree: 0, entries: [0; plain::PLACES] };
         let mut layout = plain::Layout::default();
         unsafe {
-            assert_eq!(gadwemosh_open(s.as_ptr(), s.len(), lent.as_mut_ptr(), 182, &mut offset), 0);
+            assert_eq!(gadwemosh_open(s.as_ptr(), s.len(), lent.as_mut_ptr(), NET, &mut offset), 0);
         }
         assert_eq!(plain::open(&s, &mut net, &mut layout), (0, 0));
-        assert_eq!(lent[2..], net.entries[..]);
+        assert_eq!(lent, net);
         row(
             &format!("open {word} {degree}"),
             both(
                 || unsafe {
-                    black_box(gadwemosh_open(black_box(s.as_ptr()), s.len(), lent.as_mut_ptr(), 182, &mut offset));
+                    black_box(gadwemosh_open(black_box(s.as_ptr()), s.len(), lent.as_mut_ptr(), NET, &mut offset));
                 },
                 || {
                     black_box(plain::open(black_box(&s), &mut net, &mut layout));
@@ -103,7 +103,7 @@ fn main() {
                         coefficients.as_ptr(),
                         180,
                         lent.as_mut_ptr(),
-                        182,
+                        NET,
                     ));
                 },
                 || {
@@ -111,7 +111,7 @@ fn main() {
                 },
             ),
         );
-        assert_eq!(lent[2..], made.entries[..]);
+        assert_eq!(lent, made);
         let (mut a, mut b) = (lent, net);
         for vertex in 1..=kind + 1 {
             let mut w = [0; 3];
@@ -120,14 +120,14 @@ fn main() {
                 &format!("replace {word} {degree} vertex {vertex}"),
                 both(
                     || unsafe {
-                        black_box(gadwemosh_move(black_box(a.as_mut_ptr()), 182, 1, vertex, w[0], w[1], w[2]));
+                        black_box(gadwemosh_move(black_box(a.as_mut_ptr()), NET, 1, vertex, w[0], w[1], w[2]));
                     },
                     || {
                         black_box(plain::replace(black_box(&mut b), vertex, black_box(w)));
                     },
                 ),
             );
-            assert_eq!(a[2..], b.entries[..]);
+            assert_eq!(a, b);
         }
         let t = if kind == 1 { 0 } else { 1 };
         let (mut f, mut g) = ([0i64; 4], [0i64; 4]);
@@ -135,7 +135,7 @@ fn main() {
             &format!("point {word} {degree}"),
             both(
                 || unsafe {
-                    black_box(gadwemosh_point(black_box(lent.as_ptr()), 182, 1, 1, t, f.as_mut_ptr(), 4));
+                    black_box(gadwemosh_point(black_box(lent.as_ptr()), NET, 1, 1, t, f.as_mut_ptr(), 4));
                 },
                 || {
                     black_box(plain::point(black_box(&net), black_box([1, 1, t]), &mut g));

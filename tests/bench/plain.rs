@@ -1,16 +1,14 @@
 //! The same work in plain Rust, by the same steps: a reader, first nets, replace, flip and point by blends
-//! of 64-bit numbers with the same limits, the same tests and the same rooms, and the text. It is the
-//! yardstick of the benchmark, not a reference: nothing here is proved.
+//! of 64-bit numbers with the same limits, the same tests and the same rooms, and the text. Nets stand in
+//! lent places, laid out as `include/gadwemosh.h` says. It is the yardstick of the benchmark, not a
+//! reference: nothing here is proved.
 
 pub const LIMIT: i64 = 1 << 48;
-pub const PLACES: usize = 180;
 
-#[derive(Clone, Copy)]
-pub struct Net {
-    pub kind: u8,
-    pub degree: u8,
-    pub entries: [i64; PLACES],
-}
+/// How many places a net has at least, and which of them its entries have at most.
+pub const NET: usize = 193;
+const ENTRIES: std::ops::Range<usize> = 12..192;
+pub const PLACES: usize = 180;
 
 const CURVE_SCALES: [i64; 10] = [1, 2, 3, 12, 10, 60, 105, 280, 252, 2520];
 const PATCH_SCALES: [i64; 8] = [1, 2, 6, 12, 60, 180, 420, 1680];
@@ -25,8 +23,28 @@ pub fn count(kind: u8, m: usize) -> usize {
     if kind == 1 { m + 1 } else { (m + 1) * (m + 2) / 2 }
 }
 
-pub fn known(kind: u8, degree: u8) -> bool {
-    degree >= 1 && ((kind == 1 && degree <= 10) || (kind == 2 && degree <= 8))
+pub fn known(kind: u8, degree: u8, second: u8) -> bool {
+    second == 0 && degree >= 1 && ((kind == 1 && degree <= 10) || (kind == 2 && degree <= 8))
+}
+
+/// A place of the head; what is no byte counts as 255, which is no kind and no degree.
+fn byte(v: i64) -> u8 {
+    u8::try_from(v).unwrap_or(255)
+}
+
+fn entries(net: &[i64]) -> &[i64; PLACES] {
+    net[ENTRIES].try_into().unwrap()
+}
+
+fn entries_mut(net: &mut [i64]) -> &mut [i64; PLACES] {
+    (&mut net[ENTRIES]).try_into().unwrap()
+}
+
+/// Puts a net into lent places; those that it does not use stay.
+fn put(net: &mut [i64], kind: u8, degree: u8, made: &[i64; PLACES]) {
+    net[..3].copy_from_slice(&[kind as i64, degree as i64, 0]);
+    let n = 4 * count(kind, degree as usize);
+    entries_mut(net)[..n].copy_from_slice(&made[..n]);
 }
 
 fn in_range(v: i64) -> bool {
@@ -72,15 +90,20 @@ fn all_in_range(xs: &[i64; PLACES], n: usize) -> bool {
     xs[..n].iter().all(|&v| in_range(v))
 }
 
-/// The refusal of a handed net, or 0.
-fn handed(net: &Net) -> u8 {
-    if !known(net.kind, net.degree) {
-        return 4;
+/// Kind and degree of a handed net, or its refusal.
+fn handed(net: &[i64]) -> Result<(u8, usize), u8> {
+    if net.len() < NET {
+        return Err(11);
     }
-    if !all_in_range(&net.entries, 4 * count(net.kind, net.degree as usize)) {
-        return 10;
+    let (kind, degree) = (byte(net[0]), byte(net[1]));
+    if !known(kind, degree, byte(net[2])) {
+        return Err(4);
     }
-    0
+    let m = degree as usize;
+    if !all_in_range(entries(net), 4 * count(kind, m)) {
+        return Err(10);
+    }
+    Ok((kind, m))
 }
 
 fn weights_in(kind: u8, w: [i64; 3]) -> bool {
@@ -115,47 +138,45 @@ fn rename(out: &mut [i64; PLACES], xs: &[i64; PLACES], kind: u8, m: usize, v: us
 
 /// A replace: the number of the refusal, and the net is changed only where it is 0. The vertex comes
 /// first in a room of its own, where the blends in place leave the new net.
-pub fn replace(net: &mut Net, vertex: u8, w: [i64; 3]) -> u8 {
-    let number = handed(net);
-    if number != 0 {
-        return number;
-    }
-    let vertices = net.kind + 1;
-    if vertex < 1 || vertex > vertices || !weights_in(net.kind, w) {
+pub fn replace(net: &mut [i64], vertex: u8, w: [i64; 3]) -> u8 {
+    let (kind, m) = match handed(net) {
+        Ok(shape) => shape,
+        Err(number) => return number,
+    };
+    if vertex < 1 || vertex > kind + 1 || !weights_in(kind, w) {
         return 8;
     }
     let v = vertex as usize - 1;
     if w[v] == 0 {
         return 9;
     }
-    let m = net.degree as usize;
     let mut room = [0; PLACES];
-    rename(&mut room, &net.entries, net.kind, m, v);
+    rename(&mut room, entries(net), kind, m, v);
     let mut first = w;
     first.swap(0, v);
-    if !descend(&mut room, net.kind, m, first) {
+    if !descend(&mut room, kind, m, first) {
         return 10;
     }
-    rename(&mut net.entries, &room, net.kind, m, v);
+    rename(entries_mut(net), &room, kind, m, v);
     0
 }
 
 /// A flip.
-pub fn flip(net: &mut Net, vertex: u8) -> u8 {
-    let number = handed(net);
-    if number != 0 {
-        return number;
-    }
-    if vertex < 1 || vertex > net.kind + 1 {
+pub fn flip(net: &mut [i64], vertex: u8) -> u8 {
+    let (kind, m) = match handed(net) {
+        Ok(shape) => shape,
+        Err(number) => return number,
+    };
+    if vertex < 1 || vertex > kind + 1 {
         return 8;
     }
-    let m = net.degree as usize;
+    let entries = entries_mut(net);
     let v = vertex - 1;
-    if net.kind == 1 {
+    if kind == 1 {
         for j in 0..=m {
             let c = if v == 0 { m - j } else { j };
             if c % 2 == 1 {
-                for x in &mut net.entries[4 * j..4 * j + 4] {
+                for x in &mut entries[4 * j..4 * j + 4] {
                     *x = -*x;
                 }
             }
@@ -171,7 +192,7 @@ pub fn flip(net: &mut Net, vertex: u8) -> u8 {
                 _ => k,
             };
             if c % 2 == 1 {
-                for x in &mut net.entries[4 * p..4 * p + 4] {
+                for x in &mut entries[4 * p..4 * p + 4] {
                     *x = -*x;
                 }
             }
@@ -182,31 +203,33 @@ pub fn flip(net: &mut Net, vertex: u8) -> u8 {
 }
 
 /// A point.
-pub fn point(net: &Net, w: [i64; 3], found: &mut [i64; 4]) -> u8 {
-    let number = handed(net);
-    if number != 0 {
-        return number;
+pub fn point(net: &[i64], w: [i64; 3], found: &mut [i64]) -> u8 {
+    if found.len() < 4 {
+        return 11;
     }
-    if !weights_in(net.kind, w) {
+    let (kind, m) = match handed(net) {
+        Ok(shape) => shape,
+        Err(number) => return number,
+    };
+    if !weights_in(kind, w) {
         return 8;
     }
     if w == [0, 0, 0] {
         return 9;
     }
-    let m = net.degree as usize;
-    let n = 4 * count(net.kind, m);
+    let n = 4 * count(kind, m);
     let mut room = [0; PLACES];
-    room[..n].copy_from_slice(&net.entries[..n]);
-    if !descend(&mut room, net.kind, m, w) {
+    room[..n].copy_from_slice(&entries(net)[..n]);
+    if !descend(&mut room, kind, m, w) {
         return 10;
     }
-    found.copy_from_slice(&room[..4]);
+    found[..4].copy_from_slice(&room[..4]);
     0
 }
 
 /// The first net of judged polynomials over a judged frame: scaled coefficients, then blends with the
 /// frame's vertices, the last row first, each shared by all entries that have its points.
-pub fn first(kind: u8, degree: u8, frame: &[i64; 9], coefficients: &[i64; PLACES]) -> (u8, Net) {
+fn first(kind: u8, degree: u8, frame: &[i64; 9], coefficients: &[i64; PLACES], net: &mut [i64]) -> u8 {
     let m = degree as usize;
     let mut base = [0i64; PLACES];
     let all = scale(kind, m);
@@ -223,7 +246,7 @@ pub fn first(kind: u8, degree: u8, frame: &[i64; 9], coefficients: &[i64; PLACES
             p += 1;
         }
     }
-    let mut net = Net { kind, degree, entries: [0; PLACES] };
+    let mut made = [0; PLACES];
     let d = kind as usize + 1;
     let weights = |v: usize| {
         let row = &frame[d * v..d * v + d];
@@ -242,7 +265,7 @@ pub fn first(kind: u8, degree: u8, frame: &[i64; 9], coefficients: &[i64; PLACES
                 blend(&mut one, kind, left, weights(1));
             }
             let p = if kind == 1 { n } else { place(n, k) };
-            net.entries[4 * p..4 * p + 4].copy_from_slice(&one[..4]);
+            made[4 * p..4 * p + 4].copy_from_slice(&one[..4]);
             if k < last {
                 blend(&mut row, kind, n - k, weights(2));
             }
@@ -251,29 +274,31 @@ pub fn first(kind: u8, degree: u8, frame: &[i64; 9], coefficients: &[i64; PLACES
             blend(&mut base, kind, n, weights(0));
         }
     }
-    if !all_in_range(&net.entries, 4 * count(kind, m)) {
-        return (7, net);
+    if !all_in_range(&made, 4 * count(kind, m)) {
+        return 7;
     }
-    (0, net)
+    put(net, kind, degree, &made);
+    0
 }
 
 /// The same with its judgements, for polynomials that come from elsewhere.
-pub fn first_of(kind: u8, degree: u8, frame: &[i64; 9], coefficients: &[i64; PLACES], net: &mut Net) -> u8 {
-    if !known(kind, degree) {
+pub fn first_of(kind: u8, degree: u8, frame: &[i64], coefficients: &[i64], net: &mut [i64]) -> u8 {
+    if frame.len() < 9 || coefficients.len() < PLACES || net.len() < NET {
+        return 11;
+    }
+    let frame = frame[..9].try_into().unwrap();
+    let coefficients: &[i64; PLACES] = coefficients[..PLACES].try_into().unwrap();
+    if !known(kind, degree, 0) {
         return 4;
     }
     let d = kind as usize + 1;
-    if frame[..d * d].iter().any(|v| v.abs() > 4) || determinant(d, frame) == 0 {
+    if frame_outside(d, frame) {
         return 5;
     }
-    if coefficients[..4 * count(kind, degree as usize)].iter().any(|v| v.abs() > 1 << 20) {
+    if coefficients[..4 * count(kind, degree as usize)].iter().any(|v| v.unsigned_abs() > 1 << 20) {
         return 6;
     }
-    let (number, made) = first(kind, degree, frame, coefficients);
-    if number == 0 {
-        *net = made;
-    }
-    number
+    first(kind, degree, frame, coefficients, net)
 }
 
 // ---- records
@@ -299,6 +324,11 @@ fn determinant(d: usize, f: &[i64; 9]) -> i64 {
         return f[0] * f[3] - f[1] * f[2];
     }
     f[0] * (f[4] * f[8] - f[5] * f[7]) - f[1] * (f[3] * f[8] - f[5] * f[6]) + f[2] * (f[3] * f[7] - f[4] * f[6])
+}
+
+/// Whether a number is outside, or the determinant is 0.
+fn frame_outside(d: usize, frame: &[i64; 9]) -> bool {
+    frame[..d * d].iter().any(|v| v.unsigned_abs() > 4) || determinant(d, frame) == 0
 }
 
 /// Reads a record: the refusal's number and offset, or 0 and the layout with frame and coefficients.
@@ -333,7 +363,7 @@ pub fn read(s: &[u8], frame: &mut [i64; 9], coefficients: &mut [i64; PLACES]) ->
         let value = &s[at + 3..at + 3 + n];
         match tag {
             1 => {
-                if !known(value[0], value[1]) {
+                if !known(value[0], value[1], 0) {
                     return (4, at, l);
                 }
                 l.kind = value[0];
@@ -343,7 +373,7 @@ pub fn read(s: &[u8], frame: &mut [i64; 9], coefficients: &mut [i64; PLACES]) ->
                 for (k, b) in value.chunks_exact(2).enumerate() {
                     frame[k] = be16(b);
                 }
-                if frame[..d * d].iter().any(|v| v.abs() > 4) || determinant(d, frame) == 0 {
+                if frame_outside(d, frame) {
                     return (5, at, l);
                 }
             }
@@ -369,18 +399,20 @@ pub fn read(s: &[u8], frame: &mut [i64; 9], coefficients: &mut [i64; PLACES]) ->
 }
 
 /// Reads a record into its first net.
-pub fn open(s: &[u8], net: &mut Net, layout: &mut Layout) -> (u8, usize) {
+pub fn open(s: &[u8], net: &mut [i64], layout: &mut Layout) -> (u8, usize) {
+    if net.len() < NET {
+        return (11, 0);
+    }
     let mut frame = [0; 9];
     let mut coefficients = [0; PLACES];
     let (number, offset, l) = read(s, &mut frame, &mut coefficients);
     if number != 0 {
         return (number, offset);
     }
-    let (number, made) = first(l.kind, l.degree, &frame, &coefficients);
+    let number = first(l.kind, l.degree, &frame, &coefficients, net);
     if number != 0 {
         return (number, l.fields[2].0 - 3);
     }
-    *net = made;
     *layout = l;
     (0, 0)
 }
@@ -455,7 +487,7 @@ pub fn text(s: &[u8], lent: &mut [u8]) -> Option<usize> {
 
 fn make(s: &[u8], bytes: &mut [u8]) -> usize {
     let mut out = Out { bytes, at: 0 };
-    let mut net = Net { kind: 0, degree: 0, entries: [0; PLACES] };
+    let mut net = [0; NET];
     let mut l = Layout::default();
     let (number, offset) = open(s, &mut net, &mut l);
     if number != 0 {
@@ -470,11 +502,12 @@ fn make(s: &[u8], bytes: &mut [u8]) -> usize {
     out.at
 }
 
-fn accepted(s: &[u8], out: &mut Out, net: &mut Net, l: &Layout) {
-    out.word(if net.kind == 1 { b"curve " } else { b"patch " });
-    out.decimal(net.degree as u64);
+fn accepted(s: &[u8], out: &mut Out, net: &mut [i64; NET], l: &Layout) {
+    let (kind, m) = (l.kind, l.degree as usize);
+    out.word(if kind == 1 { b"curve " } else { b"patch " });
+    out.decimal(m as u64);
     out.word(b" ");
-    out.decimal(scale(net.kind, net.degree as usize) as u64);
+    out.decimal(scale(kind, m) as u64);
     out.word(b"\n");
     let moves = &s[l.fields[3].0..l.fields[3].0 + l.fields[3].1];
     for (k, b) in moves.chunks_exact(8).enumerate() {
@@ -492,11 +525,11 @@ fn accepted(s: &[u8], out: &mut Out, net: &mut Net, l: &Layout) {
             out.word(b"\n");
         }
     }
-    let m = net.degree as usize;
+    let entries = entries(net);
     let mut p = 0;
     for n in 0..=m {
-        for k in 0..=(if net.kind == 1 { 0 } else { n }) {
-            if net.kind == 1 {
+        for k in 0..=(if kind == 1 { 0 } else { n }) {
+            if kind == 1 {
                 out.decimal(n as u64);
             } else {
                 out.decimal((m - n) as u64);
@@ -507,7 +540,7 @@ fn accepted(s: &[u8], out: &mut Out, net: &mut Net, l: &Layout) {
             }
             for c in 0..4 {
                 out.word(b" ");
-                out.signed(net.entries[4 * p + c]);
+                out.signed(entries[4 * p + c]);
             }
             out.word(b"\n");
             p += 1;
@@ -515,7 +548,7 @@ fn accepted(s: &[u8], out: &mut Out, net: &mut Net, l: &Layout) {
     }
     if l.fields[4].1 != 0 {
         let b = &s[l.fields[4].0..];
-        let w = [be16(b), be16(&b[2..]), if net.kind == 2 { be16(&b[4..]) } else { 0 }];
+        let w = [be16(b), be16(&b[2..]), if kind == 2 { be16(&b[4..]) } else { 0 }];
         let mut f = [0; 4];
         let number = point(net, w, &mut f);
         if number != 0 {

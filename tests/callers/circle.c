@@ -8,18 +8,23 @@
 
 enum { R = 1, S = 2 };
 
+/* The four numbers of entry j of a curve. */
+static const int64_t *entry(const int64_t *net, int64_t j) {
+    return net + GADWEMOSH_ENTRIES + 4 * j;
+}
+
 static void print_net(const char *name, const int64_t *net) {
     printf("%s\n", name);
     for (int64_t j = 0; j <= net[1]; j++) {
-        const int64_t *e = net + 2 + 4 * j;
+        const int64_t *e = entry(net, j);
         printf("%" PRId64 " %" PRId64 " %" PRId64 " %" PRId64 "\n", e[0], e[1], e[2], e[3]);
     }
 }
 
 /* A copy of the net with one vertex replaced by the point at (1, 1). */
 static int half(const int64_t *net, uint8_t vertex, int64_t *copy) {
-    memcpy(copy, net, GADWEMOSH_PLACES * sizeof *net);
-    uint8_t refused = gadwemosh_move(copy, GADWEMOSH_PLACES, GADWEMOSH_REPLACE, vertex, 1, 1, 0);
+    memcpy(copy, net, GADWEMOSH_NET * sizeof *net);
+    uint8_t refused = gadwemosh_move(copy, GADWEMOSH_NET, GADWEMOSH_REPLACE, vertex, 1, 1, 0);
     if (refused != 0)
         fprintf(stderr, "move refused: %u\n", refused);
     return refused == 0;
@@ -28,14 +33,14 @@ static int half(const int64_t *net, uint8_t vertex, int64_t *copy) {
 int main(void) {
     uint8_t record[2048];
     size_t length = fread(record, 1, sizeof record, stdin);
-    int64_t net[GADWEMOSH_PLACES], first[GADWEMOSH_PLACES], second[GADWEMOSH_PLACES];
+    int64_t net[GADWEMOSH_NET] = {0}, first[GADWEMOSH_NET], second[GADWEMOSH_NET];
     uint64_t offset;
-    uint8_t refused = gadwemosh_open(record, length, net, GADWEMOSH_PLACES, &offset);
+    uint8_t refused = gadwemosh_open(record, length, net, GADWEMOSH_NET, &offset);
     if (refused != 0) {
         fprintf(stderr, "refused %u at %" PRIu64 "\n", refused, offset);
         return 1;
     }
-    if (net[0] != 1) {
+    if (net[0] != GADWEMOSH_CURVE) {
         fprintf(stderr, "not a curve\n");
         return 1;
     }
@@ -43,8 +48,7 @@ int main(void) {
         return 1;
     print_net("first half", first);
     print_net("second half", second);
-    const int64_t *end = first + 2 + 4 * first[1];
-    if (memcmp(end, second + 2, 4 * sizeof *end) != 0) {
+    if (memcmp(entry(first, first[1]), entry(second, 0), 4 * sizeof *first) != 0) {
         printf("the halves do not meet\n");
         return 1;
     }

@@ -1,5 +1,5 @@
-/* Calls each function at the edges of what it takes: short buffers, refused calls, places that must
- * stay. Prints how many answers were right, and each wrong one. */
+/* Calls each function at the edges of what it takes: short and long buffers, refused calls, places that
+ * must stay. Prints how many answers were right, and each wrong one. */
 #include "gadwemosh.h"
 
 #include <stdio.h>
@@ -17,18 +17,39 @@ static void expect(int line, int ok) {
 }
 #define EXPECT(ok) expect(__LINE__, (ok))
 
-enum { MORE = GADWEMOSH_PLACES + 2 };
+/* A run with two places more than a net has. */
+enum { MORE = GADWEMOSH_NET + 2 };
 
 static uint8_t record[2048];
 static size_t length;
 
+/* The circle of the record, and the triangle of document 01's sample B8. */
+static const int64_t circle_frame[9] = {0, 1, 1, 1};
+static const int64_t circle[180] = {1, 0, 0, 1, 0, 2, 0, 0, -1, 0, 0, 1};
+static const int64_t circle_net[12] = {2, 0, 0, 2, 2, 2, 0, 2, 0, 4, 0, 4};
+static const int64_t patch_frame[9] = {1, 0, 1, 0, 1, 1, 0, 0, 1};
+static const int64_t patch[180] = {0, 0, 0, 1, 0, 1, 0, 0, 0, 0, 0, 0, 1, 0, 0, 0, 0, 0, 1, 0};
+static const int64_t patch_net[24] = {2, 0, 0, 2, 1, 1, 1, 2, 1, 0, 0, 2, 0, 2, 0, 2, 0, 1, 0, 2, 0, 0, 0, 2};
+
+/* A run in which no two places hold the same; every number is out of range as an entry. */
 static void fill(int64_t *net) {
     for (int i = 0; i < MORE; i++)
-        net[i] = -7 - i;
+        net[i] = INT64_MIN + i;
 }
 
 static int same(const int64_t *a, const int64_t *b) {
     return memcmp(a, b, MORE * sizeof *a) == 0;
+}
+
+/* The net of the numbers stands in the places, and every place that is not in use holds what it held. */
+static int holds(const int64_t *net, const int64_t *old, int kind, int degree, const int64_t *entries, int count) {
+    int64_t wanted[MORE];
+    memcpy(wanted, old, sizeof wanted);
+    wanted[0] = kind;
+    wanted[1] = degree;
+    wanted[2] = 0;
+    memcpy(wanted + GADWEMOSH_ENTRIES, entries, (size_t)count * sizeof *entries);
+    return same(net, wanted);
 }
 
 static void test_open(void) {
@@ -36,7 +57,9 @@ static void test_open(void) {
     uint64_t offset = 5;
     fill(net);
     fill(old);
-    EXPECT(gadwemosh_open(record, length, net, GADWEMOSH_PLACES - 1, &offset) == 11);
+    EXPECT(gadwemosh_open(record, length, net, GADWEMOSH_NET - 1, &offset) == 11);
+    EXPECT(offset == 0 && same(net, old));
+    EXPECT(gadwemosh_open(record, length, net, 0, &offset) == 11);
     EXPECT(offset == 0 && same(net, old));
     EXPECT(gadwemosh_open(record, 0, net, MORE, &offset) == 2);
     EXPECT(offset == 0 && same(net, old));
@@ -44,71 +67,135 @@ static void test_open(void) {
     EXPECT(gadwemosh_open(record, 30, net, MORE, &offset) == 1);
     EXPECT(offset == 16 && same(net, old));
     EXPECT(gadwemosh_open(record, length, net, MORE, &offset) == 0);
-    EXPECT(offset == 0 && net[0] == 1 && net[1] == 2 && net[2] == 2 && net[13] == 4);
-    EXPECT(net[14] == 0 && net[181] == 0 && net[182] == old[182] && net[183] == old[183]);
+    EXPECT(offset == 0 && holds(net, old, 1, 2, circle_net, 12));
+    fill(net);
+    EXPECT(gadwemosh_open(record, length, net, GADWEMOSH_NET, &offset) == 0);
+    EXPECT(offset == 0 && holds(net, old, 1, 2, circle_net, 12));
 }
 
 static void test_first(void) {
-    const int64_t frame[9] = {0, 1, 1, 1};
-    const int64_t line[9] = {1, 1, 1, 1};
-    int64_t coefficients[180] = {1, 0, 0, 1, 0, 2, 0, 0, -1, 0, 0, 1};
-    int64_t net[MORE], old[MORE], opened[MORE];
-    uint64_t offset;
+    const int64_t line[9] = {1, 1, 1, 1}, far[9] = {4, 3, 4, 4};
+    int64_t frame[9], coefficients[182], net[MORE], old[MORE];
     fill(net);
     fill(old);
-    fill(opened);
-    EXPECT(gadwemosh_first(1, 2, frame, 8, coefficients, 180, net, MORE) == 11 && same(net, old));
-    EXPECT(gadwemosh_first(1, 2, frame, 9, coefficients, 179, net, MORE) == 11 && same(net, old));
-    EXPECT(gadwemosh_first(1, 2, frame, 9, coefficients, 180, net, 181) == 11 && same(net, old));
-    EXPECT(gadwemosh_first(3, 2, frame, 9, coefficients, 180, net, MORE) == 4 && same(net, old));
-    EXPECT(gadwemosh_first(1, 2, line, 9, coefficients, 180, net, MORE) == 5 && same(net, old));
+    EXPECT(gadwemosh_first(1, 2, circle_frame, 8, circle, 180, net, MORE) == 11 && same(net, old));
+    EXPECT(gadwemosh_first(1, 2, circle_frame, 9, circle, 179, net, MORE) == 11 && same(net, old));
+    EXPECT(gadwemosh_first(1, 2, circle_frame, 9, circle, 180, net, 192) == 11 && same(net, old));
+    /* a short run comes before what is refused of the polynomials */
+    EXPECT(gadwemosh_first(3, 2, line, 9, circle, 180, net, 192) == 11 && same(net, old));
+    EXPECT(gadwemosh_first(3, 2, line, 9, circle, 180, net, MORE) == 4 && same(net, old));
+    EXPECT(gadwemosh_first(1, 11, circle_frame, 9, circle, 180, net, MORE) == 4 && same(net, old));
+    EXPECT(gadwemosh_first(2, 9, patch_frame, 9, patch, 180, net, MORE) == 4 && same(net, old));
+    EXPECT(gadwemosh_first(1, 2, line, 9, circle, 180, net, MORE) == 5 && same(net, old));
+    memcpy(coefficients, circle, sizeof circle);
     coefficients[11] = 1048577;
-    EXPECT(gadwemosh_first(1, 2, frame, 9, coefficients, 180, net, MORE) == 6 && same(net, old));
-    coefficients[11] = 1;
-    gadwemosh_open(record, length, opened, MORE, &offset);
-    EXPECT(gadwemosh_first(1, 2, frame, 9, coefficients, 180, net, MORE) == 0 && same(net, opened));
+    EXPECT(gadwemosh_first(1, 2, circle_frame, 9, coefficients, 180, net, MORE) == 6 && same(net, old));
+    for (int i = 0; i < 182; i++)
+        coefficients[i] = 1048576;
+    EXPECT(gadwemosh_first(1, 10, far, 9, coefficients, 180, net, MORE) == 7 && same(net, old));
+    EXPECT(gadwemosh_first(1, 2, circle_frame, 9, circle, 180, net, MORE) == 0);
+    EXPECT(holds(net, old, 1, 2, circle_net, 12));
+    fill(net);
+    EXPECT(gadwemosh_first(2, 2, patch_frame, 9, patch, 180, net, GADWEMOSH_NET) == 0);
+    EXPECT(holds(net, old, 2, 2, patch_net, 24));
+    /* of frame and coefficients only what the kind and degree take is looked at, and more is taken */
+    for (int i = 0; i < 9; i++)
+        frame[i] = i < 4 ? circle_frame[i] : INT64_MAX - i;
+    for (int i = 0; i < 182; i++)
+        coefficients[i] = i < 12 ? circle[i] : INT64_MIN + i;
+    fill(net);
+    EXPECT(gadwemosh_first(1, 2, frame, 9, coefficients, 182, net, MORE) == 0);
+    EXPECT(holds(net, old, 1, 2, circle_net, 12));
+}
+
+/* What stands in one place of the head makes a move and a point of a net refused 4. */
+static void test_head(const int64_t *good, int place, int64_t number) {
+    int64_t net[MORE], old[MORE], found[4] = {-1, -2, -3, -4};
+    memcpy(net, good, sizeof net);
+    net[place] = number;
+    memcpy(old, net, sizeof net);
+    EXPECT(gadwemosh_move(net, MORE, GADWEMOSH_FLIP, 1, 0, 0, 0) == 4 && same(net, old));
+    EXPECT(gadwemosh_move(net, MORE, 3, 9, 4097, 0, 0) == 4 && same(net, old));
+    EXPECT(gadwemosh_point(net, MORE, 1, 1, 0, found, 4) == 4 && same(net, old) && found[0] == -1);
+}
+
+static void test_heads(void) {
+    /* 257 and -255 have the low byte 1, 258 has 2, 256 has 0: none is read as a byte */
+    const int64_t kinds[] = {0, 3, 255, 256, 257, 258, -1, -255, INT64_MAX, INT64_MIN};
+    const int64_t degrees[] = {0, 11, 255, 256, 257, 258, -1, -254, INT64_MAX, INT64_MIN};
+    const int64_t seconds[] = {1, 2, 10, 255, 256, -1, -256, INT64_MAX, INT64_MIN};
+    int64_t curve[MORE], triangle[MORE];
+    fill(curve);
+    fill(triangle);
+    gadwemosh_first(1, 2, circle_frame, 9, circle, 180, curve, MORE);
+    gadwemosh_first(2, 2, patch_frame, 9, patch, 180, triangle, MORE);
+    for (size_t i = 0; i < sizeof kinds / sizeof *kinds; i++)
+        test_head(curve, 0, kinds[i]);
+    for (size_t i = 0; i < sizeof degrees / sizeof *degrees; i++) {
+        test_head(curve, 1, degrees[i]);
+        test_head(triangle, 1, degrees[i]);
+    }
+    test_head(triangle, 1, 9);
+    for (size_t i = 0; i < sizeof seconds / sizeof *seconds; i++) {
+        test_head(curve, 2, seconds[i]);
+        test_head(triangle, 2, seconds[i]);
+    }
 }
 
 static void test_move(void) {
+    const int64_t flipped[12] = {2, 0, 0, 2, -2, -2, 0, -2, 0, 4, 0, 4};
+    const int64_t halved[12] = {2, 0, 0, 2, 4, 2, 0, 4, 6, 8, 0, 10};
+    const int64_t patch_flipped[24] = {2, 0, 0, 2, 1, 1, 1, 2, -1, 0, 0, -2, 0, 2, 0, 2, 0, -1, 0, -2, 0, 0, 0, 2};
     int64_t net[MORE], old[MORE];
-    uint64_t offset;
     fill(net);
-    gadwemosh_open(record, length, net, MORE, &offset);
-    net[181] = 99;
+    gadwemosh_first(1, 2, circle_frame, 9, circle, 180, net, MORE);
     memcpy(old, net, sizeof net);
-    EXPECT(gadwemosh_move(net, 181, 1, 2, 1, 1, 0) == 11 && same(net, old));
+    EXPECT(gadwemosh_move(net, 192, 1, 2, 1, 1, 0) == 11 && same(net, old));
+    EXPECT(gadwemosh_move(net, 0, 3, 2, 1, 1, 0) == 11 && same(net, old));
     EXPECT(gadwemosh_move(net, MORE, 3, 2, 1, 1, 0) == 8 && same(net, old));
+    EXPECT(gadwemosh_move(net, MORE, 1, 3, 1, 1, 0) == 8 && same(net, old));
     EXPECT(gadwemosh_move(net, MORE, 1, 2, 4097, 1, 0) == 8 && same(net, old));
     EXPECT(gadwemosh_move(net, MORE, 1, 2, 1, 1, 1) == 8 && same(net, old));
+    EXPECT(gadwemosh_move(net, MORE, 2, 2, 0, 1, 0) == 8 && same(net, old));
     EXPECT(gadwemosh_move(net, MORE, 1, 2, 1, 0, 0) == 9 && same(net, old));
-    /* B4: flip r */
+    /* B4: flip r. The places that are not in use hold numbers out of range, which nobody looks at */
     EXPECT(gadwemosh_move(net, MORE, 2, 1, 0, 0, 0) == 0);
-    EXPECT(net[6] == -2 && net[7] == -2 && net[8] == 0 && net[9] == -2);
-    EXPECT(net[2] == 2 && net[181] == 99 && net[182] == old[182]);
-    /* neither 257 nor -255 is read as the byte 1 */
-    net[0] = 257;
+    EXPECT(holds(net, old, 1, 2, flipped, 12));
+    EXPECT(gadwemosh_move(net, GADWEMOSH_NET, 2, 1, 0, 0, 0) == 0 && same(net, old));
+    /* B3: replace s */
+    EXPECT(gadwemosh_move(net, GADWEMOSH_NET, 1, 2, 1, 1, 0) == 0);
+    EXPECT(holds(net, old, 1, 2, halved, 12));
+    /* the last number in use is looked at */
+    net[23] = INT64_C(281474976710657);
     memcpy(old, net, sizeof net);
-    EXPECT(gadwemosh_move(net, MORE, 2, 1, 0, 0, 0) == 4 && same(net, old));
-    net[0] = -255;
+    EXPECT(gadwemosh_move(net, MORE, 2, 1, 0, 0, 0) == 10 && same(net, old));
+    EXPECT(gadwemosh_move(net, MORE, 3, 1, 0, 0, 0) == 10 && same(net, old));
+    /* the largest number in range leads beyond it */
+    net[23] = INT64_C(-281474976710656);
     memcpy(old, net, sizeof net);
-    EXPECT(gadwemosh_move(net, MORE, 2, 1, 0, 0, 0) == 4 && same(net, old));
-    net[0] = 1;
-    net[1] = 258;
-    EXPECT(gadwemosh_move(net, MORE, 2, 1, 0, 0, 0) == 4);
-    net[1] = 2;
-    net[2] = INT64_C(281474976710657);
-    EXPECT(gadwemosh_move(net, MORE, 2, 1, 0, 0, 0) == 10);
+    EXPECT(gadwemosh_move(net, MORE, 1, 1, 1, 2, 0) == 10 && same(net, old));
+    EXPECT(gadwemosh_move(net, MORE, 2, 2, 0, 0, 0) == 0 && net[23] == old[23]);
+    fill(net);
+    gadwemosh_first(2, 2, patch_frame, 9, patch, 180, net, MORE);
+    memcpy(old, net, sizeof net);
+    EXPECT(gadwemosh_move(net, MORE, 2, 3, 0, 0, 0) == 0);
+    EXPECT(holds(net, old, 2, 2, patch_flipped, 24));
 }
 
 static void test_point(void) {
-    int64_t net[MORE], found[5] = {-1, -2, -3, -4, -5};
-    uint64_t offset;
-    gadwemosh_open(record, length, net, MORE, &offset);
+    int64_t net[MORE], old[MORE], found[5] = {-1, -2, -3, -4, -5};
+    fill(net);
+    gadwemosh_first(1, 2, circle_frame, 9, circle, 180, net, MORE);
+    memcpy(old, net, sizeof net);
     EXPECT(gadwemosh_point(net, MORE, 1, 1, 0, found, 3) == 11 && found[0] == -1);
-    EXPECT(gadwemosh_point(net, 181, 1, 1, 0, found, 5) == 11 && found[0] == -1);
+    EXPECT(gadwemosh_point(net, 192, 1, 1, 0, found, 5) == 11 && found[0] == -1);
+    EXPECT(gadwemosh_point(net, MORE, 1, 1, 1, found, 5) == 8 && found[0] == -1);
     EXPECT(gadwemosh_point(net, MORE, 0, 0, 0, found, 5) == 9 && found[0] == -1);
-    EXPECT(gadwemosh_point(net, MORE, 1, 1, 0, found, 5) == 0);
+    EXPECT(gadwemosh_point(net, MORE, 1, 1, 0, found, 5) == 0 && same(net, old));
     EXPECT(found[0] == 6 && found[1] == 8 && found[2] == 0 && found[3] == 10 && found[4] == -5);
+    gadwemosh_first(2, 2, patch_frame, 9, patch, 180, net, MORE);
+    EXPECT(gadwemosh_point(net, GADWEMOSH_NET, 1, 1, 1, found, 4) == 0);
+    EXPECT(found[0] == 6 && found[1] == 6 && found[2] == 2 && found[3] == 18 && found[4] == -5);
 }
 
 static void test_project(void) {
@@ -142,6 +229,7 @@ int main(void) {
     length = fread(record, 1, sizeof record, stdin);
     test_open();
     test_first();
+    test_heads();
     test_move();
     test_point();
     test_project();

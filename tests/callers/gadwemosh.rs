@@ -1,8 +1,14 @@
 //! The static library for Rust: safe functions over those of `include/gadwemosh.h`. Lengths always go
 //! with their slices here, and a borrow that is written is exclusive, so every call is safe.
 
-/// How many numbers a net has: kind, degree, and four for each of 45 entries.
-const PLACES: usize = 182;
+/// How many places a net has (`include/gadwemosh.h` says what stands where).
+const NET: usize = 193;
+
+/// Where its entries begin.
+const ENTRIES: usize = 12;
+
+/// How many numbers the coefficients are, of which kind and degree take the first ones.
+const COEFFICIENTS: usize = 180;
 
 mod raw {
     extern "C" {
@@ -94,9 +100,9 @@ pub enum Projection {
     Nowhere,
 }
 
-/// A control net.
+/// A control net. The places that it does not use are 0.
 #[derive(Clone, Debug, PartialEq, Eq)]
-pub struct Net([i64; PLACES]);
+pub struct Net([i64; NET]);
 
 fn answer(number: u8) -> Result<(), Refused> {
     match number {
@@ -107,7 +113,7 @@ fn answer(number: u8) -> Result<(), Refused> {
 
 /// The first net of a record.
 pub fn open(record: &[u8]) -> Result<Net, RecordRefused> {
-    let mut net = [0; PLACES];
+    let mut net = [0; NET];
     let mut offset = 0;
     let number = unsafe {
         raw::gadwemosh_open(
@@ -125,9 +131,10 @@ pub fn open(record: &[u8]) -> Result<Net, RecordRefused> {
 }
 
 /// The first net of polynomials over a frame. The frame's numbers stand vertex by vertex, a curve has four
-/// of them; the coefficients stand four to a monomial in the record's order, and the rest is 0.
-pub fn first(kind: u8, degree: u8, frame: &[i64; 9], coefficients: &[i64; PLACES - 2]) -> Result<Net, Refused> {
-    let mut net = [0; PLACES];
+/// of them; the coefficients stand four to a monomial in the record's order. What a kind and degree do not
+/// take may be anything.
+pub fn first(kind: u8, degree: u8, frame: &[i64; 9], coefficients: &[i64; COEFFICIENTS]) -> Result<Net, Refused> {
+    let mut net = [0; NET];
     answer(unsafe {
         raw::gadwemosh_first(
             kind,
@@ -161,7 +168,7 @@ impl Net {
         } else {
             (m + 1) * (m + 2) / 2
         };
-        let numbers = self.0[2..].chunks_exact(4).take(count);
+        let numbers = self.0[ENTRIES..].chunks_exact(4).take(count);
         numbers.map(|e| [e[0], e[1], e[2], e[3]]).collect()
     }
 

@@ -1,5 +1,5 @@
--- Signed numbers as the code holds them. A signed local is its bits, and what is read back from them is the number, since it fits: each law here takes
--- that reading away once.
+-- A number of n bytes with its sign, as the code makes it: moved up by half of 256 ^ n, round, and down again. What the machine reads back from the bits of
+-- each step is the number itself, since it fits.
 use mathlib.Core.Path.{_≡_, refl, sym, _∙_, ap, subst}
 use mathlib.Core.Bool.{Bool, true, false, cond}
 use Prim.Native.Nat.{ℕ, _+_, _-_, _*_, _%_, _^_, _<_, _≤_}
@@ -8,22 +8,14 @@ use native.Mathlib.Omega.{arith}
 use borrow.Author.Tests.{ltb-true, ltb-false}
 use lib.Dec.{ltb}
 use lib.IntN.{ℤ, pos, negℤ, natAbs, _+ℤ_, _-ℤ_, +ℤ-idl, +ℤ-assoc, +ℤ-invr, negℤ-+ℤ, +ℤ-negℤ-cancel, pos-+ℤ-pos}
-use lib.Signed.{mag}
 use mir.Syntax.{w64}
-use mir.Val.{SFits, toZ, ofZ}
-use mir.Facts.{toZ-pos, toZ-ofZ}
+use mir.Val.{SFits, toZ}
+use mir.Facts.{toZ-pos}
 use Rattle.integers.proofs.Laws.{natAbs-neg}
-use Rattle.integers.proofs.Signed.{fits-abs, back}
-
--- what is read back from a number's bits
-abbrev pub readBack : ℤ → ℤ
-readBack z = toZ w64 (ofZ w64 z)
-
-pub read-back : (z : ℤ) → mag z < 2 ^ 63 → readBack z ≡ z
-read-back z h = toZ-ofZ (record { sfits = h })
+use Rattle.integers.proofs.Signed.{fits-abs, seen, back}
 
 -- an unsigned number read as a signed one
-pub read-pos : (n : ℕ) → n < 2 ^ 63 → toZ w64 n ≡ pos n
+read-pos : (n : ℕ) → n < 2 ^ 63 → toZ w64 n ≡ pos n
 read-pos n h = toZ-pos w64 h
 
 -- ---- moved up by half, round, and down again
@@ -83,5 +75,5 @@ module _ (v half : ℕ) (low : v < 2 * half) where
     pub moved-fits : SFits w64 (toZ w64 ((v + half) % (2 * half)) -ℤ toZ w64 half)
     moved-fits = subst (SFits w64) (sym moved-bits) (fits-abs standsFor small)
 
-    pub moved-read : readBack (toZ w64 ((v + half) % (2 * half)) -ℤ toZ w64 half) ≡ standsFor
-    moved-read = ap readBack moved-bits ∙ back standsFor small
+    pub moved-read : seen (toZ w64 ((v + half) % (2 * half)) -ℤ toZ w64 half) ≡ standsFor
+    moved-read = ap seen moved-bits ∙ back standsFor small

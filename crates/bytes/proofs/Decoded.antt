@@ -2,17 +2,19 @@
 use mathlib.Core.Path.{_≡_, refl, sym, _∙_}
 use mathlib.Core.Bool.{Bool, true, false, _&&_, _||_, cond}
 use mathlib.Core.List.{List}
-use Prim.Native.Nat.{ℕ, suc, _≤_}
+use Prim.Native.Nat.{ℕ}
 use native.Mathlib.Omega.{arith}
 use borrow.Author.Tests.{leb-true, le-leb}
 use lib.ListN.{getD, drop}
 use lib.Dec.{eqb, leb}
-use Rattle.projection.specs.Projection.{isZero}
-use Rattle.machine.specs.Kinds.{all, unless}
-use Rattle.machine.specs.Calls.{weightList, weightsIn, operationIn, vertexIn, outside}
+use Rattle.integers.proofs.All.{clash, and-parts, and-true}
+use Rattle.kinds.specs.Kinds.{groupsOf, mostVertices}
+use Rattle.kinds.specs.Frames.{vertexCount}
+use Rattle.kinds.proofs.Counts.{vertices-few}
+use Rattle.machine.specs.Refusals.{firstFailed}
+use Rattle.machine.specs.Calls.{beforeSize}
 use Rattle.machine.specs.declared.Weights.{Weights}
 use Rattle.machine.specs.declared.Call.the-variants as call
-use Rattle.machine.proofs.All.{and-parts, and-true, clash}
 use Rattle.bytes.specs.Numbers.{item}
 use Rattle.bytes.specs.Moves.{weightsOf, proper, moveAt, callOf, callAt, operationOf, vertexOf, moveWeights}
 use Rattle.bytes.specs.declared.Move.{Move}
@@ -45,26 +47,28 @@ move-call value k =
 
 -- ---- improper moves
 
-either-of : (a b c : Bool) → a || (b && c) ≡ true → a || b ≡ true
-either-of true b c h = refl
-either-of false true c h = refl
-either-of false false c h = h
-
--- a call that is not refused 8 has a vertex of the three and an operation of the two
-taken-proper : (n o v : ℕ) (w : Weights) → n ≤ 2 → (vertexIn n v && weightsIn n (weightList w) && operationIn o (weightList w)) ≡ true → proper o v ≡ true
-taken-proper n o v w few h =
-    let outer = and-parts (vertexIn n v && weightsIn n (weightList w)) (operationIn o (weightList w)) h in
-    let vertex = and-parts (vertexIn n v) (weightsIn n (weightList w)) (outer .0) .0 in
-    let bounds = and-parts (leb 1 v) (leb v (suc n)) vertex in
-    let top = leb-true v (suc n) (bounds .1) in
-    and-true (and-true (bounds .0) (le-leb v 3 (omega arith))) (either-of (eqb o 1) (eqb o 2) (all isZero (weightList w)) (outer .1))
-
-no-call : (n o v : ℕ) (w : Weights) → n ≤ 2 → proper o v ≡ false → outside n (call.Move o v w) ≡ 8
-no-call n o v w few h = by-case (vertexIn n v && weightsIn n (weightList w) && operationIn o (weightList w)) refl
+-- the first two tests of a move are of its operation and its vertex: one of them fails
+no-call : (kind p q o v : ℕ) (w : Weights) → proper o v ≡ false → firstFailed (beforeSize (groupsOf kind p q) (call.Move o v w)) ≡ 8
+unfolding beforeSize
+no-call kind p q o v w improper = by-operation (eqb o 1 || eqb o 2) refl
   where
-    by-case : (t : Bool) → (vertexIn n v && weightsIn n (weightList w) && operationIn o (weightList w)) ≡ t → unless t 8 ≡ 8
-    by-case true e = absurd (clash (taken-proper n o v w few e) h)
-    by-case false e = refl
+    count : ℕ
+    count = vertexCount (groupsOf kind p q)
+
+    vertex-some : (leb 1 v && leb v count) ≡ true → (leb 1 v && leb v mostVertices) ≡ true
+    vertex-some h =
+        let parts = and-parts (leb 1 v) (leb v count) h in
+        let top = leb-true v count (parts .1) in
+        let few = vertices-few kind p q in
+        and-true (parts .0) (le-leb v mostVertices (omega arith))
+
+    by-vertex : (t : Bool) → (leb 1 v && leb v count) ≡ t → (eqb o 1 || eqb o 2) ≡ true → firstFailed (beforeSize (groupsOf kind p q) (call.Move o v w)) ≡ 8
+    by-vertex true h e = absurd (clash (and-true (vertex-some h) e) improper)
+    by-vertex false h e = rw (e, h) refl
+
+    by-operation : (t : Bool) → (eqb o 1 || eqb o 2) ≡ t → firstFailed (beforeSize (groupsOf kind p q) (call.Move o v w)) ≡ 8
+    by-operation true e = by-vertex (leb 1 v && leb v count) refl e
+    by-operation false e = rw e refl
 
 -- what an improper move is
 improper-is : (t : Bool) (o v : ℕ) (w : Weights) {o′ v′ : ℕ} {w′ : Weights} → proper o v ≡ t → cond t (Proper o v w) (Improper o v w) ≡ Improper o′ v′ w′
@@ -72,12 +76,13 @@ improper-is : (t : Bool) (o v : ℕ) (w : Weights) {o′ v′ : ℕ} {w′ : Wei
 improper-is true o v w e h = let z : _≡_ {A = ℕ} 0 1 = cc in absurd (omega arith)
 improper-is false o v w e h = ((cc), (cc), refl)
 
--- Where a record's move is improper, its call is refused 8 for every kind.
-pub improper-refused : (value : List ℕ) (k : ℕ) {o v : ℕ} {w : Weights} (n : ℕ) → n ≤ 2 → moveAt value k ≡ Improper o v w → outside n (call.Move o v w) ≡ 8
+-- Where a record's move is improper, its call is refused 8 by every kind.
+pub improper-refused : (value : List ℕ) (k : ℕ) {o v : ℕ} {w : Weights} (kind p q : ℕ) → moveAt value k ≡ Improper o v w
+    → firstFailed (beforeSize (groupsOf kind p q) (call.Move o v w)) ≡ 8
 unfolding moveAt
-improper-refused value k {o} {v} {w} n few e =
+improper-refused value k {o} {v} {w} kind p q e =
     let bytes = item 8 value k in
     let o₀ = getD bytes 0 0 in
     let v₀ = getD bytes 1 0 in
     let same = improper-is (proper o₀ v₀) o₀ v₀ (weightsOf (drop 2 bytes)) refl e in
-    no-call n o v w few ((λ i. proper (sym (same .0) i) (sym (same .1) i)) ∙ same .2)
+    no-call kind p q o v w ((λ i. proper (sym (same .0) i) (sym (same .1) i)) ∙ same .2)

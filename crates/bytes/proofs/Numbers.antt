@@ -9,15 +9,15 @@ use native.Mathlib.Numerals.{add-one}
 use native.Mathlib.Omega.{arith}
 use borrow.Author.Tests.{eqb-true, eqb-false, ltb-true, ltb-false, lt-ltb, le-ltb, le-leb, lt-leb, leb-true, leb-false}
 use lib.ListN.{length, getD, set, take, drop, length-drop, drop-of-length-le, length-map}
-use lib.Seq.{take-add, drop-at, length-take-le, take-take, take-all, drop-length, take-nil, drop-cons, ext-getD, getD-take, getD-set-same, getD-set-other}
+use lib.Seq.{take-add, drop-at, length-take-le, take-take, take-all, drop-length, take-nil, drop-cons, ext-getD, getD-set-same, getD-set-other}
 use lib.Dec.{eqb, ltb, leb}
 use lib.IntN.{ℤ, pos, negℤ}
 use Rattle.integers.specs.Sum.{upto}
 use Rattle.integers.proofs.Sums.{length-upto}
 use Rattle.integers.proofs.Laws.{natAbs-neg}
-use Rattle.machine.specs.Kinds.{within, all}
-use Rattle.machine.proofs.All.{and-true, and-none}
-use Rattle.bytes.specs.Numbers.{item, unsignedOf, twosComplement, signedOf, numberAt, numbersTo, numberBelow, coefficientsOf}
+use Rattle.integers.specs.Test.{within, all}
+use Rattle.integers.proofs.All.{and-true, and-none}
+use Rattle.bytes.specs.Numbers.{item, unsignedOf, twosComplement, signedOf, numberAt, numbersTo, coefficientsOf}
 
 -- ---- parts of a list
 
@@ -101,13 +101,6 @@ four-bytes part at h =
     high : ℕ
     high = (0 * 256 + getD part at 0) * 256 + getD part (at + 1) 0
 
--- one byte, or none
-pub few-bytes : (part : List ℕ) → length part < 2 → unsignedOf (take 2 part) ≡ getD part 0 0
-unfolding unsignedOf
-few-bytes [] h = refl
-few-bytes (b ∷ []) h = omega arith
-few-bytes (b ∷ c ∷ part) h = absurd (omega arith)
-
 -- ---- two's complement
 
 -- a number that the part has, from the unsigned number in its bytes
@@ -162,6 +155,12 @@ pub numbersTo-by : (l : List ℤ) (f : ℕ → ℤ) → ((k : ℕ) → k < lengt
 numbersTo-by l f h =
     ext-getD (pos 0) l (numbersTo (length l) f) (sym (length-numbersTo (length l) f)) (λ k b. h k b ∙ sym (getD-numbersTo (length l) f k b))
 
+-- two lists of numbers with the same at each place
+numbersTo-same : (n : ℕ) (f g : ℕ → ℤ) → ((k : ℕ) → k < n → f k ≡ g k) → numbersTo n f ≡ numbersTo n g
+numbersTo-same n f g h =
+    ext-getD (pos 0) (numbersTo n f) (numbersTo n g) (length-numbersTo n f ∙ sym (length-numbersTo n g))
+    (λ k b. let below = subst (λ (m : ℕ). k < m) (length-numbersTo n f) b in getD-numbersTo n f k below ∙ h k below ∙ sym (getD-numbersTo n g k below))
+
 -- What is so of each number below i, and of i, is so below i + 1.
 pub one-further : (P : ℕ → Type 0) (i : ℕ) → ((k : ℕ) → k < i → P k) → P i → (k : ℕ) → k < i + 1 → P k
 one-further P i before is k below = by-case (eqb k i) refl
@@ -210,67 +209,19 @@ module _ (test : ℤ → Bool) where
       ∙ ap (λ (t : Bool). test (f 0) && t) (first-decide m n (λ i. f (suc i)) (omega arith) (λ k l. h (suc k) (omega arith)))
       ∙ sym (ap (all test) (next-number n f))
 
--- ---- the first `count` numbers
-
-module _ (n : ℕ) (part : List ℕ) (count k : ℕ) where
-  pub below-count : k < count → numberBelow n part count k ≡ numberAt n part k
-  unfolding numberBelow
-  below-count h = rw (lt-ltb k count h) refl
-
-  pub past-count : count ≤ k → numberBelow n part count k ≡ pos 0
-  unfolding numberBelow
-  past-count h = rw (le-ltb k count h) refl
-
-  pub past-part : length part / n ≤ k → numberBelow n part count k ≡ pos 0
-  unfolding numberBelow
-  past-part h = by-case (ltb k count)
-    where
-      by-case : (t : Bool) → cond t (numberAt n part k) (pos 0) ≡ pos 0
-      by-case true = number-lacking n part k h
-      by-case false = refl
-
--- the 180 places of the coefficients, and one of those that are read
-pub length-coefficients : (part : List ℕ) (count : ℕ) → length (coefficientsOf part count) ≡ 180
-unfolding coefficientsOf
-length-coefficients part count = length-numbersTo 180 (numberBelow 4 part count)
-
-pub coefficient-is : (part : List ℕ) (count k : ℕ) → k < count → count ≤ 180 → getD (coefficientsOf part count) k (pos 0) ≡ numberAt 4 part k
-unfolding coefficientsOf
-coefficient-is part count k h room = getD-numbersTo 180 (numberBelow 4 part count) k (omega arith) ∙ below-count 4 part count k h
-
--- so those that are read are the first numbers of four bytes
-pub coefficients-are : (part : List ℕ) (count : ℕ) → count ≤ 180 → take count (coefficientsOf part count) ≡ numbersTo count (numberAt 4 part)
-coefficients-are part count room =
-    ext-getD (pos 0) first (numbersTo count f) (long ∙ sym (length-numbersTo count f)) (λ k b. is k (subst (λ (m : ℕ). k < m) long b))
-  where
-    f : ℕ → ℤ
-    f = numberAt 4 part
-
-    first : List ℤ
-    first = take count (coefficientsOf part count)
-
-    long : length first ≡ count
-    long = length-take-le count (coefficientsOf part count) (let all180 = length-coefficients part count in omega arith)
-
-    is : (k : ℕ) → k < count → getD first k (pos 0) ≡ getD (numbersTo count f) k (pos 0)
-    is k b = getD-take count (coefficientsOf part count) k (pos 0) b ∙ coefficient-is part count k b room ∙ sym (getD-numbersTo count f k b)
-
 -- ---- the numbers of a value, in the part that begins with it
 
--- of the first `count` numbers only the bytes that they have matter
-number-below-of-value : (n : ℕ) (part : List ℕ) (count k : ℕ) → 0 < n → n * count ≤ length part → numberBelow n (take (n * count) part) count k ≡ numberBelow n part count k
-unfolding numberBelow
-number-below-of-value n part count k h b = by-case (ltb k count) refl
-  where
-    by-case : (t : Bool) → ltb k count ≡ t → cond t (numberAt n (take (n * count) part) k) (pos 0) ≡ cond t (numberAt n part k) (pos 0)
-    by-case true e = number-of-value n part (n * count) k h b (rw (mul-div-right count h) (ltb-true k count e))
-    by-case false e = refl
+quarter : (count : ℕ) → 4 * count / 4 ≡ count
+quarter count = mul-div-right count {m = 4} (omega arith)
 
--- so the coefficients of field 3's value are those of the record from that value on
+-- only the bytes that they have matter: the coefficients of field 3's value are those of the record from that value on
 pub coefficients-of-value : (part : List ℕ) (count : ℕ) → coefficientsOf (take (4 * count) part) count ≡ coefficientsOf part count
 unfolding coefficientsOf
 coefficients-of-value part count = by-case (ltb (length part) (4 * count)) refl
   where
-    by-case : (t : Bool) → ltb (length part) (4 * count) ≡ t → coefficientsOf (take (4 * count) part) count ≡ coefficientsOf part count
-    by-case true e = ap (λ (l : List ℕ). coefficientsOf l count) (take-all (4 * count) part (let h = ltb-true (length part) (4 * count) e in omega arith))
-    by-case false e = λ i. numbersTo 180 (λ k. number-below-of-value 4 part count k (omega arith) (ltb-false (length part) (4 * count) e) i)
+    by-case : (t : Bool) → ltb (length part) (4 * count) ≡ t → numbersTo count (numberAt 4 (take (4 * count) part)) ≡ numbersTo count (numberAt 4 part)
+    by-case true e = ap (λ (l : List ℕ). numbersTo count (numberAt 4 l)) (take-all (4 * count) part (let h = ltb-true (length part) (4 * count) e in omega arith))
+    by-case false e =
+        let whole = ltb-false (length part) (4 * count) e in
+        numbersTo-same count (numberAt 4 (take (4 * count) part)) (numberAt 4 part)
+        (λ k b. number-of-value 4 part (4 * count) k (omega arith) whole (subst (λ (m : ℕ). k < m) (sym (quarter count)) b))

@@ -3,8 +3,8 @@ use Prim.Native.Nat.{ℕ}
 use mathlib.Core.Bool.{Bool, _&&_, _||_, cond}
 use mathlib.Core.List.{List}
 use lib.ListN.{getD, drop}
-use lib.Dec.{eqb}
-use Rattle.machine.specs.Calls.{vertexIn}
+use lib.Dec.{eqb, leb}
+use Rattle.kinds.specs.Kinds.{mostVertices}
 use Rattle.machine.specs.declared.Weights.{Weights}
 use Rattle.machine.specs.declared.Call.{Call}
 use Rattle.machine.specs.declared.Call.the-variants as call
@@ -12,14 +12,15 @@ use Rattle.bytes.specs.Numbers.{item, numberAt}
 use Rattle.bytes.specs.declared.Move.{Move}
 use Rattle.bytes.specs.declared.Move.the-variants.{Proper, Improper}
 
--- the weights α, β and a patch's γ where the part begins with them: a weight whose two bytes the part does not have is 0
+-- the weights α, β and a patch's γ where the part begins with them: a weight whose two bytes the part does not have is 0. A move has six bytes of weights and a
+-- point of a curve or patch four or six, so that the fourth weight is 0 in every record.
 unfoldable pub weightsOf : List ℕ → Weights
 unfolding numberAt
-weightsOf part = record { r = numberAt 2 part 0; s = numberAt 2 part 1; t = numberAt 2 part 2 }
+weightsOf part = record { r = numberAt 2 part 0; s = numberAt 2 part 1; t = numberAt 2 part 2; u = numberAt 2 part 3 }
 
--- a replace or a flip, of a vertex that some kind has: no kind has more than two after the first
+-- a replace or a flip, of a vertex that some kind has
 abbrev pub proper : ℕ → ℕ → Bool
-proper operation vertex = vertexIn 2 vertex && (eqb operation 1 || eqb operation 2)
+proper operation vertex = (leb 1 vertex && leb vertex mostVertices) && (eqb operation 1 || eqb operation 2)
 
 -- the move with an operation byte, a vertex byte and weights
 abbrev pub moveOf : ℕ → ℕ → Weights → Move
@@ -44,7 +45,7 @@ abbrev pub vertexOf : Move → ℕ
 vertexOf (Proper operation vertex w) = vertex
 vertexOf (Improper operation vertex w) = vertex
 
--- the three weights
+-- the weights
 abbrev pub moveWeights : Move → Weights
 moveWeights (Proper operation vertex w) = w
 moveWeights (Improper operation vertex w) = w

@@ -34,17 +34,12 @@ numberAt n part k = signedOf (item n part k)
 unfoldable pub numbersTo : ℕ → (ℕ → ℤ) → List ℤ
 numbersTo n f = map f (upto n)
 
--- the first `count` numbers of n bytes, and 0 after them: number k of the list
-unfoldable pub numberBelow : ℕ → List ℕ → ℕ → ℕ → ℤ
-unfolding numberAt
-numberBelow n part count k = cond (ltb k count) (numberAt n part k) (pos 0)
-
 -- the numbers of a frame, vertex by vertex, where the part begins with field 2's value: nine places, of which a curve's frame takes four
 unfoldable pub frameNumbers : List ℕ → List ℤ
 unfolding numbersTo numberAt
 frameNumbers part = numbersTo 9 (numberAt 2 part)
 
--- the first `count` coefficients, where the part begins with field 3's value: 180 places, 4 for each of at most 45 monomials
+-- the first `count` coefficients, where the part begins with field 3's value
 unfoldable pub coefficientsOf : List ℕ → ℕ → List ℤ
-unfolding numbersTo numberBelow
-coefficientsOf part count = numbersTo 180 (numberBelow 4 part count)
+unfolding numbersTo numberAt
+coefficientsOf part count = numbersTo count (numberAt 4 part)

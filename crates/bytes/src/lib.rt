@@ -1,24 +1,24 @@
 // Numbers, parts and moves out of a record's bytes. Every function is defined for every slice and
 // every number, and none copies a slice: a part is a slice of the one that was handed in.
 //
-// The definitions are those of specs/: Numbers (how bytes make numbers) and Moves (how they make a
-// move or the weights of a point).
+// The definitions are those of specs/: Numbers (how bytes make numbers), Parts (where a part lies) and
+// Moves (how bytes make a move or the weights of a point).
 ghost use mathlib.Core.Path.{_≡_};
 ghost use mathlib.Core.Bool.{cond};
 ghost use Prim.Native.Nat.{ℕ, _+_, _-_, _*_, _/_, _<_, _≤_};
 ghost use lib.Dec.{ltb};
 ghost use lib.IntN.{pos, negℤ};
 ghost use lib.ListN.{length, drop, take, getD};
-ghost use Rattle.machine.specs.Kinds.{within, all};
+ghost use Rattle.integers.specs.Test.{within, all};
 ghost use Rattle.bytes.specs.Numbers.{
   item,
   unsignedOf,
   twosComplement,
   numberAt,
-  numberBelow,
   numbersTo,
   frameNumbers,
 };
+ghost use Rattle.bytes.specs.Parts.{Lies, toEnd};
 ghost use Rattle.bytes.specs.Moves.{weightsOf, proper, moveAt, callAt, callOf};
 use machine::Weights;
 
@@ -41,7 +41,8 @@ pub enum Move {
 
 // The part from `start` on; past the end nothing is left, and the part stands at the end.
 pub fn part_from(part: &[u8], start: usize) -> &[u8]
-    ensures { λ r. ⌜ now r ≡ drop start (now (part .entry)) ⌝ }
+    ensures bytes { λ r. ⌜ now r ≡ drop start (now (part .entry)) ⌝ }
+    ensures place { λ r. ⌜ Lies (r .ptr) (part .entry .ptr) (toEnd (now (part .entry)) start) ⌝ }
 {
     if part.len() < start {
         return &part[part.len()..];
@@ -51,7 +52,8 @@ pub fn part_from(part: &[u8], start: usize) -> &[u8]
 
 // The first `count` bytes, or all where there are fewer.
 pub fn first_part(part: &[u8], count: usize) -> &[u8]
-    ensures { λ r. ⌜ now r ≡ take count (now (part .entry)) ⌝ }
+    ensures bytes { λ r. ⌜ now r ≡ take count (now (part .entry)) ⌝ }
+    ensures place { λ r. ⌜ Lies (r .ptr) (part .entry .ptr) 0 ⌝ }
 {
     if part.len() < count {
         return part;
@@ -127,11 +129,13 @@ fn short_at(part: &[u8], k: usize) -> i64
     signed(two_bytes(part, 2 * k), 32768)
 }
 
-// Signed number k of four bytes, which the part has.
+// Signed number k of four bytes, 0 where the part does not have them.
 fn long_at(part: &[u8], k: usize) -> i64
-    requires { ⌜ k < length (now part) / 4 ⌝ }
     ensures { λ r. ⌜ r ≡ numberAt 4 (now (part .entry)) k ⌝ }
 {
+    if part.len() / 4 <= k {
+        return 0;
+    }
     signed(four_bytes(part, 4 * k), 2147483648)
 }
 
@@ -155,63 +159,20 @@ pub fn frame_numbers(part: &[u8]) -> [i64; 9]
 
 // ---- coefficients
 
-// How many of the first `count` coefficients the part has and `room` places can take. Every place
-// from there on is to be 0.
-fn number_count(part: &[u8], count: usize, room: usize) -> usize
-    ensures there { λ r. ⌜ (r ≤ count) × (r ≤ room) × (r ≤ length (now (part .entry)) / 4) ⌝ }
-    ensures rest { λ r. ⌜ ((k : ℕ) → r ≤ k → k < room → numberBelow 4 (now (part .entry)) count k ≡ pos 0) ⌝ }
-{
-    let whole = part.len() / 4;
-    if count <= whole {
-        if count <= room {
-            return count;
-        }
-        return room;
-    }
-    if whole <= room {
-        return whole;
-    }
-    room
-}
-
-// Writes the first n coefficients, which the part has, into the first n places.
-fn put_numbers(out: &mut [i64], part: &[u8], n: usize)
-    requires { ⌜ (n ≤ length (now out)) × (n ≤ length (now part) / 4) ⌝ }
-    ensures size { λ _. ⌜ length (now (out .exit)) ≡ length (now (out .entry)) ⌝ }
-    ensures numbers { λ _. ⌜ ((k : ℕ) → k < n → getD (now (out .exit)) k (pos 0) ≡ numberAt 4 (now (part .entry)) k) ⌝ }
+// Writes a coefficient into each of the lent places, where the part begins with field 3's value. A place
+// whose four bytes the part does not have is 0; what the places held before does not matter.
+pub fn read_coefficients(part: &[u8], out: &mut [i64])
+    ensures { λ _. ⌜ now (out .exit) ≡ numbersTo (length (now (out .entry))) (numberAt 4 (now (part .entry))) ⌝ }
 {
     let mut i: usize = 0;
-    while i < n {
+    while i < out.len() {
         out[i] = long_at(part, i);
         i = i + 1;
     }
 }
 
-// Writes 0 into every place from `start` on.
-fn put_zeros(out: &mut [i64], start: usize)
-    ensures size { λ _. ⌜ length (now (out .exit)) ≡ length (now (out .entry)) ⌝ }
-    ensures kept { λ _. ⌜ ((k : ℕ) → k < start → getD (now (out .exit)) k (pos 0) ≡ getD (now (out .entry)) k (pos 0)) ⌝ }
-    ensures zeros { λ _. ⌜ ((k : ℕ) → start ≤ k → k < length (now (out .entry)) → getD (now (out .exit)) k (pos 0) ≡ pos 0) ⌝ }
-{
-    let mut i = start;
-    while i < out.len() {
-        out[i] = 0;
-        i = i + 1;
-    }
-}
-
-// Writes the first `count` coefficients into the lent places, where the part begins with field 3's
-// value, and 0 into every other place. What the places held before does not matter.
-pub fn read_coefficients(part: &[u8], count: usize, out: &mut [i64])
-    ensures { λ _. ⌜ now (out .exit) ≡ numbersTo (length (now (out .entry))) (numberBelow 4 (now (part .entry)) count) ⌝ }
-{
-    let n = number_count(part, count, out.len());
-    put_numbers(&mut *out, part, n);
-    put_zeros(&mut *out, n);
-}
-
 // Whether the number that v stands for among those of four bytes is from -limit to limit.
-fn is_within(v: usize, limit: usize) -> bool
+fn stands_within(v: usize, limit: usize) -> bool
     requires { ⌜ v < 4294967296 ⌝ }
     ensures { λ r. ⌜ r ≡ within limit (twosComplement 4 v) ⌝ }
 {
@@ -229,7 +190,7 @@ fn first_within(part: &[u8], n: usize, limit: usize) -> bool
 {
     let mut i: usize = 0;
     while i < n {
-        if !is_within(four_bytes(part, 4 * i), limit) {
+        if !stands_within(four_bytes(part, 4 * i), limit) {
             return false;
         }
         i = i + 1;
@@ -253,7 +214,8 @@ pub fn coefficients_within(part: &[u8], count: usize, limit: usize) -> bool
 // ---- moves and points
 
 // The weights, where the part begins with them: field 5's value, or a move after its first two bytes.
-// A weight whose two bytes the part does not have is 0, so a curve's point has a third weight of 0.
+// A weight whose two bytes the part does not have is 0: the third of a curve's point, and the fourth of
+// every move.
 pub fn point_weights(part: &[u8]) -> Weights
     ensures { λ r. ⌜ r ≡ weightsOf (now (part .entry)) ⌝ }
 {
@@ -261,6 +223,7 @@ pub fn point_weights(part: &[u8]) -> Weights
         r: short_at(part, 0),
         s: short_at(part, 1),
         t: short_at(part, 2),
+        u: short_at(part, 3),
     }
 }
 

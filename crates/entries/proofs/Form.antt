@@ -1,4 +1,4 @@
--- A symmetric multilinear form on lists of parameter points: all that nets need of a polar value.
+-- Symmetric multilinear forms: what a net's entries fix is what the form gives.
 -- Fixing the first points of a form gives a form again, so each law below is an induction on the counts, with no permutation in sight.
 use Prim.Native.Nat.{ℕ, zero, suc, _+_, _<_}
 use native.Mathlib.Nat.{suc-add, add-suc, zero-add, not-suc-le-zero, le-of-suc-le-suc}
@@ -12,13 +12,8 @@ use Rattle.integers.proofs.Sums.{sum-cong, sum-upto-cong}
 use Rattle.polar.specs.Sigma.{Point}
 use Rattle.polar.specs.Order.{total}
 use Rattle.entries.specs.Frame.{taken, combination}
+use Rattle.entries.specs.Form.{Form}
 use Rattle.entries.specs.Entries.{raise, fixed, odd}
-
--- a point may be moved to the front, and in the first point the form is linear
-pub record Form (d : ℕ) (G : List Point → ℤ) : Type 0 where
-  pub front : (xs : List Point) (p : Point) (ys : List Point) → G (xs ++ (p ∷ ys)) ≡ G (p ∷ (xs ++ ys))
-  pub linear : (ws : List ℤ) (fr : ℕ → Point) (ps : List Point) → G (combination d ws fr ∷ ps) ≡ sum (λ v. getD ws v (pos 0) *ℤ G (fr v ∷ ps)) (upto d)
-  pub negated : (p : Point) (ps : List Point) → G (map negℤ p ∷ ps) ≡ negℤ (G (p ∷ ps))
 
 -- the form with the points R fixed
 pub fixing : {d : ℕ} {G : List Point → ℤ} → Form d G → (R : List Point) → Form d (λ ps. G (R ++ ps))

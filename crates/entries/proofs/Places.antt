@@ -1,6 +1,6 @@
 -- The places of a net's entries: every list of counts with the right length and total has one place, `rank` works it out, and every place is reached.
 -- The idea: the order goes by rows, one for each number that the vertices after the first have together; the rows differ in their first count.
-use Prim.Native.Nat.{ℕ, zero, suc, _+_, _*_, _-_, _/_, _%_, _≤_, _<_, suc-le-suc, zero-le}
+use Prim.Native.Nat.{ℕ, zero, suc, _+_, _-_, _<_, suc-le-suc, zero-le}
 use native.Mathlib.Nat.{le-of-suc-le-suc, not-suc-le-zero, add-assoc, zero-add, add-zero}
 use native.Mathlib.Omega.{arith}
 use native.Mathlib.Decide.{decLt}
@@ -12,19 +12,18 @@ use lib.Dec.{eqb}
 use borrow.Author.Tests.{eqb-true, eq-eqb, ne-eqb}
 use lib.ListN.{length, getD, length-append, length-map}
 use lib.Seq.{getD-append-add}
+use Rattle.integers.proofs.All.{clash}
 use Rattle.integers.specs.Sum.{upto}
 use Rattle.polar.specs.Order.{joined, total, counts}
 use Rattle.polar.proofs.Order.{counts-total}
 use Rattle.entries.specs.Entries.{same, placeOf}
+use Rattle.entries.specs.Rows.{offset, rank}
 
 -- ---- the test of two lists
 
 pub same-refl : (e : List ℕ) → same e e ≡ true
 same-refl [] = refl
 same-refl (n ∷ e) = ap (λ b. cond b (same e e) false) (eq-eqb n n refl) ∙ same-refl e
-
-pub clash : {b : Bool} → b ≡ true → b ≡ false → ⊥
-clash p q = let z : _≡_ {A = ℕ} 0 1 = cc in omega arith
 
 pub same-eq : (e x : List ℕ) → same e x ≡ true → e ≡ x
 same-eq [] [] h = refl
@@ -86,11 +85,6 @@ place-under i e (x ∷ xs) = ap₂ (λ b k. cond (cond b (same e x) false) 0 (su
 pub joined-map : {A B C : Type 0} (f : B → List C) (g : A → B) (xs : List A) → joined f (map g xs) ≡ joined (λ x. f (g x)) xs
 joined-map f g [] = refl
 joined-map f g (x ∷ xs) = ap (λ l. f (g x) ++ l) (joined-map f g xs)
-
--- how many lists stand before row k
-abbrev pub offset : (ℕ → List (List ℕ)) → ℕ → ℕ
-offset f zero = 0
-offset f (suc k) = length (f 0) + offset (λ j. f (suc j)) k
 
 pub offset-snoc : (f : ℕ → List (List ℕ)) (k : ℕ) → offset f (suc k) ≡ offset f k + length (f k)
 offset-snoc f zero = omega arith
@@ -159,12 +153,6 @@ find-row f (suc n) p h = by (decLt p (length (f 0))) (find-row (λ j. f (suc j))
 -- row k of the entries of degree m over 2 + n vertices
 abbrev pub rowOf : ℕ → ℕ → ℕ → List (List ℕ)
 rowOf n m k = map (λ r. (m - k) ∷ r) (counts n k)
-
--- the place of counts over 1 + n vertices: the rows before, and the place in the row
-abbrev pub rank : ℕ → List ℕ → ℕ
-rank zero e = 0
-rank (suc n) [] = 0
-rank (suc n) (i ∷ e) = offset (counts n) (total e) + rank n e
 
 pub offset-cong : (f g : ℕ → List (List ℕ)) (k : ℕ) → ((j : ℕ) → length (f j) ≡ length (g j)) → offset f k ≡ offset g k
 offset-cong f g zero h = refl

@@ -17,13 +17,8 @@ use Rattle.integers.proofs.Sums.{sum-upto-snoc, sum-upto-cong}
 use Rattle.integers.proofs.Ring.{ring, ring-rules}
 use Rattle.polar.specs.Order.{total}
 use Rattle.entries.specs.Entries.{raise, fixed}
+use Rattle.entries.specs.Rows.{exchanged}
 use Rattle.entries.proofs.Form.{total-raise, length-raise}
-
--- a list whose first member and whose member v have changed places; d stands for a member that is not there
-abbrev pub exchanged : {A : Type 0} → A → ℕ → List A → List A
-exchanged d zero xs = xs
-exchanged d (suc v) [] = []
-exchanged d (suc v) (x ∷ xs) = getD xs v d ∷ set xs v x
 
 -- which vertex stands in place of vertex u
 abbrev pub exchange : ℕ → ℕ → ℕ

@@ -2,47 +2,42 @@
 -- The idea: a coordinate's point in front of a list lowers σ in that one coordinate, so σ of coordinate points is 1 at their own exponents and 0 elsewhere,
 -- and of the sum over the monomials, which are all different, one term is left.
 use Prim.Native.Nat.{ℕ, zero, suc, _+_, _*_, _-_, _/_, _≤_, _<_, suc-le-suc, zero-le}
-use native.Mathlib.Nat.{le-of-suc-le-suc, not-suc-le-zero, add-zero, zero-add, add-suc, suc-add, le-refl}
+use native.Mathlib.Nat.{le-of-suc-le-suc, not-suc-le-zero, add-zero, zero-add, add-suc, suc-add, suc-mul, zero-mul, le-refl}
 use native.Mathlib.Omega.{arith}
-use native.Mathlib.Decide.{decLt}
 use mathlib.Core.Path.{_≡_, refl, sym, ap, ap₂, _∙_, subst, fun-ext}
 use mathlib.Core.Bool.{Bool, true, false, cond}
 use mathlib.Core.Logic.{_⊎_, inl, inr}
 use mathlib.Core.List.{List, [], _∷_, _++_, map, List·Memᴰ, List·Memᴰ·head, List·Memᴰ·tail, List·Memᴰ·not-nil, List·Memᴰ·cases-cons, List·Memᴰ·append-cases, Memᴰ·map, Memᴰ·of-map}
-use lib.IntN.{ℤ, pos, _+ℤ_, _*ℤ_, +ℤ-idl, +ℤ-idr, *ℤ-zero, zero-*ℤ, *ℤ-comm}
+use lib.IntN.{ℤ, pos, _+ℤ_, _*ℤ_, +ℤ-assoc, +ℤ-idl, +ℤ-idr, *ℤ-zero, zero-*ℤ}
 use lib.Dec.{eqb, eqb·zero-suc, eqb·suc-zero, eqb·suc-suc}
-use lib.ListN.{length, getD, take, drop, replicate, length-map}
-use lib.Seq.{ext-getD, getD-take, getD-drop}
+use lib.ListN.{length, getD, drop, replicate, length-map}
+use lib.Seq.{getD-drop, drop-drop}
 use borrow.Author.Tests.{eq-eqb, ne-eqb}
+use Rattle.integers.proofs.All.{clash}
 use Rattle.integers.specs.Sum.{sum, upto}
-use Rattle.integers.proofs.Sums.{sum-cong, sum-upto-cong, sum-upto-suc, sum-zero, length-upto}
-use Rattle.integers.proofs.Laws.{one-*ℤ}
+use Rattle.integers.proofs.Sums.{sum-cong, sum-upto-cong, sum-upto-suc, sum-zero}
+use Rattle.integers.proofs.Laws.{one-*ℤ, *ℤ-assoc}
 use Rattle.integers.proofs.Ring.{ring, ring-rules}
 use Rattle.polar.specs.Sigma.{Point, Exponents, lowered, unit, σ}
 use Rattle.polar.specs.Order.{joined, total, monomials}
-use Rattle.polar.specs.Scale.{multinomial, scale}
-use Rattle.polar.specs.Polar.{Term, terms, polar}
+use Rattle.polar.specs.Groups.{Group, head, tail, pairs, monomialsOver}
+use Rattle.polar.specs.Scale.{multinomialOver, scaleOver}
+use Rattle.polar.specs.Polar.{σOver, polarOver, terms}
 use Rattle.polar.proofs.Order.{of-joined, monomials-total}
 use Rattle.polar.proofs.Sigma.{lowered-zero, at-upto}
 use Rattle.polar.proofs.Diagonal.{lowered-past}
-use Rattle.entries.specs.Frame.{taken, combination}
+use Rattle.polar.proofs.Value.{of-pairs}
+use Rattle.entries.specs.Frame.{taken, combination, unitPoint, units}
 use Rattle.entries.specs.Entries.{same, placeOf}
-use Rattle.entries.proofs.Places.{same-refl, clash, same-eq, placed, Absent, place-rows, place-under, joined-map, offset, offset-snoc, offset-cong, length-rows, member-rows}
+use Rattle.entries.specs.Rows.{offset}
+use Rattle.entries.proofs.Places.{same-refl, same-eq, placed, Absent, place-rows, place-under, joined-map, offset-snoc, offset-cong, length-rows, member-rows}
+use Rattle.entries.proofs.Groups.{Counted}
 
 -- ---- the coordinates' points
 
 -- 1 at c and 0 elsewhere
 abbrev pub oneAt : ℕ → ℕ → ℤ
 oneAt c i = cond (eqb i c) (pos 1) (pos 0)
-
--- the point with coordinate c 1 and the others 0, of d coordinates
-abbrev pub unitPoint : ℕ → ℕ → Point
-unitPoint d c = map (λ i. cond (eqb i c) (pos 1) (pos 0)) (upto d)
-
--- the frame of the coordinates, Z first
-abbrev pub units : ℕ → ℕ → Point
-units n zero = unitPoint (suc n) n
-units n (suc v) = unitPoint (suc n) v
 
 -- a sum against `oneAt c` picks what stands at c
 pick : (d c : ℕ) (g : ℕ → ℤ) → c < d → sum (λ i. oneAt c i *ℤ g i) (upto d) ≡ g c
@@ -73,61 +68,6 @@ pub units-patch : (z u v : ℤ) → combination 3 (z ∷ u ∷ v ∷ []) (units 
 units-patch z u v =
     ap₂ _∷_ (ring (z ∷ u ∷ v ∷ []) (search ring-rules depth 60) tt)
     (ap₂ (λ a b. a ∷ b ∷ []) (ring (z ∷ u ∷ v ∷ []) (search ring-rules depth 60) tt) (ring (z ∷ u ∷ v ∷ []) (search ring-rules depth 60) tt))
-
--- a point is the combination of the coordinates' points by its own coordinates, Z first
-module _ (n : ℕ) (p : Point) where
-  -- what the coordinates before Z give at coordinate i
-  abbrev rest : ℕ → ℤ
-  rest i = sum (λ v. getD (take n p) v (pos 0) *ℤ oneAt v i) (upto n)
-
-  -- at a coordinate before Z: that coordinate
-  rest-before : (i : ℕ) → i < n → rest i ≡ getD p i (pos 0)
-  rest-before i h =
-      sum-cong (λ v. *ℤ-comm (getD (take n p) v (pos 0)) (oneAt v i) ∙ ap (λ b. cond b (pos 1) (pos 0) *ℤ getD (take n p) v (pos 0)) (eqb-sym i v)) (upto n)
-      ∙ pick n i (λ v. getD (take n p) v (pos 0)) h
-      ∙ getD-take n p i (pos 0) h
-
-  -- at Z: nothing
-  rest-last : rest n ≡ pos 0
-  rest-last =
-      sum-upto-cong n (λ v h. ap (λ b. getD (take n p) v (pos 0) *ℤ cond b (pos 1) (pos 0)) (ne-eqb n v (differ v h)) ∙ *ℤ-zero (getD (take n p) v (pos 0)))
-      ∙ sum-zero (upto n)
-    where
-      differ : (v : ℕ) → v < n → n ≡ v → ⊥
-      differ v h e = omega arith
-
-  -- Z's share and the others' together
-  at-coordinate : (i : ℕ) → i < suc n → getD p n (pos 0) *ℤ oneAt n i +ℤ rest i ≡ getD p i (pos 0)
-  at-coordinate i h = by (decLt i n)
-    where
-      by : Dec (i < n) → getD p n (pos 0) *ℤ oneAt n i +ℤ rest i ≡ getD p i (pos 0)
-      by (yes l) =
-          ap₂ _+ℤ_ (ap (λ b. getD p n (pos 0) *ℤ cond b (pos 1) (pos 0)) (ne-eqb i n (λ e. omega arith)) ∙ *ℤ-zero (getD p n (pos 0))) (rest-before i l)
-          ∙ +ℤ-idl (getD p i (pos 0))
-      by (no l) = subst (λ j. getD p n (pos 0) *ℤ oneAt n j +ℤ rest j ≡ getD p j (pos 0)) i-is last
-        where
-          i-is : n ≡ i
-          i-is = omega arith
-
-          last : getD p n (pos 0) *ℤ oneAt n n +ℤ rest n ≡ getD p n (pos 0)
-          last =
-              ap₂ _+ℤ_ (ap (λ b. getD p n (pos 0) *ℤ cond b (pos 1) (pos 0)) (eq-eqb n n refl) ∙ *ℤ-comm (getD p n (pos 0)) (pos 1) ∙ one-*ℤ (getD p n (pos 0))) rest-last
-              ∙ +ℤ-idr (getD p n (pos 0))
-
-  pub units-combination : length p ≡ suc n → combination (suc n) (getD p n (pos 0) ∷ take n p) (units n) ≡ p
-  units-combination l =
-      ext-getD (pos 0) (combination (suc n) (getD p n (pos 0) ∷ take n p) (units n)) p (lengths ∙ sym l) (λ i h. at i (subst (λ k. i < k) lengths h))
-    where
-      lengths : length (combination (suc n) (getD p n (pos 0) ∷ take n p) (units n)) ≡ suc n
-      lengths = length-map (upto (suc n)) (λ c. sum (λ v. getD (getD p n (pos 0) ∷ take n p) v (pos 0) *ℤ getD (units n v) c (pos 0)) (upto (suc n))) ∙ length-upto (suc n)
-
-      at : (i : ℕ) → i < suc n → getD (combination (suc n) (getD p n (pos 0) ∷ take n p) (units n)) i (pos 0) ≡ getD p i (pos 0)
-      at i h =
-          at-upto (suc n) (λ c. sum (λ v. getD (getD p n (pos 0) ∷ take n p) v (pos 0) *ℤ getD (units n v) c (pos 0)) (upto (suc n))) i h
-          ∙ sum-upto-suc (λ v. getD (getD p n (pos 0) ∷ take n p) v (pos 0) *ℤ getD (units n v) i (pos 0)) n
-          ∙ ap₂ _+ℤ_ (ap (λ z. getD p n (pos 0) *ℤ z) (at-upto (suc n) (oneAt n) i h))
-          (sum-cong (λ v. ap (λ z. getD (take n p) v (pos 0) *ℤ z) (at-upto (suc n) (oneAt v) i h)) (upto n))
-          ∙ at-coordinate i h
 
 -- ---- σ of coordinate points
 
@@ -290,60 +230,157 @@ member-monomials (suc n) m (h ∷ e) l t =
 
 -- ---- one term is left
 
--- S is 1 at e and 0 at the other exponents of the list; K is what else multiplies a coefficient
-module _ (K S : List ℕ → ℤ) (c : ℕ) (e : List ℕ) where
-  -- what a term adds to the polar value
-  abbrev value : Term → ℤ
-  value t = t .coefficient *ℤ K (t .exponents) *ℤ S (t .exponents)
+-- what the terms of component c give, each its coefficient times K of its exponents
+abbrev summed : ℕ → (List Exponents → ℤ) → List (List Exponents) → List ℤ → ℤ
+summed c K es numbers = sum (λ t. t .coefficient *ℤ K (t .exponents)) (terms c es numbers)
 
-  -- where e does not occur the sum is 0
-  none-left : (es : List (List ℕ)) (numbers : List ℤ) → ((x : List ℕ) → List·Memᴰ x es → S x ≡ only e x) → Absent e es → sum value (terms c es numbers) ≡ pos 0
-  none-left [] numbers is a = refl
-  none-left (x ∷ es) numbers is a =
-      ap₂ _+ℤ_
-      (ap (λ s. getD numbers c (pos 0) *ℤ K x *ℤ s) (is x (List·Memᴰ·head refl) ∙ ap (λ b. cond b (pos 1) (pos 0)) (a x (List·Memᴰ·head refl)))
-      ∙ *ℤ-zero (getD numbers c (pos 0) *ℤ K x))
-      (none-left es (drop 4 numbers) (λ y q. is y (List·Memᴰ·tail q)) (λ y q. a y (List·Memᴰ·tail q)))
+summed-append : (c : ℕ) (K : List Exponents → ℤ) (ds bs : List (List Exponents)) (numbers : List ℤ)
+    → summed c K (ds ++ bs) numbers ≡ summed c K ds numbers +ℤ summed c K bs (drop (4 * length ds) numbers)
+summed-append c K [] bs numbers = sym (+ℤ-idl (summed c K bs numbers))
+summed-append c K (e ∷ ds) bs numbers =
+    ap (λ s. getD numbers c (pos 0) *ℤ K e +ℤ s)
+    (summed-append c K ds bs (drop 4 numbers)
+    ∙ ap (λ l. summed c K ds (drop 4 numbers) +ℤ summed c K bs l) (drop-drop (4 * length ds) 4 numbers ∙ ap (λ i. drop i numbers) next))
+    ∙ sym (+ℤ-assoc (getD numbers c (pos 0) *ℤ K e) (summed c K ds (drop 4 numbers)) (summed c K bs (drop (4 * suc (length ds)) numbers)))
+  where
+    next : 4 + 4 * length ds ≡ 4 * suc (length ds)
+    next = omega arith
 
-  -- where e occurs once the sum is its term
-  one-left : (es : List (List ℕ)) (numbers : List ℤ) → ((x : List ℕ) → List·Memᴰ x es → S x ≡ only e x) → Distinct es → List·Memᴰ e es
-      → sum value (terms c es numbers) ≡ getD numbers (4 * placeOf e es + c) (pos 0) *ℤ K e
-  one-left [] numbers is d m = absurd (List·Memᴰ·not-nil m)
-  one-left (x ∷ es) numbers is d m =
-      ap (λ s. getD numbers c (pos 0) *ℤ K x *ℤ s +ℤ sum value (terms c es (drop 4 numbers))) (is x (List·Memᴰ·head refl))
-      ∙ by (same e x) refl (one-left es (drop 4 numbers) (λ y q. is y (List·Memᴰ·tail q)) (d .1))
+summed-row : (c : ℕ) (K : List Exponents → ℤ) (x : Exponents) (yss : List (List Exponents)) (numbers : List ℤ)
+    → summed c K (map (λ ys. x ∷ ys) yss) numbers ≡ summed c (λ ys. K (x ∷ ys)) yss numbers
+summed-row c K x [] numbers = refl
+summed-row c K x (ys ∷ yss) numbers = ap (λ s. getD numbers c (pos 0) *ℤ K (x ∷ ys) +ℤ s) (summed-row c K x yss (drop 4 numbers))
+
+summed-zero : (c : ℕ) (K : List Exponents → ℤ) (es : List (List Exponents)) (numbers : List ℤ) → ((e : List Exponents) → K e ≡ pos 0) → summed c K es numbers ≡ pos 0
+summed-zero c K [] numbers h = refl
+summed-zero c K (e ∷ es) numbers h = ap₂ _+ℤ_ (ap (λ z. getD numbers c (pos 0) *ℤ z) (h e) ∙ *ℤ-zero (getD numbers c (pos 0))) (summed-zero c K es (drop 4 numbers) h)
+
+summed-members : (c : ℕ) (K L : List Exponents → ℤ) (es : List (List Exponents)) (numbers : List ℤ) → ((e : List Exponents) → List·Memᴰ e es → K e ≡ L e) → summed c K es numbers ≡ summed c L es numbers
+summed-members c K L [] numbers h = refl
+summed-members c K L (e ∷ es) numbers h =
+    ap₂ (λ k s. getD numbers c (pos 0) *ℤ k +ℤ s) (h e (List·Memᴰ·head refl)) (summed-members c K L es (drop 4 numbers) (λ x m. h x (List·Memᴰ·tail m)))
+
+-- of the rows of pairs, the row of e is left where K is 0 in the others
+module _ (c : ℕ) (K : List Exponents → ℤ) (e : Exponents) (yss : List (List Exponents)) (others : (x : Exponents) → same e x ≡ false → (ys : List Exponents) → K (x ∷ ys) ≡ pos 0) where
+  abbrev rows : List Exponents → List ℤ → ℤ
+  rows xs numbers = summed c K (pairs xs yss) numbers
+
+  next-rows : (x : Exponents) (xs : List Exponents) (numbers : List ℤ) → rows (x ∷ xs) numbers ≡ summed c (λ ys. K (x ∷ ys)) yss numbers +ℤ rows xs (drop (4 * length yss) numbers)
+  next-rows x xs numbers =
+      summed-append c K (map (λ ys. x ∷ ys) yss) (pairs xs yss) numbers
+      ∙ ap₂ (λ s k. s +ℤ rows xs (drop (4 * k) numbers)) (summed-row c K x yss numbers) (length-map yss (λ ys. x ∷ ys))
+
+  none-left : (xs : List Exponents) (numbers : List ℤ) → Absent e xs → rows xs numbers ≡ pos 0
+  none-left [] numbers a = refl
+  none-left (x ∷ xs) numbers a =
+      next-rows x xs numbers
+      ∙ ap₂ _+ℤ_ (summed-zero c (λ ys. K (x ∷ ys)) yss numbers (others x (a x (List·Memᴰ·head refl)))) (none-left xs (drop (4 * length yss) numbers) (λ y q. a y (List·Memᴰ·tail q)))
+
+  one-left : (xs : List Exponents) (numbers : List ℤ) → Distinct xs → List·Memᴰ e xs → rows xs numbers ≡ summed c (λ ys. K (e ∷ ys)) yss (drop (4 * (placeOf e xs * length yss)) numbers)
+  one-left [] numbers d m = absurd (List·Memᴰ·not-nil m)
+  one-left (x ∷ xs) numbers d m = next-rows x xs numbers ∙ by (same e x) refl (one-left xs (drop (4 * length yss) numbers) (d .1))
     where
-      first-place : 4 * 0 + c ≡ c
-      first-place = omega arith
-
-      next-place : (p : ℕ) → 4 + (4 * p + c) ≡ 4 * suc p + c
-      next-place p = omega arith
-
-      later : (e ≡ x) ⊎ List·Memᴰ e es → same e x ≡ false → List·Memᴰ e es
+      later : (e ≡ x) ⊎ List·Memᴰ e xs → same e x ≡ false → List·Memᴰ e xs
       later (inl p) q = absurd (clash (subst (λ y. same e y ≡ true) p (same-refl e)) q)
       later (inr k) q = k
 
-      by : (b : Bool) → same e x ≡ b → (List·Memᴰ e es → sum value (terms c es (drop 4 numbers)) ≡ getD (drop 4 numbers) (4 * placeOf e es + c) (pos 0) *ℤ K e)
-          → getD numbers c (pos 0) *ℤ K x *ℤ cond b (pos 1) (pos 0) +ℤ sum value (terms c es (drop 4 numbers))
-          ≡ getD numbers (4 * cond b 0 (suc (placeOf e es)) + c) (pos 0) *ℤ K e
+      next-place : (p k : ℕ) → 4 * k + 4 * (p * k) ≡ 4 * (suc p * k)
+      next-place p k = ap (λ z. 4 * k + 4 * z) refl ∙ add-to (p * k) k ∙ ap (λ z. 4 * z) (sym (suc-mul p k))
+        where
+          add-to : (x y : ℕ) → 4 * y + 4 * x ≡ 4 * (x + y)
+          add-to x y = omega arith
+
+      by : (b : Bool) → same e x ≡ b → (List·Memᴰ e xs → rows xs (drop (4 * length yss) numbers) ≡ summed c (λ ys. K (e ∷ ys)) yss (drop (4 * (placeOf e xs * length yss)) (drop (4 * length yss) numbers)))
+          → summed c (λ ys. K (x ∷ ys)) yss numbers +ℤ rows xs (drop (4 * length yss) numbers)
+          ≡ summed c (λ ys. K (e ∷ ys)) yss (drop (4 * (cond b 0 (suc (placeOf e xs)) * length yss)) numbers)
       by true q rest-is =
           let e-is = same-eq e x q in
-          ap (λ s. getD numbers c (pos 0) *ℤ K x *ℤ pos 1 +ℤ s)
-          (none-left es (drop 4 numbers) (λ y k. is y (List·Memᴰ·tail k)) (subst (λ y. Absent y es) (sym e-is) (d .0)))
-          ∙ ring (getD numbers c (pos 0) ∷ K x ∷ []) (search ring-rules depth 60) tt
-          ∙ ap₂ (λ i y. getD numbers i (pos 0) *ℤ K y) (sym first-place) (sym e-is)
+          ap (λ s. summed c (λ ys. K (x ∷ ys)) yss numbers +ℤ s) (none-left xs (drop (4 * length yss) numbers) (subst (λ y. Absent y xs) (sym e-is) (d .0)))
+          ∙ +ℤ-idr (summed c (λ ys. K (x ∷ ys)) yss numbers)
+          ∙ ap₂ (λ y i. summed c (λ ys. K (y ∷ ys)) yss (drop (4 * i) numbers)) (sym e-is) (sym (zero-mul (length yss)))
       by false q rest-is =
-          ap₂ _+ℤ_ (*ℤ-zero (getD numbers c (pos 0) *ℤ K x)) (rest-is (later (List·Memᴰ·cases-cons m) q))
-          ∙ +ℤ-idl (getD (drop 4 numbers) (4 * placeOf e es + c) (pos 0) *ℤ K e)
-          ∙ ap (λ z. z *ℤ K e) (getD-drop 4 numbers (4 * placeOf e es + c) (pos 0) ∙ ap (λ i. getD numbers i (pos 0)) (next-place (placeOf e es)))
+          ap₂ _+ℤ_ (summed-zero c (λ ys. K (x ∷ ys)) yss numbers (others x q)) (rest-is (later (List·Memᴰ·cases-cons m) q))
+          ∙ +ℤ-idl (summed c (λ ys. K (e ∷ ys)) yss (drop (4 * (placeOf e xs * length yss)) (drop (4 * length yss) numbers)))
+          ∙ ap (summed c (λ ys. K (e ∷ ys)) yss) (drop-drop (4 * (placeOf e xs * length yss)) (4 * length yss) numbers ∙ ap (λ i. drop i numbers) (next-place (placeOf e xs) (length yss)))
 
--- over the coordinates' frame the scaled polar value is the scaled coefficient
-pub standard : (n m c : ℕ) (numbers : List ℤ) (i : ℕ) (e : List ℕ) → length e ≡ n → i + total e ≡ m
-    → polar n m (terms c (monomials n m) numbers) (taken (units n) (i ∷ e)) ≡ getD numbers (4 * placeOf e (monomials n m) + c) (pos 0) *ℤ pos (scale n m / multinomial m e)
-unfolding polar
-standard n m c numbers i e l t =
-    one-left (λ x. pos (scale n m / multinomial m x)) (σ (suc n) (taken (units n) (i ∷ e))) c e (monomials n m) numbers
-    (λ x q. σ-units n i e x l (monomials-total n m x q .0)) (monomials-distinct n m) (member-monomials n m e l (omega arith))
+-- the points of an entry over the frames of the coordinates, Z first in each
+abbrev pub unitsTaken : List Group → List (List ℕ) → List (List Point)
+unitsTaken [] es = []
+unitsTaken (g ∷ gs) es = taken (units (g .dimension)) (head es) ∷ unitsTaken gs (tail es)
+
+-- the exponents of an entry: Z has none
+abbrev pub exponentsOf : List (List ℕ) → List Exponents
+exponentsOf es = map (λ e. drop 1 e) es
+
+-- the place of a monomial
+abbrev pub monomialPlace : List Group → List Exponents → ℕ
+monomialPlace [] es = 0
+monomialPlace (g ∷ gs) es = placeOf (head es) (monomials (g .dimension) (g .degree)) * length (monomialsOver gs) + monomialPlace gs (tail es)
+
+-- the first group's σ is 1 at e and 0 elsewhere; W is what else multiplies a coefficient
+module _ (g : Group) (gs : List Group) (W : List Exponents → ℤ) (i : ℕ) (e : List ℕ) (es : List (List ℕ)) where
+  abbrev with-only : List Exponents → ℤ
+  with-only x = W x *ℤ (only e (head x) *ℤ σOver gs (unitsTaken gs es) (tail x))
+
+  is-only : length e ≡ g .dimension → (x : List Exponents) → List·Memᴰ x (pairs (monomials (g .dimension) (g .degree)) (monomialsOver gs))
+      → W x *ℤ σOver (g ∷ gs) (unitsTaken (g ∷ gs) ((i ∷ e) ∷ es)) x ≡ with-only x
+  is-only l x m =
+      let r = of-pairs (monomials (g .dimension) (g .degree)) (monomialsOver gs) m in
+      ap (λ s. W x *ℤ (s *ℤ σOver gs (unitsTaken gs es) (tail x)))
+      (subst (λ y. σ (suc (g .dimension)) (taken (units (g .dimension)) (i ∷ e)) (head y) ≡ only e (head y)) (r .4)
+      (σ-units (g .dimension) i e (r .0) l (monomials-total (g .dimension) (g .degree) (r .0) (r .2) .0)))
+
+  others : (x : Exponents) → same e x ≡ false → (ys : List Exponents) → with-only (x ∷ ys) ≡ pos 0
+  others x q ys =
+      ap (λ b. W (x ∷ ys) *ℤ (cond b (pos 1) (pos 0) *ℤ σOver gs (unitsTaken gs es) ys)) q
+      ∙ ring (W (x ∷ ys) ∷ σOver gs (unitsTaken gs es) ys ∷ []) (search ring-rules depth 60) tt
+
+  at-e : (ys : List Exponents) → with-only (e ∷ ys) ≡ W (e ∷ ys) *ℤ σOver gs (unitsTaken gs es) ys
+  at-e ys =
+      ap (λ b. W (e ∷ ys) *ℤ (cond b (pos 1) (pos 0) *ℤ σOver gs (unitsTaken gs es) ys)) (same-refl e)
+      ∙ ring (W (e ∷ ys) ∷ σOver gs (unitsTaken gs es) ys ∷ []) (search ring-rules depth 60) tt
+
+left-over : (gs : List Group) (c : ℕ) (W : List Exponents → ℤ) (numbers : List ℤ) (es : List (List ℕ)) → Counted gs es
+    → summed c (λ x. W x *ℤ σOver gs (unitsTaken gs es) x) (monomialsOver gs) numbers ≡ getD numbers (4 * monomialPlace gs (exponentsOf es) + c) (pos 0) *ℤ W (exponentsOf es)
+unfolding monomialsOver
+left-over [] c W numbers [] counted = ring (getD numbers c (pos 0) ∷ W [] ∷ []) (search ring-rules depth 60) tt ∙ ap (λ i. getD numbers i (pos 0) *ℤ W []) (sym first-place)
+  where
+    first-place : 4 * 0 + c ≡ c
+    first-place = omega arith
+left-over [] c W numbers (e ∷ es) counted = absurd counted
+left-over (g ∷ gs) c W numbers [] counted = absurd counted
+left-over (g ∷ gs) c W numbers ([] ∷ es) counted = absurd (wrong (counted .0))
+  where
+    wrong : 0 ≡ suc (g .dimension) → ⊥
+    wrong w = omega arith
+left-over (g ∷ gs) c W numbers ((i ∷ e) ∷ es) counted =
+    let start = 4 * (placeOf e (monomials (g .dimension) (g .degree)) * length (monomialsOver gs)) in
+    summed-members c (λ x. W x *ℤ σOver (g ∷ gs) (unitsTaken (g ∷ gs) ((i ∷ e) ∷ es)) x) (with-only g gs W i e es) (pairs (monomials (g .dimension) (g .degree)) (monomialsOver gs)) numbers (is-only g gs W i e es own-length)
+    ∙ one-left c (with-only g gs W i e es) e (monomialsOver gs) (others g gs W i e es) (monomials (g .dimension) (g .degree)) numbers (monomials-distinct (g .dimension) (g .degree))
+    (member-monomials (g .dimension) (g .degree) e own-length own-total)
+    ∙ summed-members c (λ ys. with-only g gs W i e es (e ∷ ys)) (λ ys. W (e ∷ ys) *ℤ σOver gs (unitsTaken gs es) ys) (monomialsOver gs) (drop start numbers) (λ ys m. at-e g gs W i e es ys)
+    ∙ left-over gs c (λ ys. W (e ∷ ys)) (drop start numbers) es (counted .2)
+    ∙ ap (λ z. z *ℤ W (e ∷ exponentsOf es))
+    (getD-drop start numbers (4 * monomialPlace gs (exponentsOf es) + c) (pos 0)
+    ∙ ap (λ j. getD numbers j (pos 0)) (join-place (placeOf e (monomials (g .dimension) (g .degree)) * length (monomialsOver gs)) (monomialPlace gs (exponentsOf es))))
+  where
+    own-length : length e ≡ g .dimension
+    own-length = let l = counted .0 in omega arith
+
+    own-total : total e ≤ g .degree
+    own-total = let t = counted .1 in omega arith
+
+    join-place : (x y : ℕ) → 4 * x + (4 * y + c) ≡ 4 * (x + y) + c
+    join-place x y = omega arith
+
+-- over the frames of the coordinates the scaled polar value is the scaled coefficient
+pub standard : (gs : List Group) (c : ℕ) (numbers : List ℤ) (es : List (List ℕ)) → Counted gs es
+    → polarOver gs (terms c (monomialsOver gs) numbers) (unitsTaken gs es)
+    ≡ getD numbers (4 * monomialPlace gs (exponentsOf es) + c) (pos 0) *ℤ pos (scaleOver gs / multinomialOver gs (exponentsOf es))
+unfolding polarOver
+standard gs c numbers es counted =
+    sum-cong (λ t. *ℤ-assoc (t .coefficient) (pos (scaleOver gs / multinomialOver gs (t .exponents))) (σOver gs (unitsTaken gs es) (t .exponents))) (terms c (monomialsOver gs) numbers)
+    ∙ left-over gs c (λ x. pos (scaleOver gs / multinomialOver gs x)) numbers es counted
 
 -- ---- the places of the monomials
 

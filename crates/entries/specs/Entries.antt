@@ -1,13 +1,14 @@
 -- The entries of a net as a list of numbers, and the polar values that they fix (document 01, 'Frame and first net' and 'Moves and points').
--- A net over 1 + n vertices of degree m holds four numbers, x, y, z, w, for each of its entries, in the order of `counts n m`.
+-- A net holds four numbers, x, y, z, w, for each of its entries, in the order of `countsOver`.
 use Prim.Native.Nat.{ℕ, zero, suc, _+_, _*_}
 use mathlib.Core.Bool.{Bool, true, false, not, cond}
 use mathlib.Core.List.{List, [], _∷_, map}
 use lib.IntN.{ℤ, pos, negℤ, _*ℤ_}
 use lib.Dec.{eqb}
-use lib.ListN.{getD, set}
+use lib.ListN.{length, getD, set, drop, replicate}
 use Rattle.integers.specs.Sum.{sum, upto}
 use Rattle.polar.specs.Order.{joined, counts}
+use Rattle.polar.specs.Groups.{Group, head, tail, countsOver}
 
 -- whether two lists of numbers are the same
 abbrev pub same : List ℕ → List ℕ → Bool
@@ -20,14 +21,6 @@ same (x ∷ xs) (y ∷ ys) = cond (eqb x y) (same xs ys) false
 abbrev pub placeOf : List ℕ → List (List ℕ) → ℕ
 placeOf e [] = 0
 placeOf e (x ∷ xs) = cond (same e x) 0 (suc (placeOf e xs))
-
--- component c of the entry with counts e, of a net's numbers
-unfoldable pub entryAt : ℕ → ℕ → List ℤ → ℕ → List ℕ → ℤ
-entryAt n m numbers c e = getD numbers (4 * placeOf e (counts n m) + c) (pos 0)
-
--- the numbers of the net whose component c of the entry with counts e is g c e
-unfoldable pub listed : ℕ → ℕ → (ℕ → List ℕ → ℤ) → List ℤ
-listed n m g = joined (λ e. map (λ c. g c e) (upto 4)) (counts n m)
 
 -- one more copy of vertex v
 abbrev pub raise : ℕ → List ℕ → List ℕ
@@ -42,14 +35,50 @@ unfoldable pub fixed : ℕ → List ℤ → (List ℕ → ℤ) → ℕ → List 
 fixed d ws f zero e = f e
 fixed d ws f (suc h) e = sum (λ v. getD ws v (pos 0) *ℤ fixed d ws f h (raise v e)) (upto d)
 
--- after vertex v is replaced by q: the copies of v are copies of q
-abbrev pub replaced : ℕ → List ℤ → ℕ → (List ℕ → ℤ) → List ℕ → ℤ
-replaced d ws v f e = fixed d ws f (getD e v 0) (set e v 0)
-
 abbrev pub odd : ℕ → Bool
 odd zero = false
 odd (suc n) = not (odd n)
 
--- after vertex v is flipped: the sign changes where v is taken an odd number of times
-abbrev pub flipped : ℕ → (List ℕ → ℤ) → List ℕ → ℤ
-flipped v f e = cond (odd (getD e v 0)) (negℤ (f e)) (f e)
+-- ---- over groups: the counts of an entry are a list of counts for each group
+
+-- how many numbers a net has, four for each entry
+abbrev pub numberCount : List Group → ℕ
+numberCount gs = 4 * length (countsOver gs)
+
+-- the place of an entry: the entries go by the first group's counts, and with the same ones of it by those of the groups after it
+abbrev pub placeOver : List Group → List (List ℕ) → ℕ
+placeOver [] es = 0
+placeOver (g ∷ gs) es = placeOf (head es) (counts (g .dimension) (g .degree)) * length (countsOver gs) + placeOver gs (tail es)
+
+-- component c of the entry with counts es, of a net's numbers
+unfoldable pub entryOver : List Group → List ℤ → ℕ → List (List ℕ) → ℤ
+entryOver gs numbers c es = getD numbers (4 * placeOver gs es + c) (pos 0)
+
+-- the numbers of the net whose component c of the entry with counts es is f c es
+unfoldable pub listedOver : List Group → (ℕ → List (List ℕ) → ℤ) → List ℤ
+listedOver gs f = joined (λ es. map (λ c. f c es) (upto 4)) (countsOver gs)
+
+-- The polar values that a net's entries fix. f is one component of the entries. In each group a point q is taken besides the vertices, which the group's weights name:
+-- the counts of a group say first how often q is taken, then how often each vertex.
+unfoldable pub fixedOver : List Group → List (List ℤ) → (List (List ℕ) → ℤ) → List (List ℕ) → ℤ
+fixedOver [] weights f es = f []
+fixedOver (g ∷ gs) weights f es =
+    fixedOver gs (tail weights) (λ rest. fixed (suc (g .dimension)) (head weights) (λ e. f (e ∷ rest)) (getD (head es) 0 0) (drop 1 (head es))) (tail es)
+
+-- an entry's counts, q being taken in no group
+abbrev pub noneOfQ : List (List ℕ) → List (List ℕ)
+noneOfQ es = map (λ e. 0 ∷ e) es
+
+-- the same, but the copies of vertex v of group i are copies of its q
+abbrev pub asQ : ℕ → ℕ → List (List ℕ) → List (List ℕ)
+asQ i v [] = []
+asQ zero v (e ∷ es) = (getD e v 0 ∷ set e v 0) ∷ noneOfQ es
+asQ (suc i) v (e ∷ es) = (0 ∷ e) ∷ asQ i v es
+
+-- every point is q
+abbrev pub onlyQ : List Group → List (List ℕ)
+onlyQ gs = map (λ g. g .degree ∷ replicate (suc (g .dimension)) 0) gs
+
+-- after vertex v of group i is flipped: the sign changes where it is taken an odd number of times
+abbrev pub flippedOver : ℕ → ℕ → (List (List ℕ) → ℤ) → List (List ℕ) → ℤ
+flippedOver i v f es = cond (odd (getD (getD es i []) v 0)) (negℤ (f es)) (f es)

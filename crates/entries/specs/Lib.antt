@@ -1,2 +1,4 @@
 pub mod Frame
+pub mod Form
 pub mod Entries
+pub mod Rows

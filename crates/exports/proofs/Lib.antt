@@ -1,3 +1,2 @@
 mod Places
-mod Bytes
-mod Cases
+pub mod Demand3

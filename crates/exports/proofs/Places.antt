@@ -1,58 +1,63 @@
--- Writes into the first places of a list, and the part behind them that holds the entries. A few writes at 0, 1, .. are seen by taking the list apart.
-use Prim.Native.Nat.{ℕ, suc, _+_, _≤_}
+-- Weights read back from their bits, writes into the first three places of a list, and what comes back from a projection in each case of the code's tests.
+use Prim.Native.Nat.{ℕ, _≤_, _<_}
 use native.Mathlib.Omega.{arith}
-use mathlib.Core.Path.{_≡_, refl, sym, ap, _∙_}
-use mathlib.Core.List.{List, [], _∷_, _++_}
+use mathlib.Core.Path.{_≡_, refl, sym, ap, ap₂}
+use mathlib.Core.Bool.{Bool, true, false, cond, _&&_}
+use mathlib.Core.List.{List, [], _∷_}
+use borrow.Author.Tests.{le-leb, lt-leb}
+use lib.Dec.{leb}
 use lib.IntN.{ℤ, pos}
-use lib.ListN.{length, getD, set, take, drop, length-drop}
-use lib.Seq.{drop-cons, length-take-le}
-use Rattle.machine.specs.Lent.{placed}
+use lib.ListN.{length, set}
+use mir.Syntax.{w64}
+use mir.Val.{SFits}
+use Rattle.integers.proofs.Signed.{seen, back-fits}
+use Rattle.projection.specs.Projection.{coordinateBits, directionNumbers}
+use Rattle.projection.specs.declared.Projection.{Projection}
+use Rattle.machine.specs.Lent.{putAt}
+use Rattle.machine.specs.declared.Weights.{Weights}
+use Rattle.exports.specs.Projections.{projectionNumber, ProjectionReturned, projectionReturned}
 
--- ---- two, three and four writes
+-- three weights as they are handed on, the fourth being 0
+abbrev pub threeWeights : ℤ → ℤ → ℤ → Weights
+threeWeights r s t = record { r = r; s = s; t = t; u = pos 0 }
 
-pub two-set : {A : Type 0} (xs : List A) (a b : A) → 2 ≤ length xs → set (set xs 0 a) 1 b ≡ placed (a ∷ b ∷ []) xs
-two-set [] a b h = absurd (omega arith)
-two-set (x ∷ []) a b h = absurd (omega arith)
-two-set (x ∷ y ∷ xs) a b h = refl
+pub weights-back : {r s t : ℤ} → SFits w64 r → SFits w64 s → SFits w64 t → threeWeights (seen r) (seen s) (seen t) ≡ threeWeights r s t
+weights-back r s t = λ i. threeWeights (back-fits r i) (back-fits s i) (back-fits t i)
 
-pub three-set : {A : Type 0} (xs : List A) (a b c : A) → 3 ≤ length xs → set (set (set xs 0 a) 1 b) 2 c ≡ placed (a ∷ b ∷ c ∷ []) xs
+-- three writes, seen by taking the list apart
+pub three-set : {A : Type 0} (xs : List A) (a b c : A) → 3 ≤ length xs → set (set (set xs 0 a) 1 b) 2 c ≡ putAt 0 (a ∷ b ∷ c ∷ []) xs
 three-set [] a b c h = absurd (omega arith)
 three-set (x ∷ []) a b c h = absurd (omega arith)
 three-set (x ∷ y ∷ []) a b c h = absurd (omega arith)
 three-set (x ∷ y ∷ z ∷ xs) a b c h = refl
 
--- ---- the part that holds the entries
+-- ---- what comes back from a projection
 
-pub part-length : (lent : List ℤ) → 182 ≤ length lent → length (take 180 (drop 2 lent)) ≡ 180
-part-length lent long = length-take-le 180 (drop 2 lent) (let d = length-drop 2 lent in omega arith)
+-- the three clauses of the contract
+abbrev pub Projects : Projection → List ℕ → List ℤ → ℕ → List ℕ → List ℤ → Type 0
+Projects p bits direction number bits' direction' =
+    let told = projectionReturned p bits direction in
+    (number ≡ told .number) × ((bits' ≡ told .bits) × (direction' ≡ told .direction))
 
--- kind and degree put in front of the entries, which stand in their places already
-pub head-put : (lent entries : List ℤ) (a b : ℤ) → 2 ≤ length lent → length entries ≡ 180
-    → placed (a ∷ b ∷ []) (take 2 lent ++ (entries ++ drop 182 lent)) ≡ placed (a ∷ b ∷ entries) lent
-head-put [] entries a b h long = absurd (omega arith)
-head-put (x ∷ []) entries a b h long = absurd (omega arith)
-head-put (x ∷ y ∷ lent) entries a b h long = ap (λ k. a ∷ b ∷ (entries ++ drop k (x ∷ y ∷ lent))) (sym two-more)
-  where
-    two-more : suc (suc (length entries)) ≡ 182
-    two-more = omega arith
+module _ (p : Projection) (bits : List ℕ) (direction : List ℤ) where
+  abbrev told : ProjectionReturned
+  told = record { number = projectionNumber p; bits = putAt 0 (coordinateBits p) bits; direction = putAt 0 (directionNumbers p) direction }
 
--- nine numbers, one by one
-pub nine-taken : (xs : List ℤ) → 9 ≤ length xs
-    → getD xs 0 (pos 0) ∷ getD xs 1 (pos 0) ∷ getD xs 2 (pos 0) ∷ getD xs 3 (pos 0) ∷ getD xs 4 (pos 0) ∷ getD xs 5 (pos 0) ∷ getD xs 6 (pos 0) ∷ getD xs 7 (pos 0) ∷ getD xs 8 (pos 0) ∷ []
-    ≡ take 9 xs
-nine-taken xs h =
-    sym
-    (one xs 8 h
-    ∙ ap (λ l. getD xs 0 (pos 0) ∷ l)
-    (at 1 7 h ∙ ap (λ l. getD xs 1 (pos 0) ∷ l)
-    (at 2 6 h ∙ ap (λ l. getD xs 2 (pos 0) ∷ l)
-    (at 3 5 h ∙ ap (λ l. getD xs 3 (pos 0) ∷ l)
-    (at 4 4 h ∙ ap (λ l. getD xs 4 (pos 0) ∷ l)
-    (at 5 3 h ∙ ap (λ l. getD xs 5 (pos 0) ∷ l) (at 6 2 h ∙ ap (λ l. getD xs 6 (pos 0) ∷ l) (at 7 1 h ∙ ap (λ l. getD xs 7 (pos 0) ∷ l) (at 8 0 h)))))))))
-  where
-    one : (l : List ℤ) (k : ℕ) → suc k ≤ length l → take (suc k) l ≡ getD l 0 (pos 0) ∷ take k (drop 1 l)
-    one [] k b = absurd (omega arith)
-    one (x ∷ l) k b = refl
+  abbrev untold : ProjectionReturned
+  untold = record { number = 11; bits = bits; direction = direction }
 
-    at : (i k : ℕ) → i + suc k ≤ length xs → take (suc k) (drop i xs) ≡ getD xs i (pos 0) ∷ take k (drop (suc i) xs)
-    at i k b = ap (take (suc k)) (drop-cons xs i (pos 0) (omega arith))
+  by-room : (t : Bool) → (leb 3 (length bits) && leb 3 (length direction)) ≡ t → cond t told untold ≡ projectionReturned p bits direction
+  unfolding projectionReturned
+  by-room t is = sym (ap (λ b. cond b told untold) is)
+
+  clauses : (r : ProjectionReturned) → r ≡ projectionReturned p bits direction → Projects p bits direction (r .number) (r .bits) (r .direction)
+  clauses r e = (ap (λ x. x .number) e, (ap (λ x. x .bits) e, ap (λ x. x .direction) e))
+
+  pub bits-short : length bits < 3 → Projects p bits direction 11 bits direction
+  bits-short few = clauses untold (by-room false (ap (λ b. b && leb 3 (length direction)) (lt-leb 3 (length bits) few)))
+
+  pub direction-short : 3 ≤ length bits → length direction < 3 → Projects p bits direction 11 bits direction
+  direction-short enough few = clauses untold (by-room false (ap₂ _&&_ (le-leb 3 (length bits) enough) (lt-leb 3 (length direction) few)))
+
+  pub projected : 3 ≤ length bits → 3 ≤ length direction → Projects p bits direction (projectionNumber p) (putAt 0 (coordinateBits p) bits) (putAt 0 (directionNumbers p) direction)
+  projected enough more = clauses told (by-room true (ap₂ _&&_ (le-leb 3 (length bits) enough) (le-leb 3 (length direction) more)))

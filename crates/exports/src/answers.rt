@@ -5,8 +5,8 @@ ghost use mathlib.Core.List.{[], _∷_};
 ghost use lib.ListN.{length};
 ghost use lib.Ieee.{binary64, toBits};
 ghost use Rattle.projection.specs.Projection.{coordinateBits, directionNumbers};
-ghost use Rattle.machine.specs.Lent.{placed};
-ghost use Rattle.exports.specs.Lent.{projectionNumber};
+ghost use Rattle.machine.specs.Lent.{putAt};
+ghost use Rattle.exports.specs.Projections.{projectionNumber};
 use projection::Coords;
 use projection::Projection;
 use projection::bits;
@@ -14,7 +14,7 @@ use projection::bits;
 // The bit patterns of a finite point, into the first three places.
 fn put_bits(patterns: &mut [u64], p: Coords)
     requires { ⌜ 3 ≤ length (now patterns) ⌝ }
-    ensures { λ _. ⌜ now (patterns .exit) ≡ placed (toBits binary64 (p .x) ∷ toBits binary64 (p .y) ∷ toBits binary64 (p .z) ∷ []) (now (patterns .entry)) ⌝ }
+    ensures { λ _. ⌜ now (patterns .exit) ≡ putAt 0 (toBits binary64 (p .x) ∷ toBits binary64 (p .y) ∷ toBits binary64 (p .z) ∷ []) (now (patterns .entry)) ⌝ }
 {
     patterns[0] = bits(p.x);
     patterns[1] = bits(p.y);
@@ -24,7 +24,7 @@ fn put_bits(patterns: &mut [u64], p: Coords)
 // The numbers of a direction, into the first three places.
 fn put_direction(direction: &mut [i64], x: i64, y: i64, z: i64)
     requires { ⌜ 3 ≤ length (now direction) ⌝ }
-    ensures { λ _. ⌜ now (direction .exit) ≡ placed (x ∷ y ∷ z ∷ []) (now (direction .entry)) ⌝ }
+    ensures { λ _. ⌜ now (direction .exit) ≡ putAt 0 (x ∷ y ∷ z ∷ []) (now (direction .entry)) ⌝ }
 {
     direction[0] = x;
     direction[1] = y;
@@ -39,8 +39,8 @@ pub(crate) fn write_projection(
 ) -> u8
     requires { ⌜ (3 ≤ length (now patterns)) × (3 ≤ length (now direction)) ⌝ }
     ensures number { λ r. ⌜ r ≡ projectionNumber projection ⌝ }
-    ensures patterns { λ _. ⌜ now (patterns .exit) ≡ placed (coordinateBits projection) (now (patterns .entry)) ⌝ }
-    ensures direction { λ _. ⌜ now (direction .exit) ≡ placed (directionNumbers projection) (now (direction .entry)) ⌝ }
+    ensures patterns { λ _. ⌜ now (patterns .exit) ≡ putAt 0 (coordinateBits projection) (now (patterns .entry)) ⌝ }
+    ensures direction { λ _. ⌜ now (direction .exit) ≡ putAt 0 (directionNumbers projection) (now (direction .entry)) ⌝ }
 {
     match projection {
         Projection::Finite(p) => {

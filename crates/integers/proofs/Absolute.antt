@@ -8,13 +8,9 @@ use lib.Dec.{T}
 use lib.IntN.{ℤ, pos, negsuc, negℤ, natAbs, sucℤ, _+ℤ_, _-ℤ_, +ℤ-sucℤ, +ℤ-idl, +ℤ-idr, negℤ-negℤ}
 use lib.Signed.{mag, ltZ, nonNeg}
 use mir.Syntax.{w64}
-use mir.Val.{Fits, SFits, toZ, ofZ}
+use mir.Val.{Fits, SFits}
 use Rattle.integers.proofs.Laws.{natAbs-neg}
-use Rattle.integers.proofs.Signed.{fits-abs, back-fits}
-
--- a number as the machine reads it back from its bits
-abbrev pub seen : ℤ → ℤ
-seen v = toZ w64 (ofZ w64 v)
+use Rattle.integers.proofs.Signed.{seen, fits-abs, back-fits}
 
 -- ---- one above a number below 0, and its negative
 

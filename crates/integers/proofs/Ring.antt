@@ -297,29 +297,3 @@ ring ρ (e-both e f) t = solve e f t
 -- an equation that follows from another one, h: the difference of its sides is k times that of h's sides
 pub ring-from : {x y u v : ℤ} (k : ℤ) → u ≡ v → x -ℤ y ≡ k *ℤ (u -ℤ v) → x ≡ y
 ring-from {x} {y} {u} {v} k h e = difference-zero x y (e ∙ ap (λ z. k *ℤ (z -ℤ v)) h ∙ ap (λ z. k *ℤ z) (+ℤ-invr v) ∙ *ℤ-zero k)
-
--- ---- examples
-
-square : (a b : ℤ) → (a +ℤ b) *ℤ (a +ℤ b) ≡ a *ℤ a +ℤ pos 2 *ℤ a *ℤ b +ℤ b *ℤ b
-square a b = ring (a ∷ b ∷ []) (search ring-rules depth 60) tt
-
-negations : (a b c : ℤ) → negℤ (a -ℤ b) *ℤ c ≡ b *ℤ c -ℤ a *ℤ c
-negations a b c = ring (a ∷ b ∷ c ∷ []) (search ring-rules depth 60) tt
-
-numerals : (a b : ℤ) → pos 3 *ℤ (a -ℤ b) +ℤ pos 5 ≡ negsuc 2 *ℤ b +ℤ (a +ℤ a +ℤ a) -ℤ negsuc 4
-numerals a b = ring (a ∷ b ∷ []) (search ring-rules depth 60) tt
-
--- an atom may be any term
-opaque-atoms : (f : ℕ → ℤ) (g : ℤ → ℤ) (x y : ℕ) → (f x -ℤ g (f y)) *ℤ (f x +ℤ g (f y)) ≡ f x *ℤ f x -ℤ g (f y) *ℤ g (f y)
-opaque-atoms f g x y = ring (f x ∷ g (f y) ∷ []) (search ring-rules depth 60) tt
-
-natural-atoms : (m n : ℕ) (a : ℤ) → pos m *ℤ (a +ℤ pos n) ≡ a *ℤ pos m +ℤ pos m *ℤ pos (suc n) -ℤ pos m
-natural-atoms m n a = ring (pos m ∷ pos n ∷ a ∷ []) (search ring-rules depth 60) tt
-
--- eight variables in degree 3
-eight : (a b c d e f g h : ℤ) → (a +ℤ b +ℤ c +ℤ d) *ℤ (e +ℤ f +ℤ g +ℤ h) *ℤ (a -ℤ e) ≡ (h +ℤ g +ℤ f +ℤ e) *ℤ (a *ℤ (a +ℤ b +ℤ c +ℤ d) -ℤ e *ℤ (d +ℤ c +ℤ b +ℤ a))
-eight a b c d e f g h = ring (a ∷ b ∷ c ∷ d ∷ e ∷ f ∷ g ∷ h ∷ []) (search ring-rules depth 60) tt
-
--- from an equation: 3 times h
-tripled : (a b c : ℤ) → a +ℤ b ≡ c → pos 3 *ℤ a -ℤ c ≡ pos 2 *ℤ c -ℤ pos 3 *ℤ b
-tripled a b c h = ring-from (pos 3) h (ring (a ∷ b ∷ c ∷ []) (search ring-rules depth 60) tt)

@@ -1,9 +1,9 @@
 -- The laws of sums: each is an induction on the list, with the ring's laws at each step.
 use mathlib.Core.Path.{_≡_, refl, sym, _∙_, ap, ap₂}
-use mathlib.Core.List.{List, [], _∷_, _++_, map, List·Memᴰ, List·Memᴰ·head, List·Memᴰ·tail, List·Memᴰ·not-nil, List·Memᴰ·cases-cons}
+use mathlib.Core.List.{List, [], _∷_, _++_, map, List·Memᴰ, List·Memᴰ·head, List·Memᴰ·tail, List·Memᴰ·not-nil, List·Memᴰ·cases-cons, Memᴰ·map}
 use mathlib.Core.Logic.{_⊎_, inl, inr}
 use Prim.Native.Nat.{ℕ, zero, suc, _+_, _*_, _≤_, _<_, zero-le}
-use native.Mathlib.Nat.{suc-mul}
+use native.Mathlib.Nat.{suc-mul, le-of-suc-le-suc, not-suc-le-zero}
 use native.Mathlib.Omega.{arith}
 use lib.ListN.{length, length-map}
 use lib.IntN.{ℤ, pos, negℤ, natAbs, _+ℤ_, _*ℤ_, +ℤ-assoc, +ℤ-idl, +ℤ-idr, *ℤ-zero, zero-*ℤ, negℤ-+ℤ}
@@ -90,7 +90,12 @@ below-map n (x ∷ xs) h j m = by-case (below-map n xs (λ i k. h i (List·Mem�
     by-case rest (inl e) = let l : x < n = h x (List·Memᴰ·head refl) in omega arith
     by-case rest (inr k) = rest j k
 
--- the members of `upto n` are below n
+-- the numbers below n are the members of `upto n`
+pub below-upto : (n i : ℕ) → i < n → List·Memᴰ i (upto n)
+below-upto zero i h = absurd (not-suc-le-zero h)
+below-upto (suc n) zero h = List·Memᴰ·head refl
+below-upto (suc n) (suc i) h = List·Memᴰ·tail (Memᴰ·map suc (below-upto n i (le-of-suc-le-suc h)))
+
 pub upto-below : (n i : ℕ) → List·Memᴰ i (upto n) → i < n
 upto-below zero i m = absurd (List·Memᴰ·not-nil m)
 upto-below (suc n) i m = by-case (upto-below n) (List·Memᴰ·cases-cons m)

@@ -1,5 +1,6 @@
--- Tests on integers that compute: equality, and a range about zero.
-use mathlib.Core.Bool.{Bool, false}
+-- Tests that compute: equality of integers, a limit of the absolute value, and a test of every member of a list.
+use mathlib.Core.Bool.{Bool, true, false, _&&_}
+use mathlib.Core.List.{List, [], _∷_}
 use Prim.Native.Nat.{ℕ}
 use lib.Dec.{eqb, leb}
 use lib.IntN.{ℤ, pos, negsuc, natAbs}
@@ -10,6 +11,11 @@ eqZ (pos m) (negsuc n) = false
 eqZ (negsuc m) (pos n) = false
 eqZ (negsuc m) (negsuc n) = eqb m n
 
--- -N ≤ z ≤ N
-abbrev pub inRange : ℕ → ℤ → Bool
-inRange N z = leb (natAbs z) N
+-- at most the limit in absolute value
+abbrev pub within : ℕ → ℤ → Bool
+within limit v = leb (natAbs v) limit
+
+-- whether all members of a list pass a test
+abbrev pub all : {A : Type 0} → (A → Bool) → List A → Bool
+all test [] = true
+all test (x ∷ xs) = test x && all test xs

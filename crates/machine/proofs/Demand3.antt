@@ -1,68 +1,123 @@
--- Demand 3: along the list, the net is always the net over the comparison machine's frame, by the agreement at each single call.
-use Prim.Native.Nat.{suc}
+-- Demand 3: along the list, the net is always the net over the comparison machine's frames, by the agreement at each single call.
+use Prim.Native.Nat.{ℕ, suc, _*_}
+use native.Mathlib.Omega.{arith}
 use mathlib.Core.Path.{_≡_, refl, sym, ap, ap₂, _∙_}
+use mathlib.Core.Logic.{_↔_}
+use mathlib.Core.Bool.{Bool, true, false}
 use mathlib.Core.List.{List, [], _∷_}
-use lib.IntN.{ℤ}
-use lib.ListN.{length-map}
+use lib.IntN.{ℤ, natAbs}
+use lib.ListN.{drop, length-map}
+use borrow.Author.Tests.{leb-true, leb-false}
 use Rattle.integers.specs.Sum.{upto}
-use Rattle.integers.proofs.Sums.{length-upto}
-use Rattle.machine.specs.Kinds.{further, known, unless, firstOf}
-use Rattle.machine.specs.Comparison.{Polynomials, Frame, machineStep, netOver}
-use Rattle.machine.specs.Lists.{netAfter, netAnswers, frameAfter, machineAnswers}
-use Rattle.machine.specs.First.{frameOf, frameIn, coefficientsIn, netIn, firstRefusal}
-use Rattle.machine.specs.Demand3.{start, startFrame, EveryList, SameFrame}
+use Rattle.integers.proofs.Sums.{length-upto, upto-below}
+use Rattle.polar.specs.Groups.{Group}
+use Rattle.entries.proofs.Groups.{Framed}
+use Rattle.projection.specs.Projection.{limit, inRange}
+use Rattle.machine.specs.Refusals.{_else_, firstFailed, allPass}
+use Rattle.integers.specs.Test.{all}
+use Rattle.integers.proofs.All.{all-fails}
+use Rattle.kinds.specs.Frames.{Frames, frameOf, framesOf}
+use Rattle.machine.specs.Calls.{beforeSize}
+use Rattle.machine.specs.Sizes.{namedBy, allNamed, callTests}
+use Rattle.machine.specs.Steps.{Refused, refusalNumber, foundAt, stepBy, after, answers}
+use Rattle.machine.specs.Nets.{stepOf}
+use Rattle.machine.specs.Comparison.{Polynomials, groups, machinePolar, machineAccepted, machineStep, netOver}
+use Rattle.machine.specs.First.{firstTests, firstRefusal}
+use Rattle.machine.specs.Demand3.{Beyond, framesReached, Demand3}
 use Rattle.machine.specs.declared.Call.{Call}
-use Rattle.machine.proofs.All.{first-none, unless-none}
-use Rattle.machine.proofs.Over.{Reached, call-agrees}
+use Rattle.machine.specs.declared.Call.the-variants as call
+use Rattle.machine.proofs.Refusals.{none-failed, passed-first, row-passes}
+use Rattle.machine.proofs.Over.{Reached, named-at, call-agrees}
 
 -- ---- along a list
 
-pub nets-agree : (f : Polynomials) (frame : Frame) → Reached f frame → (calls : List Call) → netAfter (netOver f frame) calls ≡ netOver f (frameAfter f frame calls)
-unfolding netAfter frameAfter
-nets-agree f frame at [] = refl
-nets-agree f frame at (c ∷ cs) =
-    let a = call-agrees f frame at c in
-    ap (λ n. netAfter n cs) (a .nets) ∙ nets-agree f (machineStep f frame c .frame) (a .reached) cs
+pub record Along (f : Polynomials) (frames : Frames) (calls : List Call) : Type 0 where
+  pub nets : after stepOf (netOver f frames) calls ≡ netOver f (after (machineStep f) frames calls)
+  pub answered : answers stepOf (netOver f frames) calls ≡ answers (machineStep f) frames calls
+  pub reached : Reached f (after (machineStep f) frames calls)
 
-pub answers-agree : (f : Polynomials) (frame : Frame) → Reached f frame → (calls : List Call) → netAnswers (netOver f frame) calls ≡ machineAnswers f frame calls
-unfolding netAnswers machineAnswers
-answers-agree f frame at [] = refl
-answers-agree f frame at (c ∷ cs) =
-    let a = call-agrees f frame at c in
-    ap₂ _∷_ (a .answers) (ap (λ n. netAnswers n cs) (a .nets) ∙ answers-agree f (machineStep f frame c .frame) (a .reached) cs)
-
-pub reached-after : (f : Polynomials) (frame : Frame) → Reached f frame → (calls : List Call) → Reached f (frameAfter f frame calls)
-unfolding frameAfter
-reached-after f frame at [] = at
-reached-after f frame at (c ∷ cs) = reached-after f (machineStep f frame c .frame) (call-agrees f frame at c .reached) cs
+pub along : (f : Polynomials) (frames : Frames) → Reached f frames → (calls : List Call) → Along f frames calls
+unfolding after answers
+along f frames at [] = record { nets = refl; answered = refl; reached = at }
+along f frames at (c ∷ cs) =
+    let one = call-agrees f frames at c in
+    let rest = along f (machineStep f frames c .left) (one .reached) cs in
+    record {
+      nets = ap (λ n. after stepOf n cs) (one .nets) ∙ rest .nets;
+      answered = ap₂ _∷_ (one .answers) (ap (λ n. answers stepOf n cs) (one .nets) ∙ rest .answered);
+      reached = rest .reached;
+    }
 
 -- ---- the start
 
-module _ (f : Polynomials) (numbers : List ℤ) (ok : firstRefusal f numbers ≡ 0) where
-  pub start-reached : Reached f (startFrame f numbers)
-  unfolding frameOf firstRefusal
-  start-reached =
-      let d = suc (further (f .kind)) in
-      let one = first-none (unless (known (f .kind) (f .degree)) 4) (firstOf (unless (frameIn d numbers) 5) (firstOf (unless (coefficientsIn f) 6) (unless (netIn (netOver f (frameOf d numbers))) 7))) ok in
-      let two = first-none (unless (frameIn d numbers) 5) (firstOf (unless (coefficientsIn f) 6) (unless (netIn (netOver f (frameOf d numbers))) 7)) (one .1) in
-      let three = first-none (unless (coefficientsIn f) 6) (unless (netIn (netOver f (frameOf d numbers))) 7) (two .1) in
-      record {
-        long = length-map (upto d) _ ∙ length-upto d;
-        right = unless-none (known (f .kind) (f .degree)) 3 (one .0);
-        fits = unless-none (netIn (netOver f (frameOf d numbers))) 6 (three .1);
-      }
+-- the frames of the numbers have all vertices
+framed-numbers : (gs : List Group) (numbers : List ℤ) → Framed gs (framesOf gs numbers)
+unfolding framesOf frameOf
+framed-numbers [] numbers = tt
+framed-numbers (g ∷ gs) numbers = (length-map (upto (suc (g .dimension))) _ ∙ length-upto (suc (g .dimension)), framed-numbers gs (drop (suc (g .dimension) * suc (g .dimension)) numbers))
+
+pub start-reached : (f : Polynomials) (numbers : List ℤ) → firstRefusal f numbers ≡ 0 → Reached f (framesOf (groups f) numbers)
+unfolding firstRefusal firstTests
+start-reached f numbers ok =
+    let passed = none-failed (firstTests f numbers) refl .0 ok in
+    record {
+      long = framed-numbers (groups f) numbers;
+      right = row-passes (firstTests f numbers) passed 0;
+      fits = row-passes (firstTests f numbers) passed 3;
+    }
+
+-- ---- sizes
+
+-- an accepted call is not answered by a number of the table
+accepted-number : (f : Polynomials) (frames : Frames) (c : Call) → refusalNumber (machineAccepted f frames c .answer) ≡ 0
+unfolding machineAccepted foundAt
+accepted-number f frames (call.Move operation vertex weights) = refl
+accepted-number f frames (call.Point weights) = refl
+
+-- by whether all named values are in range
+sized-by : (f : Polynomials) (frames : Frames) (c : Call) (b : Bool) → allNamed (namedBy (groups f) c) (machinePolar f frames c) ≡ b
+    → (stepBy (firstFailed (b else 10 ∷ [])) frames (machineAccepted f frames c) .answer ≡ Refused 10) ↔ Beyond f frames c
+unfolding stepBy allNamed
+sized-by f frames c true e = (
+  λ r. absurd (never (sym (accepted-number f frames c) ∙ ap refusalNumber r)),
+  λ (es, i, m, k, beyond).
+      let h = leb-true (natAbs (machinePolar f frames c i es)) limit (named-at (namedBy (groups f) c) (machinePolar f frames c) e i es k m) in
+      absurd (omega arith),
+)
+  where
+    never : _≡_ {A = ℕ} 0 10 → ⊥
+    never w = omega arith
+sized-by f frames c false e = (
+  λ r.
+      let name = all-fails (λ es. all (λ i. inRange (machinePolar f frames c i es)) (upto 4)) (namedBy (groups f) c) e in
+      let component = all-fails (λ i. inRange (machinePolar f frames c i (name .0))) (upto 4) (name .2) in
+      (name .0, component .0, name .1, upto-below 4 (component .0) (component .1), leb-false (natAbs (machinePolar f frames c (component .0) (name .0))) limit (component .2)),
+  λ beyond. refl,
+)
+
+pub sized : (f : Polynomials) (frames : Frames) → Reached f frames → (c : Call) → allPass (beforeSize (groups f) c) ≡ true
+    → (stepOf (netOver f frames) c .answer ≡ Refused 10) ↔ Beyond f frames c
+unfolding machineStep callTests
+sized f frames at c ok =
+    let b = allNamed (namedBy (groups f) c) (machinePolar f frames c) in
+    let step : stepOf (netOver f frames) c .answer ≡ stepBy (firstFailed (b else 10 ∷ [])) frames (machineAccepted f frames c) .answer =
+    call-agrees f frames at c .answers ∙ ap (λ k. stepBy k frames (machineAccepted f frames c) .answer) (passed-first (beforeSize (groups f) c) (b else 10 ∷ []) ok) in
+    let both = sized-by f frames c b refl in
+    (λ r. both .0 (sym step ∙ r), λ beyond. step ∙ both .1 beyond)
 
 -- ---- the theorem
 
-pub every-list : EveryList
-every-list f numbers ok calls = (
-  nets-agree f (startFrame f numbers) (start-reached f numbers ok) calls,
-  answers-agree f (startFrame f numbers) (start-reached f numbers ok) calls,
-)
-
-pub same-frame : SameFrame
-same-frame f numbers ok one other reached =
-    (equal, λ more. ap (λ n. netAnswers n more) equal)
-  where
-    equal : netAfter (start f numbers) one ≡ netAfter (start f numbers) other
-    equal = every-list f numbers ok one .0 ∙ ap (netOver f) reached ∙ sym (every-list f numbers ok other .0)
+pub demand-3 : Demand3
+demand-3 f numbers ok calls =
+    let start = start-reached f numbers ok in
+    let here = along f (framesOf (groups f) numbers) start calls in
+    record {
+      net = here .nets;
+      answered = here .answered;
+      sized = λ c order.
+          let both = sized f (framesReached f numbers calls) (here .reached) c order in
+          (λ r. both .0 (sym (ap (λ n. stepOf n c .answer) (here .nets)) ∙ r), λ beyond. ap (λ n. stepOf n c .answer) (here .nets) ∙ both .1 beyond);
+      same = λ other reached.
+          let equal = along f (framesOf (groups f) numbers) start other .nets ∙ ap (netOver f) reached ∙ sym (here .nets) in
+          (equal, λ more. ap (λ n. answers stepOf n more) equal);
+    }

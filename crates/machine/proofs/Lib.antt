@@ -1,6 +1,6 @@
-pub mod All
+pub mod Refusals
 pub mod Over
 pub mod Demand3
+pub mod Lent
+pub mod Carried
 pub mod Samples
-pub mod Answers
-pub mod Kept

@@ -1,75 +1,51 @@
--- The net over a frame, seen by the net machine: its entries fix the polar values of its polynomials, so it refuses what the comparison machine refuses,
--- and an accepted call leaves the net over the frame that the comparison machine reaches.
+-- The net over frames, seen by the net machine: its entries fix the polar values of its polynomials, so it refuses what the comparison machine refuses,
+-- and an accepted call leaves the net over the frames that the comparison machine reaches.
 use Prim.Native.Nat.{ℕ, zero, suc, pred, _+_, _-_, _<_, _≤_}
-use native.Mathlib.Nat.{le-of-suc-le-suc, not-suc-le-zero, zero-add, add-zero}
+use native.Mathlib.Nat.{le-of-suc-le-suc, not-suc-le-zero}
 use native.Mathlib.Omega.{arith}
-use mathlib.Core.Path.{_≡_, refl, sym, ap, ap₂, _∙_, fun-ext, subst}
-use mathlib.Core.Bool.{Bool, true, false, _&&_, cond}
-use mathlib.Core.List.{List, [], _∷_, _++_, map, List·Memᴰ, append-nil}
+use mathlib.Core.Path.{_≡_, refl, sym, ap, ap₂, _∙_, subst}
+use mathlib.Core.Logic.{_⊎_, inl, inr}
+use mathlib.Core.Bool.{Bool, true, false, cond}
+use mathlib.Core.List.{List, [], _∷_, _++_, map, List·Memᴰ, List·Memᴰ·not-nil, List·Memᴰ·append-cases, List·Memᴰ·eq-of-singleton, Memᴰ·map, Memᴰ·of-map}
 use lib.Dec.{eqb, leb, lit≤}
-use lib.IntN.{ℤ, pos, negℤ}
-use lib.ListN.{length, getD, set, take, drop, replicate, length-set}
-use lib.Seq.{take-at, drop-at}
+use lib.IntN.{ℤ, negℤ}
+use lib.ListN.{length, getD, set, replicate, length-set}
+use borrow.Author.Tests.{leb-true, leb-false}
 use Rattle.integers.specs.Sum.{upto}
 use Rattle.integers.proofs.Laws.{natAbs-neg}
-use Rattle.integers.proofs.Sums.{upto-below}
+use Rattle.integers.proofs.Sums.{upto-below, below-upto}
 use Rattle.polar.specs.Sigma.{Point}
-use Rattle.polar.specs.Order.{total, counts, monomials}
-use Rattle.polar.specs.Polar.{polar, terms}
-use Rattle.polar.proofs.Order.{counts-total}
-use Rattle.polar.proofs.Value.{polar-diagonal}
-use Rattle.entries.specs.Frame.{taken}
-use Rattle.entries.specs.Entries.{entryAt, listed, odd}
-use Rattle.entries.proofs.Form.{Form, fixes, put, putting, flipping}
-use Rattle.entries.proofs.Polar.{polar-form}
+use Rattle.polar.specs.Order.{total, counts}
+use Rattle.polar.specs.Groups.{Group, pairs, countsOver, monomialsOver}
+use Rattle.polar.specs.Polar.{terms}
+use Rattle.polar.proofs.Order.{counts-total, all-joined}
+use Rattle.polar.proofs.Value.{of-pairs, polar-diagonal}
+use Rattle.entries.specs.Frame.{vertexAt, takenOver, pointsOver}
+use Rattle.entries.specs.Entries.{listedOver, odd, noneOfQ, asQ, onlyQ, flippedOver}
 use Rattle.entries.proofs.Places.{member-counts}
-use Rattle.entries.proofs.Listed.{length-listed, entry-listed, listed-cong}
-use Rattle.machine.specs.Kinds.{further, known, all, firstOf, unless}
-use Rattle.machine.specs.Calls.{weightList, weightsIn, operationIn, vertexIn, outside, degenerate, judged}
-use borrow.Author.Tests.{leb-true}
-use Rattle.machine.specs.Sizes.{allNamed}
-use Rattle.machine.specs.Nets.{used, netPolar, handed, netSize, netRefusal, withEntries, replacedNet, flippedNet, answerAt, accepted, stepBy, stepOf}
-use Rattle.machine.specs.Comparison.{Polynomials, Frame, vertexAt, polarOf, scaledValue, pointOf, machineSize, machineRefusal, machineAccepted, machineBy, machineStep, netOver}
-use Rattle.machine.specs.First.{netIn}
-use Rattle.machine.specs.declared.Net.{Net}
+use Rattle.entries.proofs.Groups.{Counted, Named, Framed, Forms, polar-forms, fixes-over, putting-over, flipping-over, points-long, named-none, named-as, named-only, only-taken}
+use Rattle.entries.proofs.ListedOver.{in-pairs, member-over, counts-over, entry-listed-over, listed-over-cong}
+use Rattle.projection.specs.Projection.{inRange, projectionOf}
+use Rattle.machine.specs.Refusals.{_else_, firstFailed, allPass, numbered}
+use Rattle.integers.specs.Test.{all}
+use Rattle.integers.proofs.All.{all-pass, all-at, all-cong, all-map, and-parts}
+use Rattle.kinds.specs.Kinds.{known}
+use Rattle.kinds.specs.Frames.{vertexCount, Frames}
+use Rattle.machine.specs.Calls.{groupAt, ownAt, weightsFor, beforeSize}
+use Rattle.machine.specs.Sizes.{namedByReplace, namedByPoint, namedBy, allNamed, callTests}
+use Rattle.machine.specs.Steps.{Found, foundAt, stepBy}
+use Rattle.machine.specs.Nets.{Net, entry, netPolar, netInRange, handedTests, netTests, withEntries, accepted, stepOf}
+use Rattle.machine.specs.Comparison.{Polynomials, groups, polarOf, scaledValue, pointsOf, machinePolar, putOver, machineAccepted, machineStep, netOver}
 use Rattle.machine.specs.declared.Weights.{Weights}
 use Rattle.machine.specs.declared.Call.{Call}
 use Rattle.machine.specs.declared.Call.the-variants as call
-use Rattle.projection.specs.Projection.{inRange, projectionOf}
-use Rattle.machine.specs.declared.Answer.the-variants as answer
-use Rattle.machine.proofs.All.{all-pass, all-at, all-joined, all-cong, all-map, and-parts, first-none, unless-none}
+use Rattle.machine.proofs.Refusals.{none-failed, all-pass-append, row-passes}
 
--- ---- frames as lists and as functions
-
-vertex-set : (frame : Frame) (v : ℕ) (q : Point) → v < length frame → (u : ℕ) → vertexAt (set frame v q) u ≡ put v q (vertexAt frame) u
-vertex-set [] v q h u = absurd (not-suc-le-zero h)
-vertex-set (p ∷ frame) zero q h zero = refl
-vertex-set (p ∷ frame) zero q h (suc u) = refl
-vertex-set (p ∷ frame) (suc v) q h zero = refl
-vertex-set (p ∷ frame) (suc v) q h (suc u) = vertex-set frame v q (le-of-suc-le-suc h) u
-
-pub total-set : (e : List ℕ) (v : ℕ) → getD e v 0 + total (set e v 0) ≡ total e
-total-set [] v = refl
-total-set (n ∷ e) zero = omega arith
-total-set (n ∷ e) (suc v) = let r : getD e v 0 + total (set e v 0) ≡ total e = total-set e v in omega arith
-
-taken-zeros : (fr : ℕ → Point) (k : ℕ) → taken fr (replicate k 0) ≡ []
-taken-zeros fr zero = refl
-taken-zeros fr (suc k) = taken-zeros (λ v. fr (suc v)) k
-
-pub total-zeros : (k : ℕ) → total (replicate k 0) ≡ 0
-total-zeros zero = refl
-total-zeros (suc k) = zero-add (total (replicate k 0)) ∙ total-zeros k
-
-pub length-zeros : (k : ℕ) → length {A = ℕ} (replicate k 0) ≡ k
-length-zeros zero = refl
-length-zeros (suc k) = ap suc (length-zeros k)
-
-answer-cong : (p q : ℕ → ℤ) → ((c : ℕ) → c < 4 → p c ≡ q c) → answerAt p ≡ answerAt q
-unfolding answerAt
-answer-cong p q h =
+found-cong : (p q : ℕ → ℤ) → ((c : ℕ) → c < 4 → p c ≡ q c) → foundAt p ≡ foundAt q
+unfolding foundAt
+found-cong p q h =
     λ i.
-    answer.Point (record { x = e0 i; y = e1 i; z = e2 i; w = e3 i }) (projectionOf (e0 i) (e1 i) (e2 i) (e3 i))
+    Found (e0 i) (e1 i) (e2 i) (e3 i) (projectionOf (e0 i) (e1 i) (e2 i) (e3 i))
   where
     e0 : p 0 ≡ q 0
     e0 = h 0 (lit≤ tt)
@@ -83,274 +59,295 @@ answer-cong p q h =
     e3 : p 3 ≡ q 3
     e3 = h 3 (lit≤ tt)
 
+-- ---- vertices
+
+-- a vertex stands in the frame of its group
+pub located : (gs : List Group) (frames : Frames) → Framed gs frames → (v : ℕ) → v < vertexCount gs → (groupAt gs v < length gs) × (ownAt gs v < length (getD frames (groupAt gs v) []))
+located [] frames long v h = absurd (not-suc-le-zero h)
+located (g ∷ gs) [] long v h = absurd long
+located (g ∷ gs) (frame ∷ frames) long v h = by (leb v (g .dimension)) refl (λ k. located gs frames (long .1) (v - suc (g .dimension)) k)
+  where
+    by : (b : Bool) → leb v (g .dimension) ≡ b
+        → (v - suc (g .dimension) < vertexCount gs → (groupAt gs (v - suc (g .dimension)) < length gs) × (ownAt gs (v - suc (g .dimension)) < length (getD frames (groupAt gs (v - suc (g .dimension))) [])))
+        → (cond b 0 (suc (groupAt gs (v - suc (g .dimension)))) < suc (length gs))
+        × (cond b v (ownAt gs (v - suc (g .dimension))) < length (getD (frame ∷ frames) (cond b 0 (suc (groupAt gs (v - suc (g .dimension))))) []))
+    by true p rest = let low = leb-true v (g .dimension) p in let l = long .0 in (omega arith, omega arith)
+    by false p rest =
+        let high = leb-false v (g .dimension) p in
+        let r = rest (omega arith) in
+        let one = r .0 in
+        (omega arith, r .1)
+
+framed-put : (gs : List Group) (frames : Frames) (i v : ℕ) (q : Point) → Framed gs frames → Framed gs (putOver i v q frames)
+framed-put [] [] i v q long = tt
+framed-put [] (frame ∷ frames) i v q long = absurd long
+framed-put (g ∷ gs) [] i v q long = absurd long
+framed-put (g ∷ gs) (frame ∷ frames) zero v q long = (length-set frame v q ∙ long .0, long .1)
+framed-put (g ∷ gs) (frame ∷ frames) (suc i) v q long = (long .0, framed-put gs frames i v q (long .1))
+
 -- ---- the size rule
 
--- functions that agree on the named places have the same sizes
-pub named-cong : (n m : ℕ) (P Q : ℕ → ℕ → List ℕ → ℤ)
-    → ((c h : ℕ) (e : List ℕ) → c < 4 → length e ≡ suc n → h + total e ≡ m → P c h e ≡ Q c h e)
-    → allNamed n m P ≡ allNamed n m Q
-unfolding allNamed
-named-cong n m P Q agree =
-    all-cong (λ h. all (λ e. all (λ c. inRange (P c h e)) (upto 4)) (counts n (m - h))) (λ h. all (λ e. all (λ c. inRange (Q c h e)) (upto 4)) (counts n (m - h))) (upto (suc m))
-    (λ h i.
-    all-cong (λ e. all (λ c. inRange (P c h e)) (upto 4)) (λ e. all (λ c. inRange (Q c h e)) (upto 4)) (counts n (m - h))
-    (λ e j.
-    all-cong (λ c. inRange (P c h e)) (λ c. inRange (Q c h e)) (upto 4)
-    (λ c k.
-    let r = counts-total n (m - h) e j in
-    let below : h < suc m = upto-below (suc m) h i in
-    let rest : total e ≡ m - h = r .1 in
-    ap inRange (agree c h e (upto-below 4 c k) (r .0) (omega arith)))))
+-- what a call names are counts of q and the vertices
+pub by-replace : (gs : List Group) (i : ℕ) (es : List (List ℕ)) → List·Memᴰ es (namedByReplace gs i) → Named gs es
+unfolding namedByReplace
+by-replace [] i es m = absurd (List·Memᴰ·not-nil m)
+by-replace (g ∷ gs) zero es m =
+    let r = of-pairs (counts (suc (g .dimension)) (g .degree)) (map noneOfQ (countsOver gs)) m in
+    let t = counts-total (suc (g .dimension)) (g .degree) (r .0) (r .2) in
+    let k = Memᴰ·of-map noneOfQ (countsOver gs) (r .3) in
+    subst (Named (g ∷ gs)) (r .4) (t .0, t .1, subst (Named gs) (k .2) (named-none gs (k .0) (counts-over gs (k .0) (k .1))))
+by-replace (g ∷ gs) (suc i) es m =
+    let r = of-pairs (noneOfQ (counts (g .dimension) (g .degree))) (namedByReplace gs i) m in
+    let k = Memᴰ·of-map (λ (e : List ℕ). 0 ∷ e) (counts (g .dimension) (g .degree)) (r .2) in
+    let t = counts-total (g .dimension) (g .degree) (k .0) (k .1) in
+    let own : total (0 ∷ k .0) ≡ g .degree = native.Mathlib.Nat.zero-add (total (k .0)) ∙ t .1 in
+    subst (Named (g ∷ gs)) (r .4)
+    (subst (λ e. (length e ≡ suc (suc (g .dimension))) × (total e ≡ g .degree) × Named gs (r .1)) (k .2) (ap suc (t .0), own, by-replace gs i (r .1) (r .3)))
 
-pub below-upto : (n i : ℕ) → i < n → List·Memᴰ i (upto n)
-below-upto zero i h = absurd (not-suc-le-zero h)
-below-upto (suc n) zero h = mathlib.Core.List.List·Memᴰ·head refl
-below-upto (suc n) (suc i) h = mathlib.Core.List.List·Memᴰ·tail (mathlib.Core.List.Memᴰ·map suc (below-upto n i (le-of-suc-le-suc h)))
+pub by-point : (gs : List Group) (es : List (List ℕ)) → List·Memᴰ es (namedByPoint gs) → Named gs es
+unfolding namedByPoint
+by-point [] es m = absurd (List·Memᴰ·not-nil m)
+by-point (g ∷ gs) es m = by (by-point gs) (List·Memᴰ·append-cases (namedByReplace (g ∷ gs) 0) m)
+  where
+    all-q : List ℕ
+    all-q = g .degree ∷ replicate (suc (g .dimension)) 0
+
+    by : ((rest : List (List ℕ)) → List·Memᴰ rest (namedByPoint gs) → Named gs rest)
+        → List·Memᴰ es (namedByReplace (g ∷ gs) 0) ⊎ List·Memᴰ es (pairs (all-q ∷ []) (namedByPoint gs)) → Named (g ∷ gs) es
+    by later (inl k) = by-replace (g ∷ gs) 0 es k
+    by later (inr k) =
+        let r = of-pairs (all-q ∷ []) (namedByPoint gs) k in
+        let q = named-only (g ∷ gs) in
+        subst (Named (g ∷ gs)) (r .4)
+        (subst (λ e. (length e ≡ suc (suc (g .dimension))) × (total e ≡ g .degree) × Named gs (r .1)) (sym (List·Memᴰ·eq-of-singleton (r .2))) (q .0, q .1, later (r .1) (r .3)))
+
+pub by-call : (gs : List Group) (c : Call) (es : List (List ℕ)) → List·Memᴰ es (namedBy gs c) → Named gs es
+unfolding namedBy
+by-call gs (call.Move operation vertex weights) es m = by (eqb operation 1) m
+  where
+    by : (b : Bool) → List·Memᴰ es (cond b (namedByReplace gs (groupAt gs (pred vertex))) []) → Named gs es
+    by true k = by-replace gs (groupAt gs (pred vertex)) es k
+    by false k = absurd (List·Memᴰ·not-nil k)
+by-call gs (call.Point weights) es m = by-point gs es m
+
+-- an entry whose copies of a vertex are q's is named by the replace of that vertex
+as-named : (gs : List Group) (i v : ℕ) (es : List (List ℕ)) → i < length gs → Counted gs es → List·Memᴰ (asQ i v es) (namedByReplace gs i)
+unfolding namedByReplace
+as-named [] i v es h counted = absurd (not-suc-le-zero h)
+as-named (g ∷ gs) i v [] h counted = absurd counted
+as-named (g ∷ gs) zero v (e ∷ es) h counted =
+    let n = named-as (g ∷ gs) 0 v (e ∷ es) counted in
+    in-pairs (counts (suc (g .dimension)) (g .degree)) (map noneOfQ (countsOver gs))
+    (member-counts (suc (g .dimension)) (g .degree) (getD e v 0 ∷ set e v 0) (n .0) (n .1)) (Memᴰ·map noneOfQ (member-over gs es (counted .2)))
+as-named (g ∷ gs) (suc i) v (e ∷ es) h counted =
+    in-pairs (noneOfQ (counts (g .dimension) (g .degree))) (namedByReplace gs i)
+    (Memᴰ·map (λ (r : List ℕ). 0 ∷ r) (member-counts (g .dimension) (g .degree) e (counted .0) (counted .1))) (as-named gs i v es (le-of-suc-le-suc h) (counted .2))
+
+-- functions that agree on the named values have the same sizes
+pub named-cong : (names : List (List (List ℕ))) (P Q : ℕ → List (List ℕ) → ℤ) → ((c : ℕ) (es : List (List ℕ)) → c < 4 → List·Memᴰ es names → P c es ≡ Q c es) → allNamed names P ≡ allNamed names Q
+unfolding allNamed
+named-cong names P Q agree =
+    all-cong (λ es. all (λ c. inRange (P c es)) (upto 4)) (λ es. all (λ c. inRange (Q c es)) (upto 4)) names
+    (λ es j. all-cong (λ c. inRange (P c es)) (λ c. inRange (Q c es)) (upto 4) (λ c k. ap inRange (agree c es (upto-below 4 c k) j)))
 
 -- a named value is in range where all are
-pub named-at : (n m : ℕ) (P : ℕ → ℕ → List ℕ → ℤ) → allNamed n m P ≡ true → (c h : ℕ) (e : List ℕ) → c < 4 → length e ≡ suc n → h + total e ≡ m → inRange (P c h e) ≡ true
+pub named-at : (names : List (List (List ℕ))) (P : ℕ → List (List ℕ) → ℤ) → allNamed names P ≡ true → (c : ℕ) (es : List (List ℕ)) → c < 4 → List·Memᴰ es names → inRange (P c es) ≡ true
 unfolding allNamed
-named-at n m P ok c h e k l t =
-    all-at (λ i. inRange (P i h e)) (upto 4)
-    (all-at (λ r. all (λ i. inRange (P i h r)) (upto 4)) (counts n (m - h))
-    (all-at (λ j. all (λ r. all (λ i. inRange (P i j r)) (upto 4)) (counts n (m - j))) (upto (suc m)) ok h (below-upto (suc m) h (omega arith)))
-    e (member-counts n (m - h) e l (omega arith)))
-    c (below-upto 4 c k)
+named-at names P ok c es k m = all-at (λ i. inRange (P i es)) (upto 4) (all-at (λ r. all (λ i. inRange (P i r)) (upto 4)) names ok es m) c (below-upto 4 c k)
 
 -- a listed net is in range exactly when its entries are
-pub listed-in : (n m : ℕ) (g : ℕ → List ℕ → ℤ) → ((c : ℕ) (e : List ℕ) → c < 4 → length e ≡ suc n → total e ≡ m → inRange (g c e) ≡ true) → all inRange (listed n m g) ≡ true
-unfolding listed
-listed-in n m g ok =
-    all-joined inRange (λ e. map (λ c. g c e) (upto 4)) (counts n m)
-    ∙ all-pass (λ e. all inRange (map (λ c. g c e) (upto 4))) (counts n m)
-    (λ e j.
-    all-map inRange (λ c. g c e) (upto 4)
-    ∙ all-pass (λ c. inRange (g c e)) (upto 4) (λ c k. let r = counts-total n m e j in ok c e (upto-below 4 c k) (r .0) (r .1)))
+pub listed-in : (gs : List Group) (g : ℕ → List (List ℕ) → ℤ) → ((c : ℕ) (es : List (List ℕ)) → c < 4 → Counted gs es → inRange (g c es) ≡ true) → all inRange (listedOver gs g) ≡ true
+unfolding listedOver
+listed-in gs g ok =
+    all-joined inRange (λ e. map (λ c. g c e) (upto 4)) (countsOver gs)
+    ∙ all-pass (λ e. all inRange (map (λ c. g c e) (upto 4))) (countsOver gs)
+    (λ e j. all-map inRange (λ c. g c e) (upto 4) ∙ all-pass (λ c. inRange (g c e)) (upto 4) (λ c k. ok c e (upto-below 4 c k) (counts-over gs e j)))
 
-pub listed-in-at : (n m : ℕ) (g : ℕ → List ℕ → ℤ) → all inRange (listed n m g) ≡ true → (c : ℕ) (e : List ℕ) → c < 4 → length e ≡ suc n → total e ≡ m → inRange (g c e) ≡ true
-unfolding listed
-listed-in-at n m g ok c e k l t =
-    all-at (λ i. inRange (g i e)) (upto 4)
-    (sym (all-map inRange (λ i. g i e) (upto 4))
-    ∙ all-at (λ r. all inRange (map (λ i. g i r) (upto 4))) (counts n m) (sym (all-joined inRange (λ r. map (λ i. g i r) (upto 4)) (counts n m)) ∙ ok) e (member-counts n m e l t))
+pub listed-in-at : (gs : List Group) (g : ℕ → List (List ℕ) → ℤ) → all inRange (listedOver gs g) ≡ true → (c : ℕ) (es : List (List ℕ)) → c < 4 → Counted gs es → inRange (g c es) ≡ true
+unfolding listedOver
+listed-in-at gs g ok c es k counted =
+    all-at (λ i. inRange (g i es)) (upto 4)
+    (sym (all-map inRange (λ i. g i es) (upto 4))
+    ∙ all-at (λ r. all inRange (map (λ i. g i r) (upto 4))) (countsOver gs) (sym (all-joined inRange (λ r. map (λ i. g i r) (upto 4)) (countsOver gs)) ∙ ok) es (member-over gs es counted))
     c (below-upto 4 c k)
 
--- ---- the net over a frame
+-- ---- the net over frames
 
-module _ (f : Polynomials) (frame : Frame) (long : length frame ≡ suc (further (f .kind))) where
-  abbrev n : ℕ
-  n = further (f .kind)
+module _ (f : Polynomials) (frames : Frames) (long : Framed (groups f) frames) where
+  abbrev gs : List Group
+  gs = groups f
 
-  abbrev m : ℕ
-  m = f .degree
+  abbrev net : Net
+  net = netOver f frames
 
-  abbrev fr : ℕ → Point
-  fr = vertexAt frame
-
-  form : (c : ℕ) → Form (suc n) (polarOf f c)
+  forms : (c : ℕ) → Forms gs (polarOf f c)
   unfolding polarOf
-  form c = polar-form n m (terms c (monomials n m) (f .coefficients))
+  forms c = polar-forms gs (terms c (monomialsOver gs) (f .coefficients))
+
+  -- its entries are polar values
+  entry-is : (c : ℕ) (es : List (List ℕ)) → c < 4 → Counted gs es → entry net c es ≡ polarOf f c (takenOver frames es)
+  unfolding netOver
+  entry-is c es k counted = entry-listed-over gs (λ i x. polarOf f i (takenOver frames x)) c es k counted
 
   -- what its entries fix is what its polynomials give
-  polar-is : (ws : List ℤ) (c h : ℕ) (e : List ℕ) → c < 4 → length e ≡ suc n → h + total e ≡ m
-      → netPolar (netOver f frame) ws c h e ≡ polarOf f c (replicate h (pointOf f frame ws) ++ taken fr e)
-  unfolding netPolar netOver pointOf
-  polar-is ws c h e k l t =
-      fixes (form c) fr ws (entryAt n m (netOver f frame .entries) c)
-      (λ r lr tr. entry-listed n m (λ i x. polarOf f i (taken fr x)) (replicate (180 - used (f .kind) m) (pos 0)) c r k lr tr)
-      h e l t
-
-  sizes-agree : (ws : List ℤ) → allNamed n m (netPolar (netOver f frame) ws) ≡ allNamed n m (λ c h e. polarOf f c (replicate h (pointOf f frame ws) ++ taken fr e))
-  sizes-agree ws = named-cong n m (netPolar (netOver f frame) ws) (λ c h e. polarOf f c (replicate h (pointOf f frame ws) ++ taken fr e)) (polar-is ws)
-
-  entries-take : take (used (f .kind) m) (netOver f frame .entries) ≡ listed n m (λ c e. polarOf f c (taken fr e))
-  unfolding netOver used
-  entries-take = take-at (listed n m (λ c e. polarOf f c (taken fr e))) (replicate (180 - used (f .kind) m) (pos 0)) (used (f .kind) m) (length-listed n m (λ c e. polarOf f c (taken fr e)))
-
-  entries-drop : drop (used (f .kind) m) (netOver f frame .entries) ≡ replicate (180 - used (f .kind) m) (pos 0)
-  unfolding netOver used
-  entries-drop = drop-at (listed n m (λ c e. polarOf f c (taken fr e))) (replicate (180 - used (f .kind) m) (pos 0)) (used (f .kind) m) (length-listed n m (λ c e. polarOf f c (taken fr e)))
+  polar-is : (call : Call) (c : ℕ) (es : List (List ℕ)) → c < 4 → Named gs es → netPolar net call c es ≡ machinePolar f frames call c es
+  unfolding netPolar machinePolar pointsOf netOver
+  polar-is call c es k named = fixes-over gs (polarOf f c) (forms c) frames long (weightsFor gs call) (entry net c) (λ r counted. entry-is c r k counted) es named
 
   -- ---- refusals
 
-  module _ (right : known (f .kind) m ≡ true) (fits : netIn (netOver f frame) ≡ true) where
-    handed-none : handed (netOver f frame) ≡ 0
-    unfolding handed netIn netOver
-    handed-none = ap₂ (λ a b. firstOf (unless a 4) (unless b 10)) right fits
+  sizes-agree : (call : Call) → allNamed (namedBy gs call) (netPolar net call) ≡ allNamed (namedBy gs call) (machinePolar f frames call)
+  sizes-agree call = named-cong (namedBy gs call) (netPolar net call) (machinePolar f frames call) (λ c es k m. polar-is call c es k (by-call gs call es m))
 
-    refusals-agree : (c : Call) → netRefusal (netOver f frame) c ≡ machineRefusal f frame c
-    unfolding netRefusal machineRefusal netSize machineSize netOver
-    refusals-agree (call.Move operation vertex weights) =
-        ap₂ (λ a b. firstOf a (firstOf (judged n (call.Move operation vertex weights)) (cond (eqb operation 1) (unless b 10) 0))) handed-none (sizes-agree (weightList weights))
-    refusals-agree (call.Point weights) =
-        ap₂ (λ a b. firstOf a (firstOf (judged n (call.Point weights)) (unless b 10))) handed-none (sizes-agree (weightList weights))
+  refusals-agree : known (f .kind) (f .degree) (f .second) ≡ true → netInRange net ≡ true → (call : Call)
+      → firstFailed (netTests net call) ≡ firstFailed (callTests gs call (machinePolar f frames call))
+  unfolding netTests handedTests callTests netOver
+  refusals-agree right fits call =
+      ap₂ (λ a b. firstFailed (a else 4 ∷ b else 10 ∷ callTests gs call (netPolar net call))) right fits
+      ∙ ap (λ b. firstFailed (beforeSize gs call ++ (b else 10 ∷ []))) (sizes-agree call)
 
   -- ---- accepted calls
 
-  -- entries that are polar values over another frame make the net over that frame
-  over-frame : (other : Frame) (g : ℕ → List ℕ → ℤ) → ((c : ℕ) (e : List ℕ) → c < 4 → length e ≡ suc n → total e ≡ m → g c e ≡ polarOf f c (taken (vertexAt other) e))
-      → withEntries (netOver f frame) g ≡ netOver f other
+  -- entries that are polar values over other frames make the net over those frames
+  over-frames : (other : Frames) (g : ℕ → List (List ℕ) → ℤ) → ((c : ℕ) (es : List (List ℕ)) → c < 4 → Counted gs es → g c es ≡ polarOf f c (takenOver other es))
+      → withEntries net g ≡ netOver f other
   unfolding withEntries netOver
-  over-frame other g agree =
-      ap (λ (l : List ℤ). netWith l)
-      (ap₂ _++_ (listed-cong n m g (λ c e. polarOf f c (taken (vertexAt other) e)) agree) entries-drop)
+  over-frames other g agree =
+      ap (λ (l : List ℤ). netWith l) (listed-over-cong gs g (λ c es. polarOf f c (takenOver other es)) agree)
     where
       netWith : List ℤ → Net
-      netWith l = record { kind = f .kind; degree = f .degree; entries = l }
+      netWith l = record { kind = f .kind; degree = f .degree; second = f .second; entries = l }
 
-  replaced-is : (v : ℕ) → v < length frame → (ws : List ℤ) (c : ℕ) (e : List ℕ) → c < 4 → length e ≡ suc n → total e ≡ m
-      → netPolar (netOver f frame) ws c (getD e v 0) (set e v 0) ≡ polarOf f c (taken (vertexAt (set frame v (pointOf f frame ws))) e)
-  replaced-is v h ws c e k l t =
-      polar-is ws c (getD e v 0) (set e v 0) k (length-set e v 0 ∙ l) (total-set e v ∙ t)
-      ∙ sym (putting (form c) fr (pointOf f frame ws) v e)
-      ∙ ap (λ g. polarOf f c (taken g e)) (sym (fun-ext (vertex-set frame v (pointOf f frame ws) h)))
+  -- vertex v of group i put to another point, by whether the call is a replace
+  abbrev moved : Bool → ℕ → ℕ → Call → Frames
+  moved b i v call = putOver i v (cond b (getD (pointsOf f frames call) i []) (map negℤ (vertexAt (getD frames i []) v))) frames
 
-  replaced-net : (vertex : ℕ) → pred vertex < length frame → (ws : List ℤ) → replacedNet (netOver f frame) vertex ws ≡ netOver f (set frame (pred vertex) (pointOf f frame ws))
-  unfolding replacedNet netPolar netOver
-  replaced-net vertex h ws = over-frame (set frame (pred vertex) (pointOf f frame ws)) _ (replaced-is (pred vertex) h ws)
+  moved-is : (b : Bool) (i v : ℕ) → v < length (getD frames i []) → (call : Call) (c : ℕ) (es : List (List ℕ)) → c < 4 → Counted gs es
+      → cond b (netPolar net call c (asQ i v es)) (flippedOver i v (entry net c) es) ≡ polarOf f c (takenOver (moved b i v call) es)
+  unfolding machinePolar pointsOf
+  moved-is true i v h call c es k counted =
+      polar-is call c (asQ i v es) k (named-as gs i v es counted)
+      ∙ sym (putting-over gs (polarOf f c) (forms c) frames long (pointsOver gs (weightsFor gs call) frames) (points-long gs (weightsFor gs call) frames) i v h es counted)
+  moved-is false i v h call c es k counted =
+      ap (λ x. cond (odd (getD (getD es i []) v 0)) (negℤ x) x) (entry-is c es k counted)
+      ∙ sym (flipping-over gs (polarOf f c) (forms c) frames long i v h es counted)
 
-  flipped-is : (v : ℕ) → v < length frame → (c : ℕ) (e : List ℕ) → c < 4 → length e ≡ suc n → total e ≡ m
-      → cond (odd (getD e v 0)) (negℤ (entryAt n m (netOver f frame .entries) c e)) (entryAt n m (netOver f frame .entries) c e)
-      ≡ polarOf f c (taken (vertexAt (set frame v (map negℤ (vertexAt frame v)))) e)
+  -- the found point is L × F(q)
+  found-is : (call : Call) → foundAt (λ c. netPolar net call c (onlyQ gs)) ≡ foundAt (scaledValue f (pointsOf f frames call))
+  unfolding scaledValue machinePolar pointsOf polarOf
+  found-is call =
+      let qs = pointsOver gs (weightsFor gs call) frames in
+      found-cong (λ c. netPolar net call c (onlyQ gs)) (scaledValue f (pointsOf f frames call))
+      (λ c k.
+      polar-is call c (onlyQ gs) k (named-only gs)
+      ∙ ap (polarOf f c) (only-taken gs qs frames (points-long gs (weightsFor gs call) frames))
+      ∙ polar-diagonal gs qs c (f .coefficients))
+
+  -- ---- ranges
+
+  in-range-over : (other : Frames) → ((c : ℕ) (es : List (List ℕ)) → c < 4 → Counted gs es → inRange (polarOf f c (takenOver other es)) ≡ true) → netInRange (netOver f other) ≡ true
   unfolding netOver
-  flipped-is v h c e k l t =
-      ap (λ x. cond (odd (getD e v 0)) (negℤ x) x) (entry-listed n m (λ i x. polarOf f i (taken fr x)) (replicate (180 - used (f .kind) m) (pos 0)) c e k l t)
-      ∙ sym (flipping (form c) fr v e)
-      ∙ ap (λ g. polarOf f c (taken g e)) (sym (fun-ext (vertex-set frame v (map negℤ (vertexAt frame v)) h)))
+  in-range-over other ok = listed-in gs (λ c es. polarOf f c (takenOver other es)) ok
 
-  flipped-net : (vertex : ℕ) → pred vertex < length frame → flippedNet (netOver f frame) vertex ≡ netOver f (set frame (pred vertex) (map negℤ (vertexAt frame (pred vertex))))
-  unfolding flippedNet netOver
-  flipped-net vertex h = over-frame (set frame (pred vertex) (map negℤ (vertexAt frame (pred vertex)))) _ (flipped-is (pred vertex) h)
-
-  -- the polar value of m copies of q is L × F(q)
-  point-is : (ws : List ℤ) (c : ℕ) → c < 4 → netPolar (netOver f frame) ws c m (replicate (suc n) 0) ≡ scaledValue f (pointOf f frame ws) c
-  unfolding scaledValue polarOf
-  point-is ws c k =
-      polar-is ws c m (replicate (suc n) 0) k (length-zeros (suc n)) (ap (λ x. m + x) (total-zeros (suc n)) ∙ add-zero m)
-      ∙ ap (polarOf f c) (ap (λ l. replicate m (pointOf f frame ws) ++ l) (taken-zeros fr (suc n)) ∙ append-nil (replicate m (pointOf f frame ws)))
-      ∙ polar-diagonal n m (pointOf f frame ws) c (f .coefficients)
-
-  answer-is : (ws : List ℤ) → answerAt (λ c. netPolar (netOver f frame) ws c m (replicate (suc n) 0)) ≡ answerAt (scaledValue f (pointOf f frame ws))
-  answer-is ws = answer-cong (λ c. netPolar (netOver f frame) ws c m (replicate (suc n) 0)) (scaledValue f (pointOf f frame ws)) (point-is ws)
-
-  -- ---- the net over the frame reached is in range again
-
-  in-range-over : (other : Frame) → ((c : ℕ) (e : List ℕ) → c < 4 → length e ≡ suc n → total e ≡ m → inRange (polarOf f c (taken (vertexAt other) e)) ≡ true) → netIn (netOver f other) ≡ true
-  unfolding netIn netOver used
-  in-range-over other ok =
-      ap (all inRange) (take-at (listed n m (λ c e. polarOf f c (taken (vertexAt other) e))) (replicate (180 - used (f .kind) m) (pos 0)) (used (f .kind) m) (length-listed n m (λ c e. polarOf f c (taken (vertexAt other) e))))
-      ∙ listed-in n m (λ c e. polarOf f c (taken (vertexAt other) e)) ok
-
-  replaced-in : (v : ℕ) → v < length frame → (ws : List ℤ) → allNamed n m (λ c h e. polarOf f c (replicate h (pointOf f frame ws) ++ taken fr e)) ≡ true
-      → netIn (netOver f (set frame v (pointOf f frame ws))) ≡ true
-  replaced-in v h ws ok =
-      in-range-over (set frame v (pointOf f frame ws))
-      (λ c e k l t.
-      ap inRange (sym (replaced-is v h ws c e k l t) ∙ polar-is ws c (getD e v 0) (set e v 0) k (length-set e v 0 ∙ l) (total-set e v ∙ t))
-      ∙ named-at n m (λ i j r. polarOf f i (replicate j (pointOf f frame ws) ++ taken fr r)) ok c (getD e v 0) (set e v 0) k (length-set e v 0 ∙ l) (total-set e v ∙ t))
-
-  flipped-in : (v : ℕ) → v < length frame → netIn (netOver f frame) ≡ true → netIn (netOver f (set frame v (map negℤ (vertexAt frame v)))) ≡ true
-  unfolding netIn netOver
-  flipped-in v h ok =
-      in-range-over (set frame v (map negℤ (vertexAt frame v)))
-      (λ c e k l t.
-      ap inRange (sym (flipped-is v h c e k l t))
-      ∙ sign (odd (getD e v 0)) (entryAt n m (netOver f frame .entries) c e)
-      ∙ ap inRange (entry-listed n m (λ i x. polarOf f i (taken fr x)) (replicate (180 - used (f .kind) m) (pos 0)) c e k l t)
-      ∙ listed-in-at n m (λ i x. polarOf f i (taken fr x)) (sym (ap (all inRange) entries-take) ∙ ok) c e k l t)
+  -- a move whose named values are in range leaves a net in range
+  moved-in : (b : Bool) (i v : ℕ) → i < length gs → v < length (getD frames i []) → (call : Call) → netInRange net ≡ true
+      → allNamed (cond b (namedByReplace gs i) []) (machinePolar f frames call) ≡ true → netInRange (netOver f (moved b i v call)) ≡ true
+  unfolding netOver
+  moved-in b i v j h call fits ok =
+      in-range-over (moved b i v call) (λ c es k counted. ap inRange (sym (moved-is b i v h call c es k counted)) ∙ by b ok c es k counted)
     where
-      sign : (b : Bool) (x : ℤ) → inRange (cond b (negℤ x) x) ≡ inRange x
-      sign true x = ap (λ j. leb j 281474976710656) (natAbs-neg x)
+      sign : (s : Bool) (x : ℤ) → inRange (cond s (negℤ x) x) ≡ inRange x
+      sign true x = ap (λ a. leb a 281474976710656) (natAbs-neg x)
       sign false x = refl
+
+      by : (b : Bool) → allNamed (cond b (namedByReplace gs i) []) (machinePolar f frames call) ≡ true → (c : ℕ) (es : List (List ℕ)) → c < 4 → Counted gs es
+          → inRange (cond b (netPolar net call c (asQ i v es)) (flippedOver i v (entry net c) es)) ≡ true
+      by true named c es k counted =
+          ap inRange (polar-is call c (asQ i v es) k (named-as gs i v es counted))
+          ∙ named-at (namedByReplace gs i) (machinePolar f frames call) named c (asQ i v es) k (as-named gs i v es j counted)
+      by false named c es k counted =
+          sign (odd (getD (getD es i []) v 0)) (entry net c es)
+          ∙ ap inRange (entry-is c es k counted)
+          ∙ listed-in-at gs (λ a x. polarOf f a (takenOver frames x)) fits c es k counted
 
 -- ---- one call
 
--- what holds of every frame that is reached: its net is one that the net machine does not refuse as handed
-pub record Reached (f : Polynomials) (frame : Frame) : Type 0 where
-  pub long : length frame ≡ suc (further (f .kind))
-  pub right : known (f .kind) (f .degree) ≡ true
-  pub fits : netIn (netOver f frame) ≡ true
+-- what holds of all frames that are reached: their net is one that the net machine does not refuse as handed
+pub record Reached (f : Polynomials) (frames : Frames) : Type 0 where
+  pub long : Framed (groups f) frames
+  pub right : known (f .kind) (f .degree) (f .second) ≡ true
+  pub fits : netInRange (netOver f frames) ≡ true
 
--- such a net is not refused as handed
-pub reached-handed : (f : Polynomials) (frame : Frame) → Reached f frame → handed (netOver f frame) ≡ 0
-unfolding handed netIn netOver
-reached-handed f frame at = ap₂ (λ a b. firstOf (unless a 4) (unless b 10)) (at .right) (at .fits)
+-- the net machine's step on the net over frames is the comparison machine's step on the frames
+pub record Agrees (f : Polynomials) (frames : Frames) (c : Call) : Type 0 where
+  pub answers : stepOf (netOver f frames) c .answer ≡ machineStep f frames c .answer
+  pub nets : stepOf (netOver f frames) c .left ≡ netOver f (machineStep f frames c .left)
+  pub reached : Reached f (machineStep f frames c .left)
 
--- the net machine's step on the net over a frame is the comparison machine's step on the frame
-pub record Agrees (f : Polynomials) (frame : Frame) (c : Call) : Type 0 where
-  pub answers : stepOf (netOver f frame) c .answer ≡ machineStep f frame c .answer
-  pub nets : stepOf (netOver f frame) c .net ≡ netOver f (machineStep f frame c .frame)
-  pub reached : Reached f (machineStep f frame c .frame)
+-- a call that is not refused passed its own tests and that of its size
+pub call-passed : (gs : List Group) (c : Call) (P : ℕ → List (List ℕ) → ℤ) → firstFailed (callTests gs c P) ≡ 0
+    → (allPass (beforeSize gs c) ≡ true) × (allNamed (namedBy gs c) P ≡ true)
+unfolding callTests beforeSize
+call-passed gs c P h =
+    let size = allNamed (namedBy gs c) P else 10 ∷ [] in
+    let both = and-parts (allPass (beforeSize gs c)) (allPass size) (sym (all-pass-append (beforeSize gs c) size) ∙ none-failed (beforeSize gs c ++ size) (rows c) .0 h) in
+    (both .0, and-parts (allNamed (namedBy gs c) P) true (both .1) .0)
+  where
+    rows : (c : Call) → numbered (beforeSize gs c ++ (allNamed (namedBy gs c) P else 10 ∷ [])) ≡ true
+    rows (call.Move operation vertex weights) = refl
+    rows (call.Point weights) = refl
 
-pred-below : (n vertex : ℕ) → leb 1 vertex ≡ true → leb vertex (suc n) ≡ true → pred vertex < suc n
-pred-below n vertex a b = let low = leb-true 1 vertex a in let high = leb-true vertex (suc n) b in omega arith
+pred-below : (n vertex : ℕ) → leb 1 vertex ≡ true → leb vertex n ≡ true → pred vertex < n
+pred-below n vertex a b = let low = leb-true 1 vertex a in let high = leb-true vertex n b in omega arith
 
 -- the number of a vertex that is not outside
-vertex-below : (n operation vertex : ℕ) (weights : Weights) → judged n (call.Move operation vertex weights) ≡ 0 → pred vertex < suc n
-vertex-below n operation vertex weights h =
-    let own = first-none (outside n (call.Move operation vertex weights)) (degenerate (call.Move operation vertex weights)) h .0 in
-    let tests = unless-none (vertexIn n vertex && weightsIn n (weightList weights) && operationIn operation (weightList weights)) 7 own in
-    let both = and-parts (vertexIn n vertex && weightsIn n (weightList weights)) (operationIn operation (weightList weights)) tests .0 in
-    let own-vertex = and-parts (vertexIn n vertex) (weightsIn n (weightList weights)) both .0 in
-    let ends = and-parts (leb 1 vertex) (leb vertex (suc n)) own-vertex in
-    pred-below n vertex (ends .0) (ends .1)
+vertex-below : (gs : List Group) (operation vertex : ℕ) (weights : Weights) → allPass (beforeSize gs (call.Move operation vertex weights)) ≡ true → pred vertex < vertexCount gs
+unfolding beforeSize
+vertex-below gs operation vertex weights h =
+    let ends = and-parts (leb 1 vertex) (leb vertex (vertexCount gs)) (row-passes (beforeSize gs (call.Move operation vertex weights)) h 1) in
+    pred-below (vertexCount gs) vertex (ends .0) (ends .1)
 
-module _ (f : Polynomials) (frame : Frame) (at : Reached f frame) where
-  -- a refused call leaves net and frame
-  refused-agrees : (k : ℕ) (c : Call) → machineRefusal f frame c ≡ suc k → Agrees f frame c
-  unfolding stepOf machineStep stepBy machineBy
-  refused-agrees k c r =
-      record {
-        answers = ap (λ j. stepBy j (netOver f frame) c .answer) (agree ∙ r) ∙ sym (ap (λ j. machineBy j f frame c .answer) r);
-        nets = ap (λ j. stepBy j (netOver f frame) c .net) (agree ∙ r) ∙ sym (ap (λ j. netOver f (machineBy j f frame c .frame)) r);
-        reached = subst (λ j. Reached f (machineBy j f frame c .frame)) (sym r) at;
-      }
-    where
-      agree : netRefusal (netOver f frame) c ≡ machineRefusal f frame c
-      agree = refusals-agree f frame (at .long) (at .right) (at .fits) c
-
+module _ (f : Polynomials) (frames : Frames) (at : Reached f frames) where
   -- an accepted call does what the comparison machine does
-  accepted-agrees : (c : Call) → machineRefusal f frame c ≡ 0
-      → accepted (netOver f frame) c .answer ≡ machineAccepted f frame c .answer
-      → accepted (netOver f frame) c .net ≡ netOver f (machineAccepted f frame c .frame)
-      → Reached f (machineAccepted f frame c .frame)
-      → Agrees f frame c
-  unfolding stepOf machineStep stepBy machineBy
-  accepted-agrees c r answers nets reached =
+  done : (c : Call) → firstFailed (callTests (groups f) c (machinePolar f frames c)) ≡ 0
+      → (accepted (netOver f frames) c .answer ≡ machineAccepted f frames c .answer)
+      × (accepted (netOver f frames) c .left ≡ netOver f (machineAccepted f frames c .left))
+      × Reached f (machineAccepted f frames c .left)
+  unfolding accepted machineAccepted netOver namedBy
+  done (call.Move operation vertex weights) r =
+      let gs = groups f in
+      let c = call.Move operation vertex weights in
+      let b = eqb operation 1 in
+      let i = groupAt gs (pred vertex) in
+      let v = ownAt gs (pred vertex) in
+      let passed = call-passed gs c (machinePolar f frames c) r in
+      let here = located gs frames (at .long) (pred vertex) (vertex-below gs operation vertex weights (passed .0)) in (
+        refl,
+        over-frames f frames (at .long) (moved f frames (at .long) b i v c) _ (moved-is f frames (at .long) b i v (here .1) c),
+        record {
+          long = framed-put gs frames i v _ (at .long);
+          right = at .right;
+          fits = moved-in f frames (at .long) b i v (here .0) (here .1) c (at .fits) (passed .1);
+        },
+      )
+  done (call.Point weights) r = (found-is f frames (at .long) (call.Point weights), refl, at)
+
+  -- a refused one leaves net and frames
+  by-number : (c : Call) (k : ℕ) → firstFailed (callTests (groups f) c (machinePolar f frames c)) ≡ k
+      → (stepBy k (netOver f frames) (accepted (netOver f frames) c) .answer ≡ stepBy k frames (machineAccepted f frames c) .answer)
+      × (stepBy k (netOver f frames) (accepted (netOver f frames) c) .left ≡ netOver f (stepBy k frames (machineAccepted f frames c) .left))
+      × Reached f (stepBy k frames (machineAccepted f frames c) .left)
+  unfolding stepBy
+  by-number c zero r = done c r
+  by-number c (suc k) r = (refl, refl, at)
+
+  pub call-agrees : (c : Call) → Agrees f frames c
+  unfolding stepOf machineStep
+  call-agrees c =
+      let agree = refusals-agree f frames (at .long) (at .right) (at .fits) c in
+      let both = by-number c (firstFailed (callTests (groups f) c (machinePolar f frames c))) refl in
       record {
-        answers = ap (λ j. stepBy j (netOver f frame) c .answer) (agree ∙ r) ∙ answers ∙ sym (ap (λ j. machineBy j f frame c .answer) r);
-        nets = ap (λ j. stepBy j (netOver f frame) c .net) (agree ∙ r) ∙ nets ∙ sym (ap (λ j. netOver f (machineBy j f frame c .frame)) r);
-        reached = subst (λ j. Reached f (machineBy j f frame c .frame)) (sym r) reached;
+        answers = ap (λ k. stepBy k (netOver f frames) (accepted (netOver f frames) c) .answer) agree ∙ both .0;
+        nets = ap (λ k. stepBy k (netOver f frames) (accepted (netOver f frames) c) .left) agree ∙ both .1;
+        reached = both .2;
       }
-    where
-      agree : netRefusal (netOver f frame) c ≡ machineRefusal f frame c
-      agree = refusals-agree f frame (at .long) (at .right) (at .fits) c
-
-  reaching : (v : ℕ) (q : Point) → netIn (netOver f (set frame v q)) ≡ true → Reached f (set frame v q)
-  reaching v q fits = record { long = length-set frame v q ∙ at .long; right = at .right; fits = fits }
-
-  -- a move, by whether it is a replace
-  moved : (b : Bool) (vertex : ℕ) (ws : List ℤ) → pred vertex < suc (further (f .kind)) → cond b (machineSize f frame ws) 0 ≡ 0
-      → (cond b (replacedNet (netOver f frame) vertex ws) (flippedNet (netOver f frame) vertex)
-      ≡ netOver f (set frame (pred vertex) (cond b (pointOf f frame ws) (map negℤ (vertexAt frame (pred vertex))))))
-      × Reached f (set frame (pred vertex) (cond b (pointOf f frame ws) (map negℤ (vertexAt frame (pred vertex)))))
-  unfolding machineSize
-  moved true vertex ws h size =
-      let below = subst (λ k. pred vertex < k) (sym (at .long)) h in
-      let ok = unless-none (allNamed (further (f .kind)) (f .degree) (λ c i e. polarOf f c (replicate i (pointOf f frame ws) ++ taken (vertexAt frame) e))) 9 size in
-      (replaced-net f frame (at .long) vertex below ws, reaching (pred vertex) (pointOf f frame ws) (replaced-in f frame (at .long) (pred vertex) below ws ok))
-  moved false vertex ws h size =
-      let below = subst (λ k. pred vertex < k) (sym (at .long)) h in
-      (flipped-net f frame (at .long) vertex below, reaching (pred vertex) (map negℤ (vertexAt frame (pred vertex))) (flipped-in f frame (at .long) (pred vertex) below (at .fits)))
-
-  by-refusal : (c : Call) (k : ℕ) → machineRefusal f frame c ≡ k → Agrees f frame c
-  unfolding machineRefusal accepted machineAccepted netOver
-  by-refusal c (suc k) r = refused-agrees k c r
-  by-refusal (call.Move operation vertex weights) zero r =
-      let parts = first-none (judged (further (f .kind)) (call.Move operation vertex weights)) (cond (eqb operation 1) (machineSize f frame (weightList weights)) 0) r in
-      let after = moved (eqb operation 1) vertex (weightList weights) (vertex-below (further (f .kind)) operation vertex weights (parts .0)) (parts .1) in
-      accepted-agrees (call.Move operation vertex weights) r refl (after .0) (after .1)
-  by-refusal (call.Point weights) zero r = accepted-agrees (call.Point weights) r (answer-is f frame (at .long) (weightList weights)) refl at
-
-  pub call-agrees : (c : Call) → Agrees f frame c
-  call-agrees c = by-refusal c (machineRefusal f frame c) refl

@@ -1,26 +1,29 @@
--- The samples: one test that is computed over the whole table, and a law that turns it into what each row says.
+-- The samples and the single instances: one test that is computed over each table, and a law that turns it into what each row says.
 use mathlib.Core.Path.{_≡_, refl, ap₂}
 use mathlib.Core.Bool.{Bool, true, false, _&&_}
 use mathlib.Core.List.{List, [], _∷_, map, List·Memᴰ}
-use lib.ListN.{length, take}
-use Rattle.integers.specs.Test.{eqZ}
+use lib.Dec.{eqb}
+use borrow.Author.Tests.{eqb-true}
+use Rattle.integers.specs.Test.{eqZ, all}
 use Rattle.integers.proofs.Signed.{eqZ→eq}
 use Rattle.polar.specs.Sigma.{σ}
-use Rattle.polar.specs.Order.{monomials, counts}
+use Rattle.polar.specs.Order.{joined, monomials, counts}
 use Rattle.polar.specs.Scale.{multinomial, leastCommonMultiple, scale}
-use Rattle.polar.specs.Polar.{polar, value}
-use Rattle.entries.specs.Entries.{listed}
+use Rattle.polar.specs.Groups.{monomialsOver, countsOver}
+use Rattle.polar.specs.Polar.{polarOver, valueOver}
+use Rattle.entries.specs.Entries.{listedOver, fixed, fixedOver, entryOver}
 use Rattle.projection.specs.Projection.{projectionOf}
-use Rattle.machine.specs.Kinds.{all}
-use Rattle.machine.specs.Sizes.{allNamed}
-use Rattle.machine.specs.Nets.{answerAt, used}
-use Rattle.machine.specs.First.{frameOf}
-use Rattle.machine.specs.Comparison.{netOver, machineStep, machineBy, machineRefusal, machineAccepted, machineSize, pointOf, polarOf, scaledValue}
-use Rattle.machine.specs.Lists.{frameAfter, machineAnswers}
-use Rattle.machine.specs.Demand3.{startFrame}
-use Rattle.machine.specs.Answers.{told}
-use Rattle.machine.specs.Samples.{Sample, Holds, samples}
-use Rattle.machine.proofs.All.{all-at, and-parts, clash}
+use Rattle.integers.proofs.All.{all-at, and-parts, clash}
+use Rattle.kinds.specs.Frames.{frameOf, frameAllowed, framesOf, framesAllowed}
+use Rattle.machine.specs.Calls.{beforeSize}
+use Rattle.machine.specs.Sizes.{namedByReplace, namedByPoint, namedBy, allNamed, callTests}
+use Rattle.machine.specs.Steps.{foundAt, stepBy, after, answers}
+use Rattle.machine.specs.Comparison.{groups, netOver, machineStep, machineAccepted, machinePolar, pointsOf, polarOf, scaledValue}
+use Rattle.machine.specs.Nets.{handedTests, netTests, netPolar}
+use Rattle.machine.specs.Lent.{netAt, callNumber, madeNumber}
+use Rattle.machine.specs.First.{firstTests, firstRefusal}
+use Rattle.machine.specs.Demand3.{framesReached}
+use Rattle.machine.specs.Samples.{Sample, answerRow, SampleHolds, samples, Instance, _is_, Right, instances}
 
 -- two lists are the same, by a test of their members
 abbrev sameBy : {A : Type 0} → (A → A → Bool) → List A → List A → Bool
@@ -37,20 +40,49 @@ same-lists test sound (x ∷ xs) (y ∷ ys) h =
     let both = and-parts (test x y) (sameBy test xs ys) h in
     ap₂ _∷_ (sound x y (both .0)) (same-lists test sound xs ys (both .1))
 
-abbrev checked : Sample → Bool
-checked s =
-    sameBy eqZ (take (length (s .net)) (netOver (s .polynomials) (frameAfter (s .polynomials) (startFrame (s .polynomials) (s .frame)) (s .calls)) .entries)) (s .net)
-    && sameBy (sameBy eqZ) (map told (machineAnswers (s .polynomials) (startFrame (s .polynomials) (s .frame)) (s .calls))) (s .answers)
+module _ (s : Sample) where
+  abbrev accepted : Bool
+  accepted = eqb (firstRefusal (s .polynomials) (s .frame)) 0
 
-checked-holds : (s : Sample) → checked s ≡ true → Holds s
-checked-holds s h =
-    let both = and-parts (sameBy eqZ (take (length (s .net)) (netOver (s .polynomials) (frameAfter (s .polynomials) (startFrame (s .polynomials) (s .frame)) (s .calls)) .entries)) (s .net)) (sameBy (sameBy eqZ) (map told (machineAnswers (s .polynomials) (startFrame (s .polynomials) (s .frame)) (s .calls))) (s .answers)) h in
-    (same-lists eqZ eqZ→eq _ _ (both .0), same-lists (sameBy eqZ) (same-lists eqZ eqZ→eq) _ _ (both .1))
+  abbrev net : Bool
+  net = sameBy eqZ (netOver (s .polynomials) (framesReached (s .polynomials) (s .frame) (s .calls)) .entries) (joined (λ row. row) (s .net))
+
+  abbrev answered : Bool
+  answered = sameBy (sameBy eqZ) (map answerRow (answers (machineStep (s .polynomials)) (framesOf (groups (s .polynomials)) (s .frame)) (s .calls))) (s .answers)
+
+  abbrev checked : Bool
+  checked = accepted && (net && answered)
+
+  checked-holds : checked ≡ true → SampleHolds s
+  checked-holds h =
+      let first = and-parts accepted (net && answered) h in
+      let rest = and-parts net answered (first .1) in
+      record {
+        accepted = eqb-true (firstRefusal (s .polynomials) (s .frame)) 0 (first .0);
+        net = same-lists eqZ eqZ→eq _ _ (rest .0);
+        answered = same-lists (sameBy eqZ) (same-lists eqZ eqZ→eq) _ _ (rest .1);
+      }
 
 table-checked : all checked samples ≡ true
-unfolding netOver frameAfter machineAnswers machineStep machineBy machineRefusal machineAccepted machineSize pointOf polarOf scaledValue allNamed answerAt used frameOf σ monomials counts multinomial leastCommonMultiple scale polar value listed projectionOf
+unfolding netOver after answers stepBy machineStep machineAccepted machinePolar pointsOf polarOf scaledValue beforeSize namedBy namedByReplace namedByPoint allNamed callTests foundAt firstRefusal firstTests frameOf frameAllowed framesOf framesAllowed σ monomials counts monomialsOver countsOver multinomial leastCommonMultiple scale polarOver valueOver listedOver projectionOf
 table-checked = refl
 
 -- every row of the table holds
-pub every-sample : (s : Sample) → List·Memᴰ s samples → Holds s
+pub every-sample : (s : Sample) → List·Memᴰ s samples → SampleHolds s
 every-sample s m = checked-holds s (all-at checked samples table-checked s m)
+
+-- ---- single instances
+
+abbrev agrees : Instance → Bool
+agrees (given is must) = sameBy eqZ given must
+
+agrees-right : (i : Instance) → agrees i ≡ true → Right i
+agrees-right (given is must) h = same-lists eqZ eqZ→eq given must h
+
+instances-agree : all agrees instances ≡ true
+unfolding netOver polarOf beforeSize namedBy namedByReplace namedByPoint allNamed callTests firstRefusal firstTests frameOf frameAllowed framesOf framesAllowed σ monomials counts monomialsOver countsOver multinomial leastCommonMultiple scale polarOver listedOver netTests handedTests netPolar fixedOver entryOver fixed callNumber madeNumber netAt
+instances-agree = refl
+
+-- every instance is right
+pub every-instance : (i : Instance) → List·Memᴰ i instances → Right i
+every-instance i m = agrees-right i (all-at agrees instances instances-agree i m)

@@ -1,45 +1,76 @@
--- What document 01 refuses of a call for its own arguments, before any net is looked at: refusals 8 and 9. Both machines share these.
-use Prim.Native.Nat.{ℕ, suc, pred}
-use mathlib.Core.Bool.{Bool, _&&_, _||_, not}
-use mathlib.Core.List.{List, [], _∷_}
+-- What documents 01 and 02 refuse of a call for its own arguments, before any net is looked at: the refusals 8 and 9. Both machines share these.
+use Prim.Native.Nat.{ℕ, zero, suc, pred, _-_}
+use mathlib.Core.Bool.{_&&_, _||_, not, cond}
+use mathlib.Core.List.{List, [], _∷_, map}
 use lib.Dec.{leb, eqb}
 use lib.IntN.{ℤ, pos}
-use lib.ListN.{getD, drop}
+use lib.ListN.{getD, take, drop}
+use Rattle.polar.specs.Groups.{Group}
 use Rattle.projection.specs.Projection.{isZero}
-use Rattle.machine.specs.Kinds.{within, all, unless, firstOf}
+use Rattle.machine.specs.Refusals.{Test, _else_}
+use Rattle.integers.specs.Test.{within, all}
+use Rattle.kinds.specs.Frames.{vertexCount}
 use Rattle.machine.specs.declared.Weights.{Weights}
 use Rattle.machine.specs.declared.Call.{Call}
 use Rattle.machine.specs.declared.Call.the-variants.{Move, Point}
 
--- α, β, γ in the order of the vertices
+-- the weights in the order of the vertices
 abbrev pub weightList : Weights → List ℤ
-weightList w = w .r ∷ w .s ∷ w .t ∷ []
+weightList w = w .r ∷ w .s ∷ w .t ∷ w .u ∷ []
 
--- the weight of a vertex, the vertices being counted from 1
-abbrev pub weightOf : ℕ → List ℤ → ℤ
-weightOf vertex ws = getD ws (pred vertex) (pos 0)
+-- ---- vertices, which are counted through the groups
 
--- every weight is -4096 to 4096, and a weight of no vertex is 0. There are n vertices after the first.
-abbrev pub weightsIn : ℕ → List ℤ → Bool
-weightsIn n ws = all (within 4096) ws && all isZero (drop (suc n) ws)
+-- the group of vertex v, and its number there; all are counted from 0
+abbrev pub groupAt : List Group → ℕ → ℕ
+groupAt [] v = 0
+groupAt (g ∷ gs) v = cond (leb v (g .dimension)) 0 (suc (groupAt gs (v - suc (g .dimension))))
 
--- a replace (1), or a flip (2), all of whose weights are unused
-abbrev pub operationIn : ℕ → List ℤ → Bool
-operationIn operation ws = eqb operation 1 || (eqb operation 2 && all isZero ws)
+abbrev pub ownAt : List Group → ℕ → ℕ
+ownAt [] v = v
+ownAt (g ∷ gs) v = cond (leb v (g .dimension)) v (ownAt gs (v - suc (g .dimension)))
 
-abbrev pub vertexIn : ℕ → ℕ → Bool
-vertexIn n vertex = leb 1 vertex && leb vertex (suc n)
+-- how many vertices group i has
+abbrev pub verticesAt : List Group → ℕ → ℕ
+verticesAt [] i = 0
+verticesAt (g ∷ gs) zero = suc (g .dimension)
+verticesAt (g ∷ gs) (suc i) = verticesAt gs i
 
--- 8: operation, vertex or weight outside, or an unused weight that is not 0
-abbrev pub outside : ℕ → Call → ℕ
-outside n (Move operation vertex weights) = unless (vertexIn n vertex && weightsIn n (weightList weights) && operationIn operation (weightList weights)) 8
-outside n (Point weights) = unless (weightsIn n (weightList weights)) 8
+-- ---- weights
 
--- 9: the replaced vertex has weight 0, or a point with all weights 0
-abbrev pub degenerate : Call → ℕ
-degenerate (Move operation vertex weights) = unless (eqb operation 2 || not (isZero (weightOf vertex (weightList weights)))) 9
-degenerate (Point weights) = unless (not (all isZero (weightList weights))) 9
+-- each group's share of a point's weights
+abbrev pub shares : List Group → List ℤ → List (List ℤ)
+shares [] ws = []
+shares (g ∷ gs) ws = take (suc (g .dimension)) ws ∷ shares gs (drop (suc (g .dimension)) ws)
 
--- the call's own refusal, 8 before 9
-abbrev pub judged : ℕ → Call → ℕ
-judged n call = firstOf (outside n call) (degenerate call)
+-- the weights of a call by groups: those of a move belong to its vertex's group, and no other group's point is asked for
+abbrev pub weightsFor : List Group → Call → List (List ℤ)
+weightsFor gs (Move operation vertex weights) = map (λ g. weightList weights) gs
+weightsFor gs (Point weights) = shares gs (weightList weights)
+
+-- the weights of a move that nothing uses: all of a flip, and of a replace those past the vertices of the vertex's group
+abbrev pub unused : List Group → ℕ → ℕ → List ℤ → List ℤ
+unused gs operation vertex ws = cond (eqb operation 2) ws (drop (verticesAt gs (groupAt gs (pred vertex))) ws)
+
+-- the weight of a move's vertex
+abbrev pub weightAt : List Group → ℕ → List ℤ → ℤ
+weightAt gs vertex ws = getD ws (ownAt gs (pred vertex)) (pos 0)
+
+-- ---- the tests of a call before that of its size
+
+unfoldable pub beforeSize : List Group → Call → List Test
+beforeSize gs (Move operation vertex weights) =
+    -- 'operation, vertex, weight outside, or unused weight not 0'
+    (eqb operation 1 || eqb operation 2) else 8
+    ∷ (leb 1 vertex && leb vertex (vertexCount gs)) else 8
+    ∷ all (within 4096) (weightList weights) else 8
+    ∷ all isZero (unused gs operation vertex (weightList weights)) else 8
+    -- 'replaced vertex has weight 0'
+    ∷ (eqb operation 2 || not (isZero (weightAt gs vertex (weightList weights)))) else 9
+    ∷ []
+beforeSize gs (Point weights) =
+    -- 'weight outside, or unused weight not 0'
+    all (within 4096) (weightList weights) else 8
+    ∷ all isZero (drop (vertexCount gs) (weightList weights)) else 8
+    -- 'point with all weights 0', of a rectangular patch in either pair
+    ∷ all (λ ws. not (all isZero ws)) (shares gs (weightList weights)) else 9
+    ∷ []

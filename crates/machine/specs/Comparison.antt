@@ -1,92 +1,70 @@
--- The comparison machine of demand 3: it keeps the record's polynomials and an exact, unbounded frame, and sees no net.
-use Prim.Native.Nat.{ℕ, zero, suc, pred, _-_, _+_, _*_}
+-- The comparison machine of demand 3: it keeps the record's polynomials and exact, unbounded frames, one for each group, and sees no net.
+use Prim.Native.Nat.{ℕ, pred}
 use mathlib.Core.Bool.{cond}
-use mathlib.Core.List.{List, [], _++_, map}
+use mathlib.Core.List.{List, [], map}
 use lib.Dec.{eqb}
 use lib.IntN.{ℤ, pos, negℤ, _*ℤ_}
-use lib.ListN.{getD, set, replicate}
+use lib.ListN.{getD, set}
 use Rattle.polar.specs.Sigma.{Point}
-use Rattle.polar.specs.Order.{monomials}
-use Rattle.polar.specs.Scale.{scale}
-use Rattle.polar.specs.Polar.{polar, value, terms}
-use Rattle.entries.specs.Frame.{taken, combination}
-use Rattle.entries.specs.Entries.{listed}
-use Rattle.machine.specs.Kinds.{further, firstOf, unless}
-use Rattle.machine.specs.Calls.{weightList, judged}
-use Rattle.machine.specs.Sizes.{allNamed}
-use Rattle.machine.specs.Nets.{used, answerAt}
-use Rattle.machine.specs.declared.Net.{Net}
+use Rattle.polar.specs.Groups.{Group, monomialsOver}
+use Rattle.polar.specs.Scale.{scaleOver}
+use Rattle.polar.specs.Polar.{polarOver, valueOver, terms}
+use Rattle.entries.specs.Frame.{vertexAt, takenOver, pointsOver, before}
+use Rattle.entries.specs.Entries.{listedOver}
+use Rattle.machine.specs.Refusals.{firstFailed}
+use Rattle.kinds.specs.Kinds.{groupsOf}
+use Rattle.kinds.specs.Frames.{Frames}
+use Rattle.machine.specs.Calls.{groupAt, ownAt, weightsFor}
+use Rattle.machine.specs.Sizes.{callTests}
+use Rattle.machine.specs.Steps.{Answer, Taken, foundAt, Step, stepBy}
+use Rattle.machine.specs.Nets.{Net}
 use Rattle.machine.specs.declared.Call.{Call}
 use Rattle.machine.specs.declared.Call.the-variants as call
-use Rattle.machine.specs.declared.Answer.{Answer}
-use Rattle.machine.specs.declared.Answer.the-variants as answer
 
--- the record's polynomials: kind, degree, and the coefficients, four to a monomial
+-- the record's polynomials: kind, degrees, and the coefficients, four to a monomial
 pub record Polynomials : Type 0 where
   pub kind : ℕ
   pub degree : ℕ
+  pub second : ℕ
   pub coefficients : List ℤ
 
--- an exact frame: its vertices, each the list of its numbers
-abbrev pub Frame : Type 0
-Frame = List Point
+abbrev pub groups : Polynomials → List Group
+groups f = groupsOf (f .kind) (f .degree) (f .second)
 
-abbrev pub vertexAt : Frame → ℕ → Point
-vertexAt frame v = getD frame v []
+-- the scaled polar value of a list of points for each group, component c
+unfoldable pub polarOf : Polynomials → ℕ → List (List Point) → ℤ
+polarOf f c pss = polarOver (groups f) (terms c (monomialsOver (groups f)) (f .coefficients)) pss
 
--- the scaled polar value, component c
-unfoldable pub polarOf : Polynomials → ℕ → List Point → ℤ
-polarOf f c ps = polar (further (f .kind)) (f .degree) (terms c (monomials (further (f .kind)) (f .degree)) (f .coefficients)) ps
+-- L × F(q), component c, of a point for each group
+unfoldable pub scaledValue : Polynomials → List Point → ℕ → ℤ
+scaledValue f qs c = pos (scaleOver (groups f)) *ℤ valueOver (groups f) (terms c (monomialsOver (groups f)) (f .coefficients)) qs
 
--- L × F(q), component c
-unfoldable pub scaledValue : Polynomials → Point → ℕ → ℤ
-scaledValue f q c =
-    pos (scale (further (f .kind)) (f .degree)) *ℤ value (further (f .kind)) (f .degree) (terms c (monomials (further (f .kind)) (f .degree)) (f .coefficients)) q
+-- the net over frames: every entry is its polar value
+unfoldable pub netOver : Polynomials → Frames → Net
+netOver f frames = record { kind = f .kind; degree = f .degree; second = f .second; entries = listedOver (groups f) (λ c es. polarOf f c (takenOver frames es)) }
 
--- q = αr + βs (+ γt) over the machine's own frame
-unfoldable pub pointOf : Polynomials → Frame → List ℤ → Point
-pointOf f frame ws = combination (suc (further (f .kind))) ws (vertexAt frame)
+-- ---- a call
 
--- the polar values that the size rule names
-unfoldable pub machineSize : Polynomials → Frame → List ℤ → ℕ
-machineSize f frame ws =
-    unless (allNamed (further (f .kind)) (f .degree) (λ c h e. polarOf f c (replicate h (pointOf f frame ws) ++ taken (vertexAt frame) e))) 10
+-- the q of each group
+unfoldable pub pointsOf : Polynomials → Frames → Call → List Point
+pointsOf f frames c = pointsOver (groups f) (weightsFor (groups f) c) frames
 
-unfoldable pub machineRefusal : Polynomials → Frame → Call → ℕ
-machineRefusal f frame (call.Move operation vertex weights) =
-    firstOf (judged (further (f .kind)) (call.Move operation vertex weights)) (cond (eqb operation 1) (machineSize f frame (weightList weights)) 0)
-machineRefusal f frame (call.Point weights) =
-    firstOf (judged (further (f .kind)) (call.Point weights)) (machineSize f frame (weightList weights))
+-- component i of the polar value with counts es of the call's q and of the vertices in each group
+unfoldable pub machinePolar : Polynomials → Frames → Call → ℕ → List (List ℕ) → ℤ
+machinePolar f frames c i es = polarOf f i (takenOver (before (pointsOf f frames c) frames) es)
 
--- an answer and the frame after it
-pub record Answered : Type 0 where
-  pub answer : Answer
-  pub frame : Frame
+-- the frames with another point in the place of vertex v of group i
+abbrev pub putOver : ℕ → ℕ → Point → Frames → Frames
+putOver i v q frames = set frames i (set (getD frames i []) v q)
 
 -- An accepted replace puts q in the vertex's place, an accepted flip its negative; an accepted point answers L × F(q) with its projection.
-unfoldable pub machineAccepted : Polynomials → Frame → Call → Answered
-machineAccepted f frame (call.Move operation vertex weights) =
-    record {
-      answer = answer.Taken;
-      frame = set frame (pred vertex) (cond (eqb operation 1) (pointOf f frame (weightList weights)) (map negℤ (vertexAt frame (pred vertex))));
-    }
-machineAccepted f frame (call.Point weights) = record { answer = answerAt (scaledValue f (pointOf f frame (weightList weights))); frame = frame }
+unfoldable pub machineAccepted : Polynomials → Frames → Call → Step Answer Frames
+machineAccepted f frames (call.Move operation vertex weights) =
+    let i = groupAt (groups f) (pred vertex) in
+    let v = ownAt (groups f) (pred vertex) in
+    let q = getD (pointsOf f frames (call.Move operation vertex weights)) i [] in
+    record { answer = Taken; left = putOver i v (cond (eqb operation 1) q (map negℤ (vertexAt (getD frames i []) v))) frames }
+machineAccepted f frames (call.Point weights) = record { answer = foundAt (scaledValue f (pointsOf f frames (call.Point weights))); left = frames }
 
--- a refused call changes nothing
-unfoldable pub machineBy : ℕ → Polynomials → Frame → Call → Answered
-machineBy zero f frame c = machineAccepted f frame c
-machineBy (suc k) f frame c = record { answer = answer.Refused (suc k); frame = frame }
-
-unfoldable pub machineStep : Polynomials → Frame → Call → Answered
-machineStep f frame c = machineBy (machineRefusal f frame c) f frame c
-
--- the net over a frame: every entry is its polar value; the places past the entries are 0
-unfoldable pub netOver : Polynomials → Frame → Net
-netOver f frame =
-    record {
-      kind = f .kind;
-      degree = f .degree;
-      entries =
-          listed (further (f .kind)) (f .degree) (λ c e. polarOf f c (taken (vertexAt frame) e))
-          ++ replicate (180 - used (f .kind) (f .degree)) (pos 0);
-    }
+unfoldable pub machineStep : Polynomials → Frames → Call → Step Answer Frames
+machineStep f frames c = stepBy (firstFailed (callTests (groups f) c (machinePolar f frames c))) frames (machineAccepted f frames c)

@@ -1,37 +1,47 @@
--- Demand 3 of the letter, as one statement about every list of calls, for curves and patches together.
+-- Demand 3 of the letter, as one statement about every list of calls, for all kinds together.
 --
--- f are a record's polynomials and `numbers` its frame; they are accepted when `firstRefusal` is 0. `calls` is any list of replaces, flips, points and broken calls of
--- every sort, the empty list among them. `netAfter` and `netAnswers` go by `stepOf`, which is what the library's functions are proved to do; `frameAfter` and
--- `machineAnswers` are the comparison machine, which keeps the polynomials and an exact frame and sees no net.
-use Prim.Native.Nat.{suc}
+-- f are a record's polynomials and `numbers` those of its frame; they are accepted when `firstRefusal` is 0. `calls` is any list of replaces, flips, points and
+-- broken calls of every sort, the empty list among them. `stepOf` is what the library's functions are proved to do; `machineStep` is the comparison machine, which
+-- keeps the polynomials and an exact frame and sees no net.
+use Prim.Native.Nat.{ℕ, _<_}
 use mathlib.Core.Path.{_≡_}
-use mathlib.Core.List.{List}
-use lib.IntN.{ℤ}
-use Rattle.machine.specs.Kinds.{further}
-use Rattle.machine.specs.Comparison.{Polynomials, Frame, netOver}
-use Rattle.machine.specs.Lists.{netAfter, netAnswers, frameAfter, machineAnswers}
-use Rattle.machine.specs.First.{frameOf, firstNet, firstRefusal}
-use Rattle.machine.specs.declared.Net.{Net}
+use mathlib.Core.Bool.{true}
+use mathlib.Core.Logic.{_↔_}
+use mathlib.Core.List.{List, List·Memᴰ}
+use lib.IntN.{ℤ, natAbs}
+use Rattle.projection.specs.Projection.{limit}
+use Rattle.machine.specs.Refusals.{allPass}
+use Rattle.machine.specs.Calls.{beforeSize}
+use Rattle.kinds.specs.Frames.{Frames, framesOf}
+use Rattle.machine.specs.Sizes.{namedBy}
+use Rattle.machine.specs.Steps.{Refused, after, answers}
+use Rattle.machine.specs.Nets.{Net, stepOf}
+use Rattle.machine.specs.Comparison.{Polynomials, groups, netOver, machinePolar, machineStep}
+use Rattle.machine.specs.First.{firstNet, firstRefusal}
 use Rattle.machine.specs.declared.Call.{Call}
 
--- the first net and the first frame of a record
-abbrev pub start : Polynomials → List ℤ → Net
-start f numbers = firstNet f numbers
+-- one of the polar values that a call names has a component beyond 2 to the 48th in absolute value
+abbrev pub Beyond : Polynomials → Frames → Call → Type 0
+Beyond f frames call = (es : List (List ℕ)) × (c : ℕ) × List·Memᴰ es (namedBy (groups f) call) × (c < 4) × (limit < natAbs (machinePolar f frames call c es))
 
-abbrev pub startFrame : Polynomials → List ℤ → Frame
-startFrame f numbers = frameOf (suc (further (f .kind))) numbers
+module _ (f : Polynomials) (numbers : List ℤ) where
+  -- the net after a list of calls, and the comparison machine's frames
+  abbrev pub netReached : List Call → Net
+  netReached calls = after stepOf (firstNet f numbers) calls
 
--- After the list the net is the scaled polar values over the frame reached, its kind and degree being the record's, and every answer is the comparison machine's.
-abbrev pub EveryList : Type 0
-EveryList =
-    (f : Polynomials) (numbers : List ℤ) → firstRefusal f numbers ≡ 0 → (calls : List Call)
-    → (netAfter (start f numbers) calls ≡ netOver f (frameAfter f (startFrame f numbers) calls))
-    × (netAnswers (start f numbers) calls ≡ machineAnswers f (startFrame f numbers) calls)
+  abbrev pub framesReached : List Call → Frames
+  framesReached calls = after (machineStep f) (framesOf (groups f) numbers) calls
 
--- Two lists that reach the same frame leave the same net, and every further list gets the same answers after the one as after the other.
-abbrev pub SameFrame : Type 0
-SameFrame =
-    (f : Polynomials) (numbers : List ℤ) → firstRefusal f numbers ≡ 0 → (one other : List Call)
-    → frameAfter f (startFrame f numbers) one ≡ frameAfter f (startFrame f numbers) other
-    → (netAfter (start f numbers) one ≡ netAfter (start f numbers) other)
-    × ((more : List Call) → netAnswers (netAfter (start f numbers) one) more ≡ netAnswers (netAfter (start f numbers) other) more)
+  pub record Guaranteed (calls : List Call) : Type 0 where
+    -- the net is the scaled polar values over the frames that the accepted moves give
+    pub net : netReached calls ≡ netOver f (framesReached calls)
+    -- every call got the answer of the comparison machine
+    pub answered : answers stepOf (firstNet f numbers) calls ≡ answers (machineStep f) (framesOf (groups f) numbers) calls
+    -- a further move or point that is otherwise in order is refused for size exactly when one of its named polar values is beyond the limit
+    pub sized : (call : Call) → allPass (beforeSize (groups f) call) ≡ true → (stepOf (netReached calls) call .answer ≡ Refused 10) ↔ Beyond f (framesReached calls) call
+    -- another list that reaches the same frames leaves the same net, and every further list gets the same answers after the one as after the other
+    pub same : (other : List Call) → framesReached other ≡ framesReached calls
+        → (netReached other ≡ netReached calls) × ((more : List Call) → answers stepOf (netReached other) more ≡ answers stepOf (netReached calls) more)
+
+abbrev pub Demand3 : Type 0
+Demand3 = (f : Polynomials) (numbers : List ℤ) → firstRefusal f numbers ≡ 0 → (calls : List Call) → Guaranteed f numbers calls

@@ -1,49 +1,97 @@
--- Nets whose entries stand in places that the caller lends: what the making of a first net and a call answer, and what they leave there. A net's array has 180 places.
-use Prim.Native.Nat.{ℕ}
-use mathlib.Core.Bool.{Bool, _&&_, cond}
-use mathlib.Core.List.{List, _++_}
-use lib.Dec.{eqb, ltb}
-use lib.IntN.{ℤ}
-use lib.ListN.{length, drop}
+-- Nets in places that the caller lends: how a net stands among 64-bit numbers, and what each function answers and leaves there.
+--
+--   places       what stands there
+--   0, 1, 2      kind, degree, second degree
+--   3 to 11      the frame's, kept as they are
+--   12 to 191    the entries, as many as kind and degrees have; those past them are kept
+--   192          the largest component's, kept as it is
+--   193 and on   the caller's
+use Prim.Native.Nat.{ℕ, zero, suc, _+_, _*_}
+use mathlib.Core.Bool.{Bool, true, cond}
+use mathlib.Core.List.{List, [], _∷_, _++_}
+use lib.Dec.{leb}
+use lib.IntN.{ℤ, pos, negsuc}
+use lib.ListN.{length, getD, take, drop}
+use Rattle.polar.specs.Groups.{monomialsOver}
+use Rattle.entries.specs.Entries.{numberCount}
+use Rattle.machine.specs.Refusals.{_else_, firstFailed}
+use Rattle.kinds.specs.Kinds.{groupsOf}
+use Rattle.machine.specs.Steps.{pointValues}
+use Rattle.machine.specs.Nets.{Net, netTests, accepted}
 use Rattle.machine.specs.Comparison.{Polynomials}
-use Rattle.machine.specs.First.{firstNet, firstRefusal}
-use Rattle.machine.specs.Nets.{netRefusal, stepOf}
-use Rattle.machine.specs.Answers.{foundBy}
-use Rattle.machine.specs.declared.Net.{Net}
+use Rattle.machine.specs.First.{firstTests, firstNet}
 use Rattle.machine.specs.declared.Call.{Call}
+use Rattle.machine.specs.declared.Call.the-variants.{Move, Point}
 
--- as many places as the array of a net has
-abbrev pub whole : List ℤ → Bool
-whole places = eqb (length places) 180
+-- ---- reading and writing
 
--- numbers put into the first places; the places behind them stay
-abbrev pub placed : {A : Type 0} → List A → List A → List A
-placed numbers lent = numbers ++ drop (length numbers) lent
+-- a place of the head; a number that is no byte counts as 255, which is no kind and no degree
+abbrev pub byteOf : ℤ → ℕ
+byteOf (pos n) = cond (leb n 255) n 255
+byteOf (negsuc n) = 255
 
--- ---- the first net
+-- the net that stands in lent places
+unfoldable pub netAt : List ℤ → Net
+netAt lent =
+    let kind = byteOf (getD lent 0 (pos 0)) in
+    let degree = byteOf (getD lent 1 (pos 0)) in
+    let second = byteOf (getD lent 2 (pos 0)) in
+    record { kind = kind; degree = degree; second = second; entries = take (numberCount (groupsOf kind degree second)) (drop 12 lent) }
 
--- the number of the refusal, 0 where there is none: other places than a net's are 11, before anything else
-unfoldable pub firstNumber : Polynomials → List ℤ → List ℤ → ℕ
-firstNumber f numbers entries = cond (whole (f .coefficients) && whole entries) (firstRefusal f numbers) 11
+-- numbers put into the places from `at` on; all others stay
+abbrev pub putAt : {A : Type 0} → ℕ → List A → List A → List A
+putAt at numbers lent = take at lent ++ (numbers ++ drop (at + length numbers) lent)
 
--- the entries of the first net where nothing is refused, and else what stood there
-unfoldable pub firstEntries : Polynomials → List ℤ → List ℤ → List ℤ
-firstEntries f numbers entries = cond (eqb (firstNumber f numbers entries) 0) (firstNet f numbers .entries) entries
+-- a net put into lent places
+unfoldable pub put : Net → List ℤ → List ℤ
+put net lent = putAt 12 (net .entries) (putAt 0 (pos (net .kind) ∷ pos (net .degree) ∷ pos (net .second) ∷ []) lent)
 
--- ---- calls
+-- places enough for a net; more are taken
+abbrev pub wide : List ℤ → Bool
+wide lent = leb 193 (length lent)
 
--- the number of the refusal, 0 where there is none: other places than a net's are 11, before anything else
-unfoldable pub lentNumber : Net → Call → ℕ
-lentNumber net call = cond (whole (net .entries)) (netRefusal net call) 11
+-- by the number that a function answers: what it writes where that is 0, and else what stood there
+abbrev pub unlessRefused : {A : Type 0} → ℕ → A → A → A
+unlessRefused zero written stood = written
+unlessRefused (suc k) written stood = stood
 
--- the entries that a call leaves
-unfoldable pub lentEntries : Net → Call → List ℤ
-lentEntries net call = cond (whole (net .entries)) (stepOf net call .net .entries) (net .entries)
+-- ---- a first net: the frame and the coefficients are lent too, in nine places and 180 or more; the frame's numbers are the first nine
 
--- a point wants four places besides
-unfoldable pub pointNumber : Net → Call → List ℤ → ℕ
-pointNumber net call found = cond (ltb (length found) 4) 11 (lentNumber net call)
+-- the coefficients are as many as kind and degrees have
+abbrev pub polynomialsFrom : ℕ → ℕ → ℕ → List ℤ → Polynomials
+polynomialsFrom kind degree second coefficients =
+    record { kind = kind; degree = degree; second = second; coefficients = take (4 * length (monomialsOver (groupsOf kind degree second))) coefficients }
 
--- the numbers of the point, which `foundBy` has only where the number is 0
-unfoldable pub pointPlaces : Net → Call → List ℤ → List ℤ
-pointPlaces net call found = placed (foundBy (pointNumber net call found) net call) found
+-- its number, and the net's places after it
+unfoldable pub madeNumber : ℕ → ℕ → ℕ → List ℤ → List ℤ → List ℤ → ℕ
+madeNumber kind degree second frame coefficients lent =
+    firstFailed
+    (leb 9 (length frame) else 11
+    ∷ leb 180 (length coefficients) else 11
+    ∷ wide lent else 11
+    ∷ firstTests (polynomialsFrom kind degree second coefficients) (take 9 frame))
+
+unfoldable pub madePlaces : ℕ → ℕ → ℕ → List ℤ → List ℤ → List ℤ → List ℤ
+madePlaces kind degree second frame coefficients lent =
+    unlessRefused (madeNumber kind degree second frame coefficients lent) (put (firstNet (polynomialsFrom kind degree second coefficients) (take 9 frame)) lent) lent
+
+-- ---- a call
+
+-- a point writes four numbers into places lent for them; a move writes none
+abbrev pub room : Call → List ℤ → Bool
+room (Move operation vertex weights) found = true
+room (Point weights) found = leb 4 (length found)
+
+-- its number, and after it the net's places and those lent for a point's numbers
+unfoldable pub callNumber : Call → List ℤ → List ℤ → ℕ
+callNumber call lent found =
+    firstFailed
+    (wide lent else 11
+    ∷ room call found else 11
+    ∷ netTests (netAt lent) call)
+
+unfoldable pub callPlaces : Call → List ℤ → List ℤ → List ℤ
+callPlaces call lent found = unlessRefused (callNumber call lent found) (put (accepted (netAt lent) call .left) lent) lent
+
+unfoldable pub callFound : Call → List ℤ → List ℤ → List ℤ
+callFound call lent found = unlessRefused (callNumber call lent found) (putAt 0 (pointValues (accepted (netAt lent) call .answer)) found) found

@@ -1,11 +1,11 @@
-pub mod Kinds
+pub mod Refusals
 pub mod Calls
 pub mod Sizes
+pub mod Steps
 pub mod Nets
 pub mod Comparison
-pub mod Lists
 pub mod First
 pub mod Demand3
-pub mod Answers
 pub mod Lent
+pub mod Carried
 pub mod Samples

@@ -1,153 +1,327 @@
--- The samples B1 to B10 of document 01, as one table of what the definitions must give. proofs/Samples.antt proves every row.
+-- What the definitions must give, as two tables: the samples B1 to B10 of document 01 with the answers to further calls, and single instances. Both machines share the
+-- tables of refusals and the names of the size rule, so these rows hold their order, and over two groups what no law holds. proofs/Samples.antt proves every row.
 use Prim.Native.Nat.{ℕ}
 use mathlib.Core.Path.{_≡_}
-use mathlib.Core.List.{List, [], _∷_, map}
-use lib.IntN.{ℤ, pos}
-use lib.ListN.{length, take}
-use Rattle.machine.specs.Comparison.{Polynomials, netOver}
-use Rattle.machine.specs.Lists.{frameAfter, machineAnswers}
-use Rattle.machine.specs.Demand3.{startFrame}
-use Rattle.machine.specs.Answers.{told}
+use mathlib.Core.Bool.{Bool, cond}
+use mathlib.Core.List.{List, [], _∷_, _++_, map}
+use lib.IntN.{ℤ, pos, negℤ}
+use lib.ListN.{getD, replicate}
+use Rattle.integers.specs.Sum.{upto}
+use Rattle.polar.specs.Order.{joined}
+use Rattle.polar.specs.Groups.{Group, monomialsOver}
+use Rattle.polar.specs.Polar.{polarOver, terms}
+use Rattle.entries.specs.Frame.{takenOver, pointsOver, before}
+use Rattle.entries.specs.Entries.{listedOver}
+use Rattle.kinds.specs.Kinds.{group}
+use Rattle.machine.specs.Steps.{Answer, refusalNumber, pointValues, directionValues, answers}
+use Rattle.machine.specs.Comparison.{Polynomials, groups, machineStep, netOver}
+use Rattle.kinds.specs.Frames.{Frames, framesOf, framesAllowed}
+use Rattle.machine.specs.Refusals.{firstFailed}
+use Rattle.machine.specs.Calls.{weightsFor}
+use Rattle.machine.specs.Sizes.{callTests, namedByReplace, namedByPoint}
+use Rattle.machine.specs.Nets.{netTests}
+use Rattle.machine.specs.Lent.{callNumber, madeNumber}
+use Rattle.machine.specs.First.{firstRefusal}
+use Rattle.machine.specs.Demand3.{framesReached}
 use Rattle.machine.specs.declared.Call.{Call}
 use Rattle.machine.specs.declared.Call.the-variants.{Move, Point}
 
--- A sample: polynomials and the numbers of a frame, the calls made, the first numbers of the net reached, and what each call answers:
--- the number of a refusal or 0, then a found point, then its direction where it has one.
+-- a sample: polynomials and the numbers of a frame, the calls made, the net reached, and what each call is answered
 pub record Sample : Type 0 where
   pub polynomials : Polynomials
   pub frame : List ℤ
   pub calls : List Call
-  pub net : List ℤ
+  pub net : List (List ℤ)
   pub answers : List (List ℤ)
 
+-- an answer in a row: the number of the refusal or 0, then the point found, then its direction where it has one
+abbrev pub answerRow : Answer → List ℤ
+answerRow a = pos (refusalNumber a) ∷ (pointValues a ++ directionValues a)
+
 -- what a sample says of the definitions
-abbrev pub Holds : Sample → Type 0
-Holds s =
-    (take (length (s .net)) (netOver (s .polynomials) (frameAfter (s .polynomials) (startFrame (s .polynomials) (s .frame)) (s .calls)) .entries) ≡ s .net)
-    × (map told (machineAnswers (s .polynomials) (startFrame (s .polynomials) (s .frame)) (s .calls)) ≡ s .answers)
+pub record SampleHolds (s : Sample) : Type 0 where
+  pub accepted : firstRefusal (s .polynomials) (s .frame) ≡ 0
+  pub net : netOver (s .polynomials) (framesReached (s .polynomials) (s .frame) (s .calls)) .entries ≡ joined (λ row. row) (s .net)
+  pub answered : map answerRow (answers (machineStep (s .polynomials)) (framesOf (groups (s .polynomials)) (s .frame)) (s .calls)) ≡ s .answers
+
+-- ---- how the table is written
+
+-- x, y, z, w of a monomial, an entry or a point
+abbrev row : ℕ → ℕ → ℕ → ℕ → List ℤ
+row x y z w = pos x ∷ pos y ∷ pos z ∷ pos w ∷ []
+
+-- the same where some are below 0
+abbrev signed : ℤ → ℤ → ℤ → ℤ → List ℤ
+signed x y z w = x ∷ y ∷ z ∷ w ∷ []
+
+abbrev minus : ℕ → ℤ
+minus k = negℤ (pos k)
+
+abbrev polynomials : ℕ → ℕ → ℕ → List (List ℤ) → Polynomials
+polynomials kind degree second rows = record { kind = kind; degree = degree; second = second; coefficients = joined (λ row. row) rows }
+
+-- a move with the first of its weights; those that are not written are 0
+abbrev move : ℕ → ℕ → List ℤ → Call
+move operation vertex ws = Move operation vertex (record { r = getD ws 0 (pos 0); s = getD ws 1 (pos 0); t = getD ws 2 (pos 0); u = getD ws 3 (pos 0) })
 
 abbrev replace : ℕ → ℤ → ℤ → Call
-replace vertex r s = Move 1 vertex (record { r = r; s = s; t = pos 0 })
+replace vertex r s = move 1 vertex (r ∷ s ∷ [])
 
 abbrev flip : ℕ → Call
-flip vertex = Move 2 vertex (record { r = pos 0; s = pos 0; t = pos 0 })
+flip vertex = move 2 vertex []
 
-abbrev point : ℤ → ℤ → ℤ → Call
-point r s t = Point (record { r = r; s = s; t = t })
+-- the weights of all vertices, 0 where there is none
+abbrev point : ℤ → ℤ → ℤ → ℤ → Call
+point r s t u = Point (record { r = r; s = s; t = t; u = u })
 
--- a number below 0
-abbrev minus : ℕ → ℤ
-minus k = lib.IntN.negℤ (pos k)
+abbrev refused : ℕ → List ℤ
+refused k = pos k ∷ []
 
--- the four numbers of a monomial or an entry in front of others
-abbrev four : ℤ → ℤ → ℤ → ℤ → List ℤ → List ℤ
-four x y z w rest = x ∷ y ∷ z ∷ w ∷ rest
+abbrev taken : List ℤ
+taken = refused 0
+
+abbrev found : List ℤ → List ℤ
+found numbers = pos 0 ∷ numbers
+
+-- ---- the polynomials
 
 abbrev circle : Polynomials
-circle =
-    record {
-      kind = 1;
-      degree = 2;
-      coefficients = four (pos 1) (pos 0) (pos 0) (pos 1) (four (pos 0) (pos 2) (pos 0) (pos 0) (four (minus 1) (pos 0) (pos 0) (pos 1) []));
-    }
-
-abbrev unitStretch : List ℤ
-unitStretch = pos 0 ∷ pos 1 ∷ pos 1 ∷ pos 1 ∷ []
+circle = polynomials 1 2 0 (row 1 0 0 1 ∷ row 0 2 0 0 ∷ signed (minus 1) (pos 0) (pos 0) (pos 1) ∷ [])
 
 -- x = 3TZ², y = 3T²Z, z = 0, w = Z³ + T³
 abbrev folium : Polynomials
-folium =
-    record {
-      kind = 1;
-      degree = 3;
-      coefficients =
-          four (pos 0) (pos 0) (pos 0) (pos 1)
-          (four (pos 3) (pos 0) (pos 0) (pos 0) (four (pos 0) (pos 3) (pos 0) (pos 0) (four (pos 0) (pos 0) (pos 0) (pos 1) [])));
-    }
+folium = polynomials 1 3 0 (row 0 0 0 1 ∷ row 3 0 0 0 ∷ row 0 3 0 0 ∷ row 0 0 0 1 ∷ [])
 
 -- x = UZ, y = VZ, z = UV, w = Z²
 abbrev saddle : Polynomials
-saddle =
-    record {
-      kind = 2;
-      degree = 2;
-      coefficients =
-          four (pos 0) (pos 0) (pos 0) (pos 1)
-          (four (pos 0) (pos 1) (pos 0) (pos 0)
-          (four (pos 0) (pos 0) (pos 0) (pos 0)
-          (four (pos 1) (pos 0) (pos 0) (pos 0) (four (pos 0) (pos 0) (pos 1) (pos 0) (four (pos 0) (pos 0) (pos 0) (pos 0) [])))));
-    }
-
-abbrev corner : List ℤ
-corner = pos 1 ∷ pos 0 ∷ pos 1 ∷ pos 0 ∷ pos 1 ∷ pos 1 ∷ pos 0 ∷ pos 0 ∷ pos 1 ∷ []
+saddle = polynomials 2 2 0 (row 0 0 0 1 ∷ row 0 1 0 0 ∷ row 0 0 0 0 ∷ row 1 0 0 0 ∷ row 0 0 1 0 ∷ row 0 0 0 0 ∷ [])
 
 -- x = 1048576 Z, y = z = 0, w = Z + T
 abbrev line : Polynomials
-line =
-    record { kind = 1; degree = 1; coefficients = four (pos 1048576) (pos 0) (pos 0) (pos 1) (four (pos 0) (pos 0) (pos 0) (pos 1) []) }
+line = polynomials 1 1 0 (row 1048576 0 0 1 ∷ row 0 0 0 1 ∷ [])
+
+-- ---- the table
 
 abbrev pub samples : List Sample
 samples =
     -- B1 and B2
     record {
       polynomials = circle;
-      frame = unitStretch;
-      calls = point (pos 1) (pos 1) (pos 0) ∷ [];
-      net = four (pos 2) (pos 0) (pos 0) (pos 2) (four (pos 2) (pos 2) (pos 0) (pos 2) (four (pos 0) (pos 4) (pos 0) (pos 4) []));
-      answers = (pos 0 ∷ four (pos 6) (pos 8) (pos 0) (pos 10) []) ∷ [];
+      frame = row 0 1 1 1;
+      calls = point (pos 1) (pos 1) (pos 0) (pos 0) ∷ [];
+      net = row 2 0 0 2 ∷ row 2 2 0 2 ∷ row 0 4 0 4 ∷ [];
+      answers = found (row 6 8 0 10) ∷ [];
     }
     ∷  -- B3
     record {
       polynomials = circle;
-      frame = unitStretch;
+      frame = row 0 1 1 1;
       calls = replace 2 (pos 1) (pos 1) ∷ [];
-      net = four (pos 2) (pos 0) (pos 0) (pos 2) (four (pos 4) (pos 2) (pos 0) (pos 4) (four (pos 6) (pos 8) (pos 0) (pos 10) []));
-      answers = (pos 0 ∷ []) ∷ [];
+      net = row 2 0 0 2 ∷ row 4 2 0 4 ∷ row 6 8 0 10 ∷ [];
+      answers = taken ∷ [];
     }
     ∷  -- B4 and B5
     record {
       polynomials = circle;
-      frame = unitStretch;
-      calls = flip 1 ∷ point (pos 1) (pos 1) (pos 0) ∷ [];
-      net = four (pos 2) (pos 0) (pos 0) (pos 2) (four (minus 2) (minus 2) (pos 0) (minus 2) (four (pos 0) (pos 4) (pos 0) (pos 4) []));
-      answers = (pos 0 ∷ []) ∷ (pos 0 ∷ four (minus 2) (pos 0) (pos 0) (pos 2) []) ∷ [];
+      frame = row 0 1 1 1;
+      calls = flip 1 ∷ point (pos 1) (pos 1) (pos 0) (pos 0) ∷ [];
+      net = row 2 0 0 2 ∷ signed (minus 2) (minus 2) (pos 0) (minus 2) ∷ row 0 4 0 4 ∷ [];
+      answers = taken ∷ found (signed (minus 2) (pos 0) (pos 0) (pos 2)) ∷ [];
     }
     ∷  -- B6 and B7
     record {
       polynomials = folium;
-      frame = unitStretch;
-      calls = point (pos 2) (minus 1) (pos 0) ∷ [];
-      net =
-          four (pos 0) (pos 0) (pos 0) (pos 3)
-          (four (pos 3) (pos 0) (pos 0) (pos 3) (four (pos 6) (pos 3) (pos 0) (pos 3) (four (pos 9) (pos 9) (pos 0) (pos 6) [])));
-      answers = (pos 0 ∷ four (minus 9) (pos 9) (pos 0) (pos 0) (pos 1 ∷ minus 1 ∷ pos 0 ∷ [])) ∷ [];
+      frame = row 0 1 1 1;
+      calls = point (pos 2) (minus 1) (pos 0) (pos 0) ∷ [];
+      net = row 0 0 0 3 ∷ row 3 0 0 3 ∷ row 6 3 0 3 ∷ row 9 9 0 6 ∷ [];
+      answers = found (signed (minus 9) (pos 9) (pos 0) (pos 0) ++ (pos 1 ∷ minus 1 ∷ pos 0 ∷ [])) ∷ [];
     }
     ∷  -- B8 and B9
     record {
       polynomials = saddle;
-      frame = corner;
-      calls = point (pos 1) (pos 1) (pos 1) ∷ [];
-      net =
-          four (pos 2) (pos 0) (pos 0) (pos 2)
-          (four (pos 1) (pos 1) (pos 1) (pos 2)
-          (four (pos 1) (pos 0) (pos 0) (pos 2)
-          (four (pos 0) (pos 2) (pos 0) (pos 2) (four (pos 0) (pos 1) (pos 0) (pos 2) (four (pos 0) (pos 0) (pos 0) (pos 2) [])))));
-      answers = (pos 0 ∷ four (pos 6) (pos 6) (pos 2) (pos 18) []) ∷ [];
+      frame = pos 1 ∷ pos 0 ∷ pos 1 ∷ pos 0 ∷ pos 1 ∷ pos 1 ∷ pos 0 ∷ pos 0 ∷ pos 1 ∷ [];
+      calls = point (pos 1) (pos 1) (pos 1) (pos 0) ∷ [];
+      net = row 2 0 0 2 ∷ row 1 1 1 2 ∷ row 1 0 0 2 ∷ row 0 2 0 2 ∷ row 0 1 0 2 ∷ row 0 0 0 2 ∷ [];
+      answers = found (row 6 6 2 18) ∷ [];
     }
     ∷  -- B10, taken with 16 and refused with 17
     record {
       polynomials = line;
-      frame = pos 0 ∷ pos 1 ∷ pos 1 ∷ pos 0 ∷ [];
+      frame = row 0 1 1 0;
       calls = replace 1 (pos 4096) (pos 1) ∷ replace 1 (pos 4096) (pos 1) ∷ replace 1 (pos 16) (pos 1) ∷ [];
-      net = pos 281474976710656 ∷ [];
-      answers = (pos 0 ∷ []) ∷ (pos 0 ∷ []) ∷ (pos 0 ∷ []) ∷ [];
+      net = row 281474976710656 0 0 268501009 ∷ row 0 0 0 1 ∷ [];
+      answers = taken ∷ taken ∷ taken ∷ [];
     }
-    ∷
+    ∷  -- and refusals with several reasons: 8 and 10, 8 and 9 and 10, 9 and 10; of a point 8 and 10, 8 and 9, 9
     record {
       polynomials = line;
-      frame = pos 0 ∷ pos 1 ∷ pos 1 ∷ pos 0 ∷ [];
-      calls = replace 1 (pos 4096) (pos 1) ∷ replace 1 (pos 4096) (pos 1) ∷ replace 1 (pos 17) (pos 1) ∷ [];
-      net = pos 17592186044416 ∷ [];
-      answers = (pos 0 ∷ []) ∷ (pos 0 ∷ []) ∷ (pos 10 ∷ []) ∷ [];
+      frame = row 0 1 1 0;
+      calls =
+          replace 1 (pos 4096) (pos 1)
+          ∷ replace 1 (pos 4096) (pos 1)
+          ∷ replace 1 (pos 17) (pos 1)
+          ∷ replace 1 (pos 4097) (pos 1)
+          ∷ replace 2 (pos 4097) (pos 0)
+          ∷ replace 2 (pos 4096) (pos 0)
+          ∷ point (pos 4097) (pos 0) (pos 0) (pos 0)
+          ∷ point (pos 0) (pos 0) (pos 1) (pos 0)
+          ∷ point (pos 0) (pos 0) (pos 0) (pos 0)
+          ∷ [];
+      net = row 17592186044416 0 0 16781313 ∷ row 0 0 0 1 ∷ [];
+      answers = taken ∷ taken ∷ refused 10 ∷ refused 8 ∷ refused 8 ∷ refused 9 ∷ refused 8 ∷ refused 8 ∷ refused 9 ∷ [];
+    }
+    ∷  -- a move's own refusals: operation, vertex, weight outside, weight of a flip, weight past the vertices, weight 0 of the replaced vertex
+    record {
+      polynomials = saddle;
+      frame = pos 1 ∷ pos 0 ∷ pos 1 ∷ pos 0 ∷ pos 1 ∷ pos 1 ∷ pos 0 ∷ pos 0 ∷ pos 1 ∷ [];
+      calls =
+          move 0 1 (row 0 0 0 0)
+          ∷ move 3 1 (row 1 0 0 0)
+          ∷ move 2 0 (row 0 0 0 0)
+          ∷ move 2 4 (row 0 0 0 0)
+          ∷ move 1 3 (signed (pos 0) (minus 4097) (pos 1) (pos 0))
+          ∷ move 2 3 (row 0 0 1 0)
+          ∷ move 1 3 (row 0 0 1 1)
+          ∷ move 1 3 (row 1 1 0 0)
+          ∷ [];
+      net = row 2 0 0 2 ∷ row 1 1 1 2 ∷ row 1 0 0 2 ∷ row 0 2 0 2 ∷ row 0 1 0 2 ∷ row 0 0 0 2 ∷ [];
+      answers = refused 8 ∷ refused 8 ∷ refused 8 ∷ refused 8 ∷ refused 8 ∷ refused 8 ∷ refused 8 ∷ refused 9 ∷ [];
     }
     ∷ []
+
+-- ---- single instances
+
+infix 70 _is_
+-- what the definitions give, and what it must be
+pub data Instance : Type 0 where
+  _is_ : List ℤ → List ℤ → Instance
+
+abbrev pub Right : Instance → Type 0
+Right (given is must) = given ≡ must
+
+-- the refusals 7, 6, 5 and 4 of a first net, each with those of the rows before it: x of the first entry is 2520 times 2 to the 38th; a coefficient is outside;
+-- the determinant is 0 or a number outside; there is a second degree, or the degree is 11
+abbrev far : ℕ → ℕ → ℕ → Polynomials
+far degree second last = polynomials 1 degree second (joined (λ k. row 1048576 0 0 0 ∷ []) (upto degree) ++ (row 1048576 0 0 last ∷ []))
+
+abbrev firstNets : List Instance
+firstNets =
+    refused (firstRefusal (far 9 0 1048576) (signed (pos 4) (pos 4) (minus 4) (pos 4))) is refused 7
+    ∷ refused (firstRefusal (far 9 0 1048577) (signed (pos 4) (pos 4) (minus 4) (pos 4))) is refused 6
+    ∷ refused (firstRefusal (far 9 0 1048577) (row 4 4 4 4)) is refused 5
+    ∷ refused (firstRefusal (far 9 0 1048577) (row 5 4 4 5)) is refused 5
+    ∷ refused (firstRefusal (far 9 1 1048577) (row 4 4 4 4)) is refused 4
+    ∷ refused (firstRefusal (far 11 0 1048577) (row 4 4 4 4)) is refused 4
+    ∷ []
+
+-- the refusals 4 and 10 of a handed net before those of the call; its first entry is x, 0, 0, w
+abbrev handed : ℕ → ℕ → ℕ → ℕ → ℕ → ℤ → List ℤ
+handed kind degree second x w weight =
+    refused
+    (firstFailed
+    (netTests (record { kind = kind; degree = degree; second = second; entries = row x 0 0 w ++ row 0 0 0 1 }) (point weight (pos 1) (pos 0) (pos 0))))
+
+abbrev handedNets : List Instance
+handedNets =
+    handed 1 1 0 281474976710656 1 (pos 1) is refused 0
+    ∷ handed 1 1 0 281474976710656 1 (pos 2) is refused 10
+    ∷ handed 1 1 0 1 281474976710656 (pos 2) is refused 10
+    ∷ handed 1 1 0 281474976710656 1 (pos 4097) is refused 8
+    ∷ handed 1 1 0 281474976710657 1 (pos 4097) is refused 10
+    ∷ handed 1 1 1 281474976710657 1 (pos 4097) is refused 4
+    ∷ handed 3 1 1 281474976710657 1 (pos 4097) is refused 4
+    ∷ []
+
+-- too few places are 11 before all else
+abbrev zeros : ℕ → List ℤ
+zeros n = replicate n (pos 0)
+
+abbrev lentNets : List Instance
+lentNets =
+    refused (callNumber (point (pos 4097) (pos 0) (pos 0) (pos 0)) (zeros 192) (zeros 4)) is refused 11
+    ∷ refused (callNumber (point (pos 4097) (pos 0) (pos 0) (pos 0)) (zeros 193) (zeros 3)) is refused 11
+    ∷ refused (callNumber (point (pos 4097) (pos 0) (pos 0) (pos 0)) (zeros 193) (zeros 4)) is refused 4
+    ∷ refused (callNumber (flip 3) (zeros 193) []) is refused 4
+    ∷ refused (madeNumber 3 0 0 (zeros 8) (zeros 180) (zeros 193)) is refused 11
+    ∷ refused (madeNumber 3 0 0 (zeros 9) (zeros 179) (zeros 193)) is refused 11
+    ∷ refused (madeNumber 3 0 0 (zeros 9) (zeros 180) (zeros 192)) is refused 11
+    ∷ refused (madeNumber 3 0 0 (zeros 9) (zeros 180) (zeros 193)) is refused 4
+    ∷ []
+
+-- ---- two groups of two vertices, as request E3 has them
+
+-- the net of coefficients over frames
+abbrev netNumbers : List Group → List (List ℤ) → Frames → List ℤ
+netNumbers gs coefficients frames = listedOver gs (λ c es. polarOver gs (terms c (monomialsOver gs) (joined (λ row. row) coefficients)) (takenOver frames es))
+
+-- the number of a call's refusal, its polar values being those of coefficients over frames
+abbrev numberOver : List Group → List (List ℤ) → Frames → Call → ℕ
+numberOver gs coefficients frames call =
+    firstFailed
+    (callTests gs call
+    (λ c es.
+    polarOver gs (terms c (monomialsOver gs) (joined (λ row. row) coefficients)) (takenOver (before (pointsOver gs (weightsFor gs call) frames) frames) es)))
+
+-- the numbers of a list of names, and one name: how often q₁, r₁, s₁ and q₂, r₂, s₂ are taken
+abbrev counted : List (List (List ℕ)) → List ℤ
+counted names = map pos (joined (λ es. joined (λ e. e) es) names)
+
+abbrev name : ℕ → ℕ → ℕ → ℕ → ℕ → ℕ → List ℤ
+name a b c d e f = map pos (a ∷ b ∷ c ∷ d ∷ e ∷ f ∷ [])
+
+-- degrees 2 and 1
+abbrev strip : List Group
+strip = group 1 2 ∷ group 1 1 ∷ []
+
+abbrev stripCoefficients : List (List ℤ)
+stripCoefficients = row 1 0 0 1 ∷ row 0 0 3 0 ∷ row 0 2 0 0 ∷ row 0 0 0 0 ∷ signed (minus 1) (pos 0) (pos 0) (pos 1) ∷ row 0 0 1 0 ∷ []
+
+abbrev stripNumber : Call → List ℤ
+stripNumber call = refused (numberOver strip stripCoefficients (framesOf strip (row 0 1 1 1 ++ row 0 1 1 1)) call)
+
+-- x = 1048576 Z₁ Z₂, y = z = 0, w = Z₁ Z₂ + T₁ Z₂ + Z₁ T₂, over frames with Z = 4096 at r₁ and r₂
+abbrev tile : List Group
+tile = group 1 1 ∷ group 1 1 ∷ []
+
+abbrev tileNumber : Call → List ℤ
+tileNumber call =
+    let pair = (pos 1 ∷ pos 4096 ∷ []) ∷ (pos 1 ∷ pos 0 ∷ []) ∷ [] in
+    refused (numberOver tile (row 1048576 0 0 1 ∷ row 0 0 0 1 ∷ row 0 0 0 1 ∷ row 0 0 0 0 ∷ []) (pair ∷ pair ∷ []) call)
+
+abbrev firstNames : List (List ℤ)
+firstNames = name 1 0 0 0 1 0 ∷ name 1 0 0 0 0 1 ∷ name 0 1 0 0 1 0 ∷ name 0 1 0 0 0 1 ∷ name 0 0 1 0 1 0 ∷ name 0 0 1 0 0 1 ∷ []
+
+abbrev isTrue : Bool → List ℤ
+isTrue b = cond b (pos 1 ∷ []) (pos 0 ∷ [])
+
+abbrev twoGroups : List Instance
+twoGroups =
+    netNumbers strip stripCoefficients (framesOf strip (row 0 1 1 1 ++ row 1 2 1 1))
+    is joined (λ row. row) (row 4 0 6 4 ∷ row 2 0 6 2 ∷ row 4 4 6 4 ∷ row 2 2 6 2 ∷ row 0 8 8 8 ∷ row 0 4 8 4 ∷ [])
+    -- a determinant 0, or a number outside, of the second pair
+    ∷ isTrue (framesAllowed strip (row 0 1 1 1 ++ row 0 1 1 1)) is (pos 1 ∷ [])
+    ∷ isTrue (framesAllowed strip (row 0 1 1 1 ++ row 1 1 1 1)) is (pos 0 ∷ [])
+    ∷ isTrue (framesAllowed strip (row 0 1 1 1 ++ row 0 1 1 5)) is (pos 0 ∷ [])
+    -- vertices 1 to 4, weights of the own pair, no pair of a point all 0
+    ∷ stripNumber (replace 4 (pos 1) (pos 2)) is refused 0
+    ∷ stripNumber (replace 3 (pos 0) (pos 1)) is refused 9
+    ∷ stripNumber (move 1 4 (row 1 2 1 0)) is refused 8
+    ∷ stripNumber (flip 5) is refused 8
+    ∷ stripNumber (point (pos 1) (pos 1) (pos 0) (pos 1)) is refused 0
+    ∷ stripNumber (point (pos 1) (pos 1) (pos 0) (pos 0)) is refused 9
+    ∷ stripNumber (point (pos 0) (pos 0) (pos 1) (pos 1)) is refused 9
+    -- sizes: the second pair's with its own frame, or with q of the first
+    ∷ tileNumber (replace 3 (pos 16) (pos 1)) is refused 0
+    ∷ tileNumber (replace 3 (pos 17) (pos 1)) is refused 10
+    ∷ tileNumber (point (pos 16) (pos 1) (pos 1) (pos 1)) is refused 0
+    ∷ tileNumber (point (pos 16) (pos 1) (pos 2) (pos 1)) is refused 10
+    ∷ tileNumber (point (pos 1) (pos 1) (pos 17) (pos 1)) is refused 10
+    -- the names of a replace in the first pair, of one in the second, and of a point
+    ∷ counted (namedByReplace tile 0) is joined (λ n. n) firstNames
+    ∷ counted (namedByReplace tile 1)
+    is joined (λ n. n) (name 0 1 0 1 0 0 ∷ name 0 1 0 0 1 0 ∷ name 0 1 0 0 0 1 ∷ name 0 0 1 1 0 0 ∷ name 0 0 1 0 1 0 ∷ name 0 0 1 0 0 1 ∷ [])
+    ∷ counted (namedByPoint tile) is joined (λ n. n) (firstNames ++ (name 1 0 0 1 0 0 ∷ name 1 0 0 0 1 0 ∷ name 1 0 0 0 0 1 ∷ []))
+    ∷ []
+
+abbrev pub instances : List Instance
+instances = firstNets ++ handedNets ++ lentNets ++ twoGroups

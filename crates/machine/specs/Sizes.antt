@@ -1,13 +1,42 @@
--- The size rule of document 01: replace and point are refused exactly when some polar value of m points taken from the frame and q, any number of each, is out of range.
-use Prim.Native.Nat.{ℕ, suc, _-_}
-use mathlib.Core.Bool.{Bool}
-use mathlib.Core.List.{List}
+-- The size rule of documents 01 and 02: replace and point are refused exactly when some polar value that they name is out of range.
+-- A named value takes its points from the frames and from the q of each group: its counts say in each group how often q is taken and then how often each vertex.
+use Prim.Native.Nat.{ℕ, zero, suc, pred}
+use mathlib.Core.Bool.{Bool, cond}
+use mathlib.Core.List.{List, [], _∷_, _++_, map}
+use lib.Dec.{eqb}
 use lib.IntN.{ℤ}
+use lib.ListN.{replicate}
 use Rattle.integers.specs.Sum.{upto}
 use Rattle.polar.specs.Order.{counts}
+use Rattle.polar.specs.Groups.{Group, pairs, countsOver}
+use Rattle.entries.specs.Entries.{noneOfQ}
 use Rattle.projection.specs.Projection.{inRange}
-use Rattle.machine.specs.Kinds.{all}
+use Rattle.machine.specs.Refusals.{Test, _else_}
+use Rattle.integers.specs.Test.{all}
+use Rattle.machine.specs.Calls.{groupAt, beforeSize}
+use Rattle.machine.specs.declared.Call.{Call}
+use Rattle.machine.specs.declared.Call.the-variants.{Move, Point}
 
--- Whether all named polar values are in range: P c h e is component c of the one with h copies of q and e of the vertices, of which there are 1 + n.
-unfoldable pub allNamed : ℕ → ℕ → (ℕ → ℕ → List ℕ → ℤ) → Bool
-allNamed n m P = all (λ h. all (λ e. all (λ c. inRange (P c h e)) (upto 4)) (counts n (m - h))) (upto (suc m))
+-- a replace in group i: the points of that group from its frame and q, any number of each, as if q were a vertex before the others; those of the other groups from their frames
+unfoldable pub namedByReplace : List Group → ℕ → List (List (List ℕ))
+namedByReplace [] i = []
+namedByReplace (g ∷ gs) zero = pairs (counts (suc (g .dimension)) (g .degree)) (map noneOfQ (countsOver gs))
+namedByReplace (g ∷ gs) (suc i) = pairs (noneOfQ (counts (g .dimension) (g .degree))) (namedByReplace gs i)
+
+-- a point: the first group's as in a replace; then the first group's all q, and the groups after it as in a point
+unfoldable pub namedByPoint : List Group → List (List (List ℕ))
+namedByPoint [] = []
+namedByPoint (g ∷ gs) = namedByReplace (g ∷ gs) 0 ++ pairs ((g .degree ∷ replicate (suc (g .dimension)) 0) ∷ []) (namedByPoint gs)
+
+-- the polar values that a call names; a flip names none
+unfoldable pub namedBy : List Group → Call → List (List (List ℕ))
+namedBy gs (Move operation vertex weights) = cond (eqb operation 1) (namedByReplace gs (groupAt gs (pred vertex))) []
+namedBy gs (Point weights) = namedByPoint gs
+
+-- whether they are all in range, P c es being component c of the one with counts es
+unfoldable pub allNamed : List (List (List ℕ)) → (ℕ → List (List ℕ) → ℤ) → Bool
+allNamed names P = all (λ es. all (λ c. inRange (P c es)) (upto 4)) names
+
+-- ---- all tests of a call: 8, 9, and then 'size'
+unfoldable pub callTests : List Group → Call → (ℕ → List (List ℕ) → ℤ) → List Test
+callTests gs call P = beforeSize gs call ++ (allNamed (namedBy gs call) P else 10 ∷ [])

@@ -1,166 +1,211 @@
--- Refusals of a call, test by test: each test of the code settles one part of the definition.
-use Prim.Native.Nat.{ℕ, zero, suc, _+_, _≤_, _<_}
-use native.Mathlib.Nat.{not-suc-le-zero}
+-- Refusals of a call for its own arguments, as the code goes through them. The tests with number 8 may be made in any order, since whichever fails first the number is 8.
+use Prim.Native.Nat.{ℕ, zero, suc, pred, _+_, _-_, _≤_, _<_, zero-le}
+use native.Mathlib.Nat.{add-zero, le-of-suc-le-suc, not-suc-le-zero}
 use native.Mathlib.Omega.{arith}
-use mathlib.Core.Path.{_≡_, refl, sym, ap, ap₂, _∙_, subst}
-use mathlib.Core.Bool.{Bool, true, false, _&&_, _||_, not}
-use mathlib.Core.List.{List, [], _∷_}
+use mathlib.Core.Path.{_≡_, refl, sym, ap, ap₂, _∙_}
+use mathlib.Core.Bool.{Bool, true, false, _&&_, _||_, not, cond}
+use mathlib.Core.List.{List, [], _∷_, _++_, map}
 use lib.Dec.{leb, eqb}
-use borrow.Author.Tests.{le-leb, lt-leb, ne-eqb, leb-true}
-use lib.IntN.{ℤ, pos, negℤ, natAbs}
-use lib.ListN.{drop}
-use lib.Signed.{ltZ, leZ}
-use mir.Syntax.{w64}
-use mir.Val.{SFits}
-use Rattle.integers.proofs.Signed.{back-fits, under, over-le, within-le}
-use Rattle.projection.specs.Projection.{isZero, allZero}
-use Rattle.machine.specs.Kinds.{further, highest, known, within, all, firstOf, unless}
-use Rattle.machine.specs.Calls.{weightOf, weightsIn, operationIn, vertexIn}
-use Rattle.nets.specs.Rows.{Sized}
-use Rattle.nets.specs.Judged.{judgedMove, judgedPoint}
-use Rattle.nets.proofs.Row.{seen}
+use borrow.Author.Tests.{le-leb, lt-leb, ne-eqb, eqb-true}
+use lib.IntN.{ℤ, pos, natAbs}
+use lib.ListN.{length, getD, take, drop, take-append-drop}
+use Rattle.integers.specs.Test.{within, all}
+use Rattle.integers.proofs.All.{clash, and-parts, and-one, and-none, all-append}
+use Rattle.polar.specs.Groups.{Group}
+use Rattle.projection.specs.Projection.{isZero}
+use Rattle.kinds.specs.Kinds.{group}
+use Rattle.kinds.specs.Frames.{vertexCount}
+use Rattle.machine.specs.Refusals.{Test, _else_, firstFailed}
+use Rattle.machine.specs.Calls.{weightList, groupAt, ownAt, verticesAt, shares, unused, weightAt, beforeSize}
+use Rattle.machine.specs.declared.Weights.{Weights}
+use Rattle.machine.specs.declared.Call.the-variants.{Move, Point}
+use Rattle.nets.specs.Calls.{weightsFit}
 
--- ---- kind and degree
+-- ---- rows with one number
 
--- a degree that is not 0, by the kind's highest
-pub known-is : (kind degree : ℕ) → (degree ≡ 0 → ⊥) → leb degree (highest kind) ≡ known kind degree
-known-is kind zero h = absurd (h refl)
-known-is kind (suc d) h = ap (λ b. b && leb (suc d) (highest kind)) (sym (le-leb 1 (suc d) (Prim.Native.Nat.suc-le-suc Prim.Native.Nat.zero-le)))
+abbrev numbered : ℕ → List Bool → List Test
+numbered k tests = map (λ t. t else k) tests
 
-pub known-none : (kind degree : ℕ) → (degree ≡ 0 → ⊥) → (kind ≡ 1 → ⊥) → (kind ≡ 2 → ⊥) → false ≡ known kind degree
-known-none zero degree h a b = sym (lt-leb degree 0 (omega arith)) ∙ known-is zero degree h
-known-none (suc zero) degree h a b = absurd (a refl)
-known-none (suc (suc zero)) degree h a b = absurd (b refl)
-known-none (suc (suc (suc k))) degree h a b = sym (lt-leb degree 0 (omega arith)) ∙ known-is (suc (suc (suc k))) degree h
+-- where one of them fails the number is theirs
+one-fails : (k : ℕ) (tests : List Bool) (rest : List Test) (i : ℕ) → getD tests i true ≡ false → firstFailed (numbered k tests ++ rest) ≡ k
+one-fails k [] rest i h = absurd (clash refl h)
+one-fails k (true ∷ tests) rest zero h = absurd (clash refl h)
+one-fails k (true ∷ tests) rest (suc i) h = one-fails k tests rest i h
+one-fails k (false ∷ tests) rest i h = refl
 
--- a known kind and degree in numbers
-pub known-sized : (kind degree : ℕ) → known kind degree ≡ true → Sized kind degree × (1 ≤ degree)
-known-sized kind degree h = by kind (Rattle.machine.proofs.All.and-parts (leb 1 degree) (leb degree (highest kind)) h)
-  where
-    by : (k : ℕ) → (leb 1 degree ≡ true) × (leb degree (highest k) ≡ true) → Sized k degree × (1 ≤ degree)
-    by zero p = let a = leb-true 1 degree (p .0) in let b = leb-true degree 0 (p .1) in absurd (wrong a b)
-      where
-        wrong : 1 ≤ degree → degree ≤ 0 → ⊥
-        wrong x y = omega arith
-    by (suc zero) p = let b = leb-true degree 10 (p .1) in (record { low = omega arith; high = omega arith; sized = omega arith }, leb-true 1 degree (p .0))
-    by (suc (suc zero)) p = let b = leb-true degree 8 (p .1) in (record { low = omega arith; high = omega arith; sized = omega arith }, leb-true 1 degree (p .0))
-    by (suc (suc (suc k))) p = let a = leb-true 1 degree (p .0) in let b = leb-true degree 0 (p .1) in absurd (wrong a b)
-      where
-        wrong : 1 ≤ degree → degree ≤ 0 → ⊥
-        wrong x y = omega arith
+-- where all pass the rest decides
+all-passed : (k : ℕ) (tests : List Bool) (rest : List Test) → all (λ t. t) tests ≡ true → firstFailed (numbered k tests ++ rest) ≡ firstFailed rest
+all-passed k [] rest h = refl
+all-passed k (true ∷ tests) rest h = all-passed k tests rest h
+all-passed k (false ∷ tests) rest h = absurd (clash h refl)
 
 -- ---- weights
 
-pub too-low : (N : ℕ) (w : ℤ) → SFits w64 w → ltZ (seen w) (negℤ (pos N)) ≡ true → false ≡ within N w
-too-low N w f h = sym (lt-leb (natAbs w) N (under N w (ap (λ z. ltZ z (negℤ (pos N))) (sym (back-fits f)) ∙ h)))
+-- a member from number d on that is not 0
+pub some-not : (xs : List ℤ) (d i : ℕ) → d ≤ i → i < length xs → isZero (getD xs i (pos 0)) ≡ false → all isZero (drop d xs) ≡ false
+some-not [] d i h l e = absurd (not-suc-le-zero l)
+some-not (x ∷ xs) zero zero h l e = ap (λ b. b && all isZero xs) e
+some-not (x ∷ xs) zero (suc i) h l e = ap (λ b. isZero x && b) (some-not xs zero i zero-le (le-of-suc-le-suc l) e) ∙ and-none (isZero x)
+some-not (x ∷ xs) (suc d) zero h l e = absurd (not-suc-le-zero h)
+some-not (x ∷ xs) (suc d) (suc i) h l e = some-not xs d i (le-of-suc-le-suc h) (le-of-suc-le-suc l) e
 
-not-low : (a b : ℤ) → ltZ a b ≡ false → leZ b a ≡ true
-not-low a b h = from (leZ b a) refl
-  where
-    from : (t : Bool) → leZ b a ≡ t → leZ b a ≡ true
-    from true e = e
-    from false e = absurd (lib.Dec.T-not (leZ b a) (subst (λ t. lib.Dec.T (not t)) (sym e) tt) (lib.Signed.ltZ-no {a = a} {b = b} (subst (λ t. lib.Dec.T (not t)) (sym h) tt) .le))
+-- whether weights fit, once the first two are within the limit and the fourth is 0: of two vertices the third must be 0, of three it must be within
+module _ (weights : Weights) (first : within 4096 (weights .r) ≡ true) (second : within 4096 (weights .s) ≡ true) (fourth : isZero (weights .u) ≡ true) where
+  zero-within : (v : ℤ) → isZero v ≡ true → within 4096 v ≡ true
+  zero-within v h = le-leb (natAbs v) 4096 (omega (arith, eqb-true (natAbs v) 0 h))
 
-pub low-enough : (N : ℕ) (w : ℤ) → SFits w64 w → ltZ (seen w) (negℤ (pos N)) ≡ false → leZ (seen w) (pos N) ≡ within N w
-low-enough N w f h = ap (λ z. leZ z (pos N)) (back-fits f) ∙ by (leZ w (pos N)) refl
-  where
-    by : (t : Bool) → leZ w (pos N) ≡ t → leZ w (pos N) ≡ within N w
-    by true e = e ∙ sym (le-leb (natAbs w) N (within-le N w e (not-low w (negℤ (pos N)) (ap (λ z. ltZ z (negℤ (pos N))) (sym (back-fits f)) ∙ h))))
-    by false e = e ∙ sym (lt-leb (natAbs w) N (over-le N w e))
+  pub fit-two : isZero (weights .t) ≡ weightsFit 1 (weightList weights)
+  fit-two = sym ((λ i. (first i && (second i && (within 4096 (weights .t) && (zero-within (weights .u) fourth i && true)))) && (isZero (weights .t) && (fourth i && true))) ∙ by (isZero (weights .t)) refl)
+    where
+      by : (b : Bool) → isZero (weights .t) ≡ b → ((within 4096 (weights .t) && true) && (isZero (weights .t) && true)) ≡ isZero (weights .t)
+      by true e = (λ i. (zero-within (weights .t) e i && true) && (e i && true)) ∙ sym e
+      by false e = ap (λ b. (within 4096 (weights .t) && true) && (b && true)) e ∙ and-none (within 4096 (weights .t) && true) ∙ sym e
 
--- three weights, tested one after the other: the first that is outside settles it
-module _ (n : ℕ) (r s t : ℤ) where
-  abbrev unused : Bool
-  unused = all isZero (drop (suc n) (r ∷ s ∷ t ∷ []))
+  pub fit-three : within 4096 (weights .t) ≡ weightsFit 2 (weightList weights)
+  fit-three =
+      sym
+      ((λ i. (first i && (second i && (within 4096 (weights .t) && (zero-within (weights .u) fourth i && true)))) && (fourth i && true))
+      ∙ and-one (within 4096 (weights .t) && true)
+      ∙ and-one (within 4096 (weights .t)))
 
-  pub weights-r : within 4096 r ≡ false → false ≡ weightsIn n (r ∷ s ∷ t ∷ [])
-  weights-r a = sym (λ i. (a i && (within 4096 s && (within 4096 t && true))) && unused)
+-- all members are 0 exactly where the first d and the others are
+split : (d : ℕ) (xs : List ℤ) → all isZero xs ≡ (all isZero (take d xs) && all isZero (drop d xs))
+split d xs = ap (all isZero) (sym (take-append-drop d xs)) ∙ all-append isZero (take d xs) (drop d xs)
 
-  pub weights-s : within 4096 r ≡ true → within 4096 s ≡ false → false ≡ weightsIn n (r ∷ s ∷ t ∷ [])
-  weights-s a b = sym (λ i. (a i && (b i && (within 4096 t && true))) && unused)
-
-  pub weights-t : within 4096 r ≡ true → within 4096 s ≡ true → within 4096 t ≡ false → false ≡ weightsIn n (r ∷ s ∷ t ∷ [])
-  weights-t a b c = sym (λ i. (a i && (b i && (c i && true))) && unused)
-
-  pub weights-used : within 4096 r ≡ true → within 4096 s ≡ true → within 4096 t ≡ true → weightsIn n (r ∷ s ∷ t ∷ []) ≡ unused
-  weights-used a b c = λ i. (a i && (b i && (c i && true))) && unused
-
--- a weight of the code is the weight of the number
-pub weight-test : (w : ℤ) (b : Bool) → SFits w64 w → b ≡ within 4096 (seen w) → within 4096 w ≡ b
-weight-test w b f e = sym (e ∙ ap (within 4096) (back-fits f))
+-- a vertex of the only group, counted from 1: its own number, and how many vertices its group has
+first-group : (n m vertex : ℕ) → vertex ≤ suc n → leb (pred vertex) n ≡ true
+first-group n m vertex high = le-leb (pred vertex) n (omega arith)
 
 -- ---- a move
 
-pub further-is : (kind : ℕ) → 1 ≤ kind → kind ≤ 2 → further kind ≡ kind
-further-is zero p q = absurd (not-suc-le-zero p)
-further-is (suc zero) p q = refl
-further-is (suc (suc zero)) p q = refl
-further-is (suc (suc (suc i))) p q = absurd (wrong q)
-  where
-    wrong : suc (suc (suc i)) ≤ 2 → ⊥
-    wrong w = omega arith
+module _ (n operation vertex : ℕ) (weights : Weights) where
+  abbrev pub JudgedMove : ℕ → Type 0
+  JudgedMove k = (m : ℕ) → k ≡ firstFailed (beforeSize (group n m ∷ []) (Move operation vertex weights))
 
--- a vertex that the kind has
-pub vertex-is : (kind vertex : ℕ) → 1 ≤ kind → kind ≤ 2 → (vertex ≡ 0 → ⊥) → vertex ≤ kind + 1 → vertexIn (further kind) vertex ≡ true
-vertex-is kind vertex a b h k =
-    ap₂ _&&_ (le-leb 1 vertex (omega arith)) (le-leb vertex (suc (further kind)) (omega (arith, further-is kind a b)))
+  abbrev ws : List ℤ
+  ws = weightList weights
 
-pub vertex-past : (kind vertex : ℕ) → 1 ≤ kind → kind ≤ 2 → kind + 1 < vertex → vertexIn (further kind) vertex ≡ false
-vertex-past kind vertex a b h =
-    ap₂ _&&_ (le-leb 1 vertex (omega arith)) (lt-leb vertex (suc (further kind)) (omega (arith, further-is kind a b)))
+  -- the tests with number 8, and the one with number 9
+  abbrev move-tests : List Group → List Bool
+  move-tests gs =
+      (eqb operation 1 || eqb operation 2)
+      ∷ (leb 1 vertex && leb vertex (vertexCount gs))
+      ∷ all (within 4096) ws
+      ∷ all isZero (unused gs operation vertex ws)
+      ∷ []
 
-module _ (n operation vertex : ℕ) (ws : List ℤ) where
-  abbrev lacking : Bool
-  lacking = eqb operation 2 || not (isZero (weightOf vertex ws))
+  abbrev move-last : List Group → Bool
+  move-last gs = eqb operation 2 || not (isZero (weightAt gs vertex ws))
 
-  pub move-vertex : vertexIn n vertex ≡ false → 8 ≡ judgedMove n operation vertex ws
-  move-vertex v = sym (λ i. firstOf (unless (v i && weightsIn n ws && operationIn operation ws) 8) (unless lacking 9))
+  move-refused : (i : ℕ) → ((m : ℕ) → getD (move-tests (group n m ∷ [])) i true ≡ false) → JudgedMove 8
+  unfolding beforeSize
+  move-refused i h m = sym (one-fails 8 (move-tests (group n m ∷ [])) (move-last (group n m ∷ []) else 9 ∷ []) i (h m))
 
-  module _ (v : vertexIn n vertex ≡ true) where
-    pub move-weights : weightsIn n ws ≡ false → 8 ≡ judgedMove n operation vertex ws
-    move-weights w = sym (λ i. firstOf (unless (v i && w i && operationIn operation ws) 8) (unless lacking 9))
+  pub no-vertex : vertex ≡ 0 → JudgedMove 8
+  no-vertex e = move-refused 1 (λ m. ap (λ v. leb 1 v && leb v (vertexCount (group n m ∷ []))) e)
 
-    module _ (w : weightsIn n ws ≡ true) where
-      move-operation : (o : Bool) → operationIn operation ws ≡ o → judgedMove n operation vertex ws ≡ firstOf (unless o 8) (unless lacking 9)
-      move-operation o e = λ i. firstOf (unless (v i && w i && e i) 8) (unless lacking 9)
+  pub past-vertices : suc n < vertex → JudgedMove 8
+  past-vertices past = move-refused 1 (λ m. ap₂ _&&_ (le-leb 1 vertex (omega arith)) (lt-leb vertex (suc n + 0) (omega arith)))
 
-      -- a replace is judged by the vertex's weight
-      pub move-replace : operation ≡ 1 → (z : Bool) → isZero (weightOf vertex ws) ≡ z → judgedMove n operation vertex ws ≡ unless (not z) 9
-      move-replace one z e =
-          move-operation true (ap (λ k. eqb k 1 || (eqb k 2 && all isZero ws)) one)
-          ∙ ap₂ (λ k y. unless (eqb k 2 || not y) 9) one e
+  pub unknown-operation : (operation ≡ 1 → ⊥) → (operation ≡ 2 → ⊥) → JudgedMove 8
+  unknown-operation a b = move-refused 0 (λ m. ap₂ _||_ (ne-eqb operation 1 a) (ne-eqb operation 2 b))
 
-      -- a flip by whether its weights are all 0
-      pub move-flip : operation ≡ 2 → (o : Bool) → all isZero ws ≡ o → judgedMove n operation vertex ws ≡ unless o 8
-      move-flip two o e =
-          move-operation o (ap₂ (λ k y. eqb k 1 || (eqb k 2 && y)) two e)
-          ∙ ap (λ k. firstOf (unless o 8) (unless (eqb k 2 || not (isZero (weightOf vertex ws))) 9)) two
-          ∙ first-zero (unless o 8)
-        where
-          first-zero : (k : ℕ) → firstOf k 0 ≡ k
-          first-zero zero = refl
-          first-zero (suc k) = refl
+  -- a flip's weights are all unused
+  flip-unused : operation ≡ 2 → (gs : List Group) → unused gs operation vertex ws ≡ ws
+  flip-unused two gs = ap (λ o. cond (eqb o 2) ws (drop (verticesAt gs (groupAt gs (pred vertex))) ws)) two
 
-      pub move-unknown : (operation ≡ 1 → ⊥) → (operation ≡ 2 → ⊥) → 8 ≡ judgedMove n operation vertex ws
-      move-unknown a b =
-          sym (move-operation false (ap₂ (λ x y. x || (y && all isZero ws)) (ne-eqb operation 1 a) (ne-eqb operation 2 b)))
+  pub flip-weighted : operation ≡ 2 → all isZero ws ≡ false → JudgedMove 8
+  flip-weighted two h = move-refused 3 (λ m. ap (all isZero) (flip-unused two (group n m ∷ [])) ∙ h)
+
+  -- a vertex that there is
+  module _ (low : 1 ≤ vertex) (high : vertex ≤ suc n) where
+    -- its unused weights, by whether the move is a flip
+    unused-is : (m : ℕ) → unused (group n m ∷ []) operation vertex ws ≡ cond (eqb operation 2) ws (drop (suc n) ws)
+    unused-is m = ap (λ b. cond (eqb operation 2) ws (drop (verticesAt (group n m ∷ []) (cond b 0 1)) ws)) (first-group n m vertex high)
+
+    -- weights that do not fit: one is outside, or one that no vertex has is not 0
+    pub move-unfit : weightsFit n ws ≡ false → JudgedMove 8
+    move-unfit h = by (all (within 4096) ws) refl
+      where
+        zeros : all isZero (drop (suc n) ws) ≡ false → (b : Bool) → all isZero (cond b ws (drop (suc n) ws)) ≡ false
+        zeros e true = split (suc n) ws ∙ ap (λ z. all isZero (take (suc n) ws) && z) e ∙ and-none (all isZero (take (suc n) ws))
+        zeros e false = e
+
+        by : (b : Bool) → all (within 4096) ws ≡ b → JudgedMove 8
+        by false e = move-refused 2 (λ m. e)
+        by true e =
+            move-refused 3
+            (λ m. ap (all isZero) (unused-is m) ∙ zeros (sym (ap (λ b. b && all isZero (drop (suc n) ws)) e) ∙ h) (eqb operation 2))
+
+    -- weights that fit
+    module _ (fit : weightsFit n ws ≡ true) where
+      in-order : (m : ℕ) → (eqb operation 1 || eqb operation 2) ≡ true → all isZero (unused (group n m ∷ []) operation vertex ws) ≡ true
+          → firstFailed (beforeSize (group n m ∷ []) (Move operation vertex weights)) ≡ firstFailed (move-last (group n m ∷ []) else 9 ∷ [])
+      unfolding beforeSize
+      in-order m operated zeros =
+          let least = le-leb 1 vertex low in
+          let most : leb vertex (suc n + 0) ≡ true = le-leb vertex (suc n + 0) (omega arith) in
+          let small = and-parts (all (within 4096) ws) (all isZero (drop (suc n) ws)) fit .0 in
+          all-passed 8 (move-tests (group n m ∷ [])) (move-last (group n m ∷ []) else 9 ∷ []) (λ i. operated i && ((least i && most i) && (small i && (zeros i && true))))
+
+      pub flip-taken : operation ≡ 2 → all isZero ws ≡ true → JudgedMove 0
+      flip-taken two zeros m =
+          sym
+          (in-order m (ap (λ o. eqb o 1 || eqb o 2) two) (ap (all isZero) (flip-unused two (group n m ∷ [])) ∙ zeros)
+          ∙ ap (λ o. firstFailed ((eqb o 2 || not (isZero (weightAt (group n m ∷ []) vertex ws))) else 9 ∷ [])) two)
+
+      -- a replace is judged by the vertex's own weight
+      pub replace-judged : operation ≡ 1 → (z : Bool) → isZero (getD ws (vertex - 1) (pos 0)) ≡ z → JudgedMove (firstFailed (not z else 9 ∷ []))
+      replace-judged one z h m =
+          let gs = group n m ∷ [] in
+          let before-one : pred vertex ≡ vertex - 1 = omega arith in
+          let zeros : all isZero (unused gs operation vertex ws) ≡ true =
+          ap (all isZero) (unused-is m ∙ ap (λ o. cond (eqb o 2) ws (drop (suc n) ws)) one) ∙ and-parts (all (within 4096) ws) (all isZero (drop (suc n) ws)) fit .1 in
+          let own : isZero (weightAt gs vertex ws) ≡ z =
+          ap (λ b. isZero (getD ws (cond b (pred vertex) (ownAt [] (pred vertex - suc n))) (pos 0))) (first-group n m vertex high) ∙ ap (λ v. isZero (getD ws v (pos 0))) before-one ∙ h in
+          sym
+          (in-order m (ap (λ o. eqb o 1 || eqb o 2) one) zeros
+          ∙ ap₂ (λ o b. firstFailed ((eqb o 2 || not b) else 9 ∷ [])) one own)
 
 -- ---- a point
 
-module _ (n : ℕ) (ws : List ℤ) where
-  pub point-weights : weightsIn n ws ≡ false → 8 ≡ judgedPoint n ws
-  point-weights w = sym (λ i. firstOf (unless (w i) 8) (unless (not (all isZero ws)) 9))
+module _ (n : ℕ) (weights : Weights) where
+  abbrev pub JudgedPoint : ℕ → Type 0
+  JudgedPoint k = (m : ℕ) → k ≡ firstFailed (beforeSize (group n m ∷ []) (Point weights))
 
-  pub point-zero : weightsIn n ws ≡ true → (z : Bool) → all isZero ws ≡ z → judgedPoint n ws ≡ unless (not z) 9
-  point-zero w z e = λ i. firstOf (unless (w i) 8) (unless (not (e i)) 9)
+  abbrev pws : List ℤ
+  pws = weightList weights
 
--- the code's test of three zeros
-pub three-zeros : (r s t : ℤ) (b : Bool) → SFits w64 r → SFits w64 s → SFits w64 t → b ≡ allZero (seen r) (seen s) (seen t) → all isZero (r ∷ s ∷ t ∷ []) ≡ b
-three-zeros r s t b fr fs ft e =
-    joined (isZero r) (isZero s) (isZero t) ∙ sym (e ∙ (λ i. allZero (back-fits fr i) (back-fits fs i) (back-fits ft i)))
-  where
-    joined : (x y z : Bool) → (x && (y && (z && true))) ≡ (x && y && z)
-    joined true true true = refl
-    joined true true false = refl
-    joined true false z = refl
-    joined false y z = refl
+  abbrev past : Bool
+  past = all isZero (drop (suc n + 0) pws)
+
+  past-is : past ≡ all isZero (drop (suc n) pws)
+  past-is = ap (λ k. all isZero (drop k pws)) (add-zero (suc n))
+
+  abbrev point-tests : List Bool
+  point-tests = all (within 4096) pws ∷ past ∷ []
+
+  abbrev point-last : ℕ → Bool
+  point-last m = all (λ us. not (all isZero us)) (shares (group n m ∷ []) pws)
+
+  pub point-unfit : weightsFit n pws ≡ false → JudgedPoint 8
+  unfolding beforeSize
+  point-unfit h m = sym (by (all (within 4096) pws) refl)
+    where
+      by : (b : Bool) → all (within 4096) pws ≡ b → firstFailed (numbered 8 point-tests ++ (point-last m else 9 ∷ [])) ≡ 8
+      by false e = one-fails 8 point-tests (point-last m else 9 ∷ []) 0 e
+      by true e = one-fails 8 point-tests (point-last m else 9 ∷ []) 1 (past-is ∙ sym (ap (λ b. b && all isZero (drop (suc n) pws)) e) ∙ h)
+
+  -- weights that fit are refused where all of them are 0
+  pub point-judged : weightsFit n pws ≡ true → (z : Bool) → all isZero pws ≡ z → JudgedPoint (firstFailed (not z else 9 ∷ []))
+  unfolding beforeSize
+  point-judged fit z h m =
+      let parts = and-parts (all (within 4096) pws) (all isZero (drop (suc n) pws)) fit in
+      let small = parts .0 in
+      let none = past-is ∙ parts .1 in
+      let own : all isZero (take (suc n) pws) ≡ z =
+      sym (and-one (all isZero (take (suc n) pws))) ∙ ap (λ b. all isZero (take (suc n) pws) && b) (sym (parts .1)) ∙ sym (split (suc n) pws) ∙ h in
+      sym
+      (all-passed 8 point-tests (point-last m else 9 ∷ []) (λ i. small i && (none i && true))
+      ∙ ap (λ b. firstFailed ((not b && true) else 9 ∷ [])) own
+      ∙ ap (λ b. firstFailed (b else 9 ∷ [])) (and-one (not z)))

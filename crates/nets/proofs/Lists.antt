@@ -1,32 +1,19 @@
--- Laws of lists that the loops need: a test of all members taken one at a time, what stands in a list after writes, and whether what is written is within a limit.
+-- Laws of lists that the loops need: what stands in a list after writes, how writes join, and whether what is written is within a limit.
 use Prim.Native.Nat.{ℕ, zero, suc, _+_, _-_, _≤_, _<_}
 use native.Mathlib.Nat.{add-suc, add-zero, zero-add, add-assoc, le-refl}
 use native.Mathlib.Numerals.{add-one}
 use native.Mathlib.Omega.{arith}
 use native.Mathlib.Decide.{decLt}
 use mathlib.Core.Path.{_≡_, refl, sym, ap, ap₂, _∙_}
-use mathlib.Core.Bool.{Bool, true, false, _&&_}
+use mathlib.Core.Bool.{true, false, _&&_}
 use mathlib.Core.List.{List, [], _∷_}
 use borrow.Author.Tests.{le-leb}
 use lib.IntN.{ℤ, pos, natAbs}
-use lib.ListN.{length, getD, set, take, drop, length-set}
-use lib.Seq.{take-suc, drop-cons, getD-set-same, getD-set-other}
-use Rattle.machine.specs.Kinds.{within, all}
-use Rattle.machine.proofs.All.{all-append, and-true, and-one, and-none, and-assoc}
+use lib.ListN.{length, getD, set, take, length-set}
+use lib.Seq.{take-suc, getD-set-same, getD-set-other}
+use Rattle.integers.specs.Test.{within, all}
+use Rattle.integers.proofs.All.{all-append, and-true, and-one, and-none, and-assoc}
 use Rattle.nets.specs.Rows.{written, ranged}
-
--- ---- a test of the members one at a time
-
--- what is left of the first n after i of them
-pub all-next : (test : ℤ → Bool) (xs : List ℤ) (n i : ℕ) → i < n → n ≤ length xs
-    → all test (take (n - i) (drop i xs)) ≡ (test (getD xs i (pos 0)) && all test (take (n - (i + 1)) (drop (i + 1) xs)))
-all-next test xs n i h k =
-    ap (λ l. all test (take (n - i) l)) (drop-cons xs i (pos 0) (omega arith))
-    ∙ ap (λ j. all test (take j (getD xs i (pos 0) ∷ drop (suc i) xs))) less
-    ∙ ap (λ j. test (getD xs i (pos 0)) && all test (take (n - (i + 1)) (drop j xs))) (sym (add-one i))
-  where
-    less : n - i ≡ suc (n - (i + 1))
-    less = omega arith
 
 -- ---- writes
 
@@ -65,16 +52,34 @@ written-at xs from (suc k) g i a b l = by (decLt i (from + k)) (λ c. written-at
         wrong u v = omega arith
     by (no p) rest = last i (omega arith)
 
--- the next write of a row
-pub write-next : (xs cur : List ℤ) (from i : ℕ) (v : ℤ) (g : ℕ → ℤ) → from ≤ i → cur ≡ written xs from (i - from) g → v ≡ g i → set cur i v ≡ written xs from (i + 1 - from) g
+-- writes of the same numbers
+pub written-cong : (xs : List ℤ) (from k : ℕ) (f g : ℕ → ℤ) → ((i : ℕ) → from ≤ i → i < from + k → f i ≡ g i) → written xs from k f ≡ written xs from k g
 unfolding written
+written-cong xs from zero f g h = refl
+written-cong xs from (suc k) f g h =
+    ap₂ (λ l v. set l (from + k) v) (written-cong xs from k f g (λ i a b. h i a (omega arith))) (h (from + k) (omega arith) (omega arith))
+
+-- writes one after the other
+pub written-append : (xs : List ℤ) (from a b : ℕ) (g : ℕ → ℤ) → written (written xs from a g) (from + a) b g ≡ written xs from (a + b) g
+unfolding written
+written-append xs from a zero g = ap (λ k. written xs from k g) (sym (add-zero a))
+written-append xs from a (suc b) g =
+    ap₂ (λ l i. set l i (g i)) (written-append xs from a b g) (add-assoc from a b) ∙ ap (λ k. written xs from k g) (sym (add-suc a b))
+
+-- one write more
+pub write-more : (xs cur : List ℤ) (from k : ℕ) (v : ℤ) (g : ℕ → ℤ) → cur ≡ written xs from k g → v ≡ g (from + k) → set cur (from + k) v ≡ written xs from (k + 1) g
+unfolding written
+write-more xs cur from k v g inv is = ap₂ (λ l y. set l (from + k) y) inv is ∙ ap (λ j. written xs from j g) (sym (add-one k))
+
+-- the next write of a row, by its place
+pub write-next : (xs cur : List ℤ) (from i : ℕ) (v : ℤ) (g : ℕ → ℤ) → from ≤ i → cur ≡ written xs from (i - from) g → v ≡ g i → set cur i v ≡ written xs from (i + 1 - from) g
 write-next xs cur from i v g low inv is =
-    ap₂ (λ l y. set l i y) inv is ∙ ap (λ j. set (written xs from (i - from) g) j (g j)) place-is ∙ ap (λ k. written xs from k g) (sym count-is)
+    ap (λ j. set cur j v) place-is ∙ write-more xs cur from (i - from) v g inv (is ∙ ap g place-is) ∙ ap (λ k. written xs from k g) (sym count-is)
   where
     place-is : i ≡ from + (i - from)
     place-is = omega arith
 
-    count-is : i + 1 - from ≡ suc (i - from)
+    count-is : i + 1 - from ≡ i - from + 1
     count-is = omega arith
 
 -- at and past the next place nothing is written
@@ -103,7 +108,7 @@ module _ (limit : ℕ) where
       count-is = omega arith
 
   -- the numbers up to a place and those from there on
-  pub ranged-append : (g : ℕ → ℤ) (from a b : ℕ) → ranged limit g from (a + b) ≡ (ranged limit g from a && ranged limit g (from + a) b)
+  ranged-append : (g : ℕ → ℤ) (from a b : ℕ) → ranged limit g from (a + b) ≡ (ranged limit g from a && ranged limit g (from + a) b)
   unfolding ranged
   ranged-append g from a zero = ap (ranged limit g from) (add-zero a) ∙ sym (and-one (ranged limit g from a))
   ranged-append g from a (suc b) =

@@ -1,134 +1,158 @@
--- The rows of a patch, blended one after the other: a row's blend reads that row and the next one, which no earlier row has written.
+-- The rows of a triangle, blended one after the other: a row's blend reads that row and the next one, which no earlier row has written.
 use Prim.Native.Nat.{ℕ, zero, suc, _+_, _*_, _-_, _≤_, _<_}
-use native.Mathlib.Nat.{le-refl, zero-add}
+use native.Mathlib.Nat.{le-refl, zero-add, not-suc-le-zero, mul-le-mul-left}
+use native.Mathlib.Numerals.{add-one}
 use native.Mathlib.Omega.{arith}
+use native.Mathlib.Decide.{decLt}
 use mathlib.Core.Path.{_≡_, refl, sym, ap, ap₂, _∙_, subst}
 use mathlib.Core.Bool.{false}
-use mathlib.Core.List.{List, [], _∷_}
+use mathlib.Core.List.{List}
 use lib.IntN.{ℤ, pos, natAbs, _+ℤ_, _*ℤ_}
-use lib.ListN.{length, getD}
+use lib.ListN.{length, getD, take}
+use Rattle.integers.specs.Test.{within, all}
 use Rattle.polar.specs.Order.{counts}
-use Rattle.entries.proofs.Places.{offset}
+use Rattle.entries.specs.Rows.{size, offset}
+use Rattle.machine.specs.declared.Weights.{Weights}
 use Rattle.nets.specs.Rows.{written, mixed, ranged, Bounded, rowsBlended}
-use Rattle.nets.proofs.Lists.{length-written, written-outside, written-at, ranged-cong, ranged-part}
-use native.Mathlib.Numerals.{add-one}
-use Rattle.machine.specs.Nets.{used}
-use Rattle.nets.proofs.Ranks.{tri-suc, tri-mono, tri-nine, used-patch}
+use Rattle.nets.proofs.Lists.{length-written, written-outside, written-at, ranged-cong, ranged-part, ranged-list}
+use Rattle.nets.proofs.Ranks.{offset-mono, tri-suc, size-patch}
 
--- how many entries stand before row n
+-- how many entries stand before row i
 abbrev pub tri : ℕ → ℕ
-tri n = offset (counts 1) n
+tri i = offset (counts 1) i
 
-module _ (xs ws : List ℤ) where
-  pub length-rows : (n : ℕ) → length (rowsBlended xs ws n) ≡ length xs
+module _ (w : ℕ) where
+  -- where the next row begins
+  pub row-end : (i : ℕ) → w * tri (suc i) ≡ w * tri i + w * suc i
+  row-end i = let next = ap (λ k. w * k) (tri-suc i) in omega (arith, next)
+
+  row-mono : (a b : ℕ) → a ≤ b → w * tri a ≤ w * tri b
+  row-mono a b h = mul-le-mul-left w (offset-mono (counts 1) a b h)
+
+  module _ (xs : List ℤ) (ws : Weights) where
+    -- the blends of row i of a list
+    abbrev pub rowOf : List ℤ → ℕ → ℕ → ℤ
+    rowOf ys i = mixed ys (w * suc i) (w * suc i + w) (ws .r) (ws .s) (ws .t)
+
+    pub length-rows : (i : ℕ) → length (rowsBlended w xs ws i) ≡ length xs
+    unfolding rowsBlended
+    length-rows zero = refl
+    length-rows (suc i) = length-written (rowsBlended w xs ws i) (w * tri i) (w * suc i) (rowOf (rowsBlended w xs ws i) i) ∙ length-rows i
+
+    -- from row i on nothing is written
+    pub rows-still : (i p : ℕ) → w * tri i ≤ p → getD (rowsBlended w xs ws i) p (pos 0) ≡ getD xs p (pos 0)
+    unfolding rowsBlended
+    rows-still zero p h = refl
+    rows-still (suc i) p h =
+        let next = row-end i in
+        written-outside (rowsBlended w xs ws i) (w * tri i) (w * suc i) (rowOf (rowsBlended w xs ws i) i) p (λ a b. omega (arith, next)) ∙ rows-still i p (omega (arith, next))
+
+    -- row k after i rows are blended, k being below i
+    pub rows-at : (i k p : ℕ) → k < i → w * tri i ≤ length xs → w * tri k ≤ p → p < w * tri (suc k) → getD (rowsBlended w xs ws i) p (pos 0) ≡ rowOf xs k p
+    unfolding rowsBlended
+    rows-at zero k p h l a b = absurd (not-suc-le-zero h)
+    rows-at (suc i) k p h l a b = by (decLt k i) (λ u v. rows-at i k p u v a b)
+      where
+        next : w * tri (suc i) ≡ w * tri i + w * suc i
+        next = row-end i
+
+        by : Dec (k < i) → (k < i → w * tri i ≤ length xs → getD (rowsBlended w xs ws i) p (pos 0) ≡ rowOf xs k p)
+            → getD (written (rowsBlended w xs ws i) (w * tri i) (w * suc i) (rowOf (rowsBlended w xs ws i) i)) p (pos 0) ≡ rowOf xs k p
+        by (yes u) rest =
+            let below = row-mono (suc k) i u in
+            written-outside (rowsBlended w xs ws i) (w * tri i) (w * suc i) (rowOf (rowsBlended w xs ws i) i) p (λ x y. omega (arith, below)) ∙ rest u (omega (arith, next))
+        by (no u) rest =
+            let same : k ≡ i = omega arith in
+            let low : w * tri i ≤ p = subst (λ j. w * tri j ≤ p) same a in
+            let high : p < w * tri (suc i) = subst (λ j. p < w * tri (suc j)) same b in
+            written-at (rowsBlended w xs ws i) (w * tri i) (w * suc i) (rowOf (rowsBlended w xs ws i) i) p low (omega (arith, next)) (subst (λ z. w * tri i + w * suc i ≤ z) (sym (length-rows i)) (omega (arith, next)))
+            ∙ ap₂ (λ x y. ws .r *ℤ x +ℤ y) (rows-still i p low)
+            (ap₂ (λ x y. ws .s *ℤ x +ℤ ws .t *ℤ y) (rows-still i (p + w * suc i) (omega arith)) (rows-still i (p + (w * suc i + w)) (omega arith)))
+            ∙ ap (λ j. rowOf xs j p) (sym same)
+
+    -- a row that is blended stays as it is
+    row-final : (i k p : ℕ) → k < i → w * tri i ≤ length xs → w * tri k ≤ p → p < w * tri (suc k) → rowOf (rowsBlended w xs ws k) k p ≡ getD (rowsBlended w xs ws i) p (pos 0)
+    unfolding rowsBlended
+    row-final i k p h l a b =
+        let next = row-end k in
+        let up = row-mono (suc k) i h in
+        sym (written-at (rowsBlended w xs ws k) (w * tri k) (w * suc k) (rowOf (rowsBlended w xs ws k) k) p a (omega (arith, next)) (subst (λ z. w * tri k + w * suc k ≤ z) (sym (length-rows k)) (omega (arith, next, up))))
+        ∙ rows-at (suc k) k p (le-refl (suc k)) (omega (arith, up)) a b
+        ∙ sym (rows-at i k p h l a b)
+
+    -- the row to blend next and the one after it are as small as they were
+    rows-bounded : (i hi W : ℕ) → Bounded xs 0 hi W → w * tri i + w * suc i + (w * suc i + w) ≤ hi → Bounded (rowsBlended w xs ws i) (w * tri i) (w * tri i + w * suc i + (w * suc i + w)) W
+    rows-bounded i hi W b h =
+        record {
+          bound = b .bound;
+          each = λ p lo up. subst (λ v. natAbs v ≤ b .bound) (sym (rows-still i p lo)) (b .each p (omega arith) (omega (arith, h)));
+          fits = b .fits;
+        }
+
+  -- the weights of three vertices are all that counts
+  pub rows-weights : (xs : List ℤ) (ws us : Weights) → ws .r ≡ us .r → ws .s ≡ us .s → ws .t ≡ us .t → (i : ℕ) → rowsBlended w xs ws i ≡ rowsBlended w xs us i
   unfolding rowsBlended
-  length-rows zero = refl
-  length-rows (suc n) = length-written (rowsBlended xs ws n) (4 * tri n) (4 * suc n) _ ∙ length-rows n
+  rows-weights xs ws us r s t zero = refl
+  rows-weights xs ws us r s t (suc i) =
+      let rest = rows-weights xs ws us r s t i in
+      λ j. written (rest j) (w * tri i) (w * suc i) (mixed (rest j) (w * suc i) (w * suc i + w) (r j) (s j) (t j))
 
-  -- from row n on nothing is written
-  pub rows-still : (n i : ℕ) → 4 * tri n ≤ i → getD (rowsBlended xs ws n) i (pos 0) ≡ getD xs i (pos 0)
-  unfolding rowsBlended
-  rows-still zero i h = refl
-  rows-still (suc n) i h =
-      let next = tri-suc n in
-      written-outside (rowsBlended xs ws n) (4 * tri n) (4 * suc n) _ i (λ p q. omega arith) ∙ rows-still n i (omega arith)
+  -- ---- one turn of the loop over the rows
 
-  -- row k after n rows are blended, k being below n
-  pub rows-at : (n k i : ℕ) → k < n → 4 * tri n ≤ length xs → 4 * tri k ≤ i → i < 4 * tri (suc k)
-      → getD (rowsBlended xs ws n) i (pos 0) ≡ mixed xs (4 * suc k) (4 * suc k + 4) (getD ws 0 (pos 0)) (getD ws 1 (pos 0)) (getD ws 2 (pos 0)) i
-  unfolding rowsBlended
-  rows-at zero k i h l a b = absurd (native.Mathlib.Nat.not-suc-le-zero h)
-  rows-at (suc n) k i h l a b = by (native.Mathlib.Decide.decLt k n) (λ p q. rows-at n k i p q a b)
-    where
-      next : tri (suc n) ≡ tri n + suc n
-      next = tri-suc n
+  -- what stands before a row is among the numbers
+  pub before-end : (i degree : ℕ) → i ≤ degree → w * tri i ≤ size w 2 degree
+  before-end i degree h = let up = row-mono i (degree + 1) (omega arith) in omega (arith, size-patch w degree, up)
 
-      by : Dec (k < n) → (k < n → 4 * tri n ≤ length xs → getD (rowsBlended xs ws n) i (pos 0) ≡ mixed xs (4 * suc k) (4 * suc k + 4) (getD ws 0 (pos 0)) (getD ws 1 (pos 0)) (getD ws 2 (pos 0)) i)
-          → getD (written (rowsBlended xs ws n) (4 * tri n) (4 * suc n) (mixed (rowsBlended xs ws n) (4 * suc n) (4 * suc n + 4) (getD ws 0 (pos 0)) (getD ws 1 (pos 0)) (getD ws 2 (pos 0)))) i (pos 0)
-          ≡ mixed xs (4 * suc k) (4 * suc k + 4) (getD ws 0 (pos 0)) (getD ws 1 (pos 0)) (getD ws 2 (pos 0)) i
-      by (yes p) rest =
-          let below = tri-mono (suc k) n p in
-          written-outside (rowsBlended xs ws n) (4 * tri n) (4 * suc n) _ i (λ u v. omega arith) ∙ rest p (omega (arith, next))
-      by (no p) rest =
-          let same : k ≡ n = omega arith in
-          let low : 4 * tri n ≤ i = subst (λ j. 4 * tri j ≤ i) same a in
-          let high : i < 4 * tri (suc n) = subst (λ j. i < 4 * tri (suc j)) same b in
-          written-at (rowsBlended xs ws n) (4 * tri n) (4 * suc n) _ i low (omega (arith, next)) (subst (λ z. 4 * tri n + 4 * suc n ≤ z) (sym (length-rows n)) (omega (arith, next)))
-          ∙ ap₂ (λ x y. getD ws 0 (pos 0) *ℤ x +ℤ y) (rows-still n i low)
-          (ap₂ (λ x y. getD ws 1 (pos 0) *ℤ x +ℤ getD ws 2 (pos 0) *ℤ y) (rows-still n (i + 4 * suc n) (omega (arith, next))) (rows-still n (i + (4 * suc n + 4)) (omega (arith, next))))
-          ∙ ap (λ j. mixed xs (4 * suc j) (4 * suc j + 4) (getD ws 0 (pos 0)) (getD ws 1 (pos 0)) (getD ws 2 (pos 0)) i) (sym same)
+  -- a row and the next one are among the numbers
+  pub turn-fits : (i degree : ℕ) → i < degree → w * tri i + w * (i + 1) + (w * (i + 1) + w) ≤ size w 2 degree
+  turn-fits i degree h =
+      let up = row-mono (suc (suc i)) (degree + 1) (omega arith) in
+      omega (arith, size-patch w degree, row-end i, row-end (suc i), up)
 
-  -- a row that is blended stays as it is
-  pub row-final : (n k i : ℕ) → k < n → 4 * tri n ≤ length xs → 4 * tri k ≤ i → i < 4 * tri (suc k)
-      → mixed (rowsBlended xs ws k) (4 * suc k) (4 * suc k + 4) (getD ws 0 (pos 0)) (getD ws 1 (pos 0)) (getD ws 2 (pos 0)) i ≡ getD (rowsBlended xs ws n) i (pos 0)
-  unfolding rowsBlended
-  row-final n k i h l a b =
-      let next = tri-suc k in
-      let up = tri-mono (suc k) n h in
-      sym (written-at (rowsBlended xs ws k) (4 * tri k) (4 * suc k) _ i a (omega arith) (subst (λ z. 4 * tri k + 4 * suc k ≤ z) (sym (length-rows k)) (omega arith)))
-      ∙ rows-at (suc k) k i (le-refl (suc k)) (omega arith) a b
-      ∙ sym (rows-at n k i h l a b)
+  module _ (xs xs′ : List ℤ) (ws : Weights) (i degree from : ℕ) (below : i < degree) (at : from ≡ w * tri i) (inv : xs′ ≡ rowsBlended w xs ws i) where
+    -- the blends of the row, as the code writes their places
+    abbrev pub turnOf : ℕ → ℤ
+    turnOf = mixed xs′ (w * (i + 1)) (w * (i + 1) + w) (ws .r) (ws .s) (ws .t)
 
-  -- the row to blend next and the one after it are as small as they were
-  pub rows-bounded : (n hi W : ℕ) → Bounded xs 0 hi W → 4 * tri n + 4 * suc n + (4 * suc n + 4) ≤ hi → Bounded (rowsBlended xs ws n) (4 * tri n) (4 * tri n + 4 * suc n + (4 * suc n + 4)) W
-  rows-bounded n hi W b h =
-      record {
-        bound = b .bound;
-        each = λ i lo up. subst (λ v. natAbs v ≤ b .bound) (sym (rows-still n i lo)) (b .each i (omega arith) (omega arith));
-        fits = b .fits;
-      }
+    turn-is : turnOf ≡ rowOf xs ws (rowsBlended w xs ws i) i
+    turn-is = ap₂ (λ l k. mixed l (w * k) (w * k + w) (ws .r) (ws .s) (ws .t)) inv (add-one i)
 
--- ---- one turn of the loop over the rows
+    pub turn-next : from + w * (i + 1) ≡ w * tri (i + 1)
+    turn-next = omega (arith, at, row-end i, ap (λ k. w * tri k) (add-one i))
 
-pub turn-fits : (n degree : ℕ) → n < degree → degree ≤ 8 → (4 * tri n + 4 * (n + 1) + (4 * (n + 1) + 4) ≤ used 2 degree) × (used 2 degree ≤ 180)
-turn-fits n degree h k =
-    let whole = used-patch degree in
-    let one = tri-suc n in
-    let two = tri-suc (suc n) in
-    let up = tri-mono (suc (suc n)) (degree + 1) (omega arith) in
-    let top = tri-mono (degree + 1) 9 (omega arith) in
-    (omega (arith, whole, one, two, up), omega (arith, whole, top, tri-nine))
+    pub turn-bounded : (W : ℕ) → Bounded xs 0 (size w 2 degree) W → Bounded xs′ from (from + w * (i + 1) + (w * (i + 1) + w)) W
+    turn-bounded W b =
+        let fits = turn-fits i degree below in
+        let here = rows-bounded xs ws i (size w 2 degree) W b (omega (arith, fits)) in
+        record {
+          bound = here .bound;
+          each = λ p lo up. subst (λ l. natAbs (getD l p (pos 0)) ≤ here .bound) (sym inv) (here .each p (omega (arith, at)) (omega (arith, at)));
+          fits = here .fits;
+        }
 
-pub turn-bounded : (xs ws xs′ : List ℤ) (n degree from W : ℕ) → n < degree → degree ≤ 8 → from ≡ 4 * tri n → xs′ ≡ rowsBlended xs ws n
-    → Bounded xs 0 (used 2 degree) W → Bounded xs′ from (from + 4 * (n + 1) + (4 * (n + 1) + 4)) W
-turn-bounded xs ws xs′ n degree from W h k at inv b =
-    let fits = turn-fits n degree h k .0 in
-    let here = rows-bounded xs ws n (used 2 degree) W b (omega arith) in
-    record {
-      bound = here .bound;
-      each = λ i lo up. subst (λ l. natAbs (getD l i (pos 0)) ≤ here .bound) (sym inv) (here .each i (omega arith) (omega arith));
-      fits = here .fits;
-    }
+    pub turn-step : (ys : List ℤ) → ys ≡ written xs′ from (w * (i + 1)) turnOf → ys ≡ rowsBlended w xs ws (i + 1)
+    unfolding rowsBlended
+    turn-step ys is =
+        is
+        ∙ (λ j. written (inv j) (at j) (w * add-one i j) (turn-is j))
+        ∙ ap (rowsBlended w xs ws) (sym (add-one i))
 
-pub turn-step : (xs xs′ ys : List ℤ) (a b c : ℤ) (n from : ℕ) → from ≡ 4 * tri n → xs′ ≡ rowsBlended xs (a ∷ b ∷ c ∷ []) n
-    → ys ≡ written xs′ from (4 * (n + 1)) (mixed xs′ (4 * (n + 1)) (4 * (n + 1) + 4) a b c)
-    → ys ≡ rowsBlended xs (a ∷ b ∷ c ∷ []) (n + 1)
-unfolding rowsBlended
-turn-step xs xs′ ys a b c n from at inv is =
-    is
-    ∙ ap₂ (λ l f. written l f (4 * (n + 1)) (mixed l (4 * (n + 1)) (4 * (n + 1) + 4) a b c)) inv at
-    ∙ ap (λ k. written (rowsBlended xs (a ∷ b ∷ c ∷ []) n) (4 * tri n) (4 * k) (mixed (rowsBlended xs (a ∷ b ∷ c ∷ []) n) (4 * k) (4 * k + 4) a b c)) (add-one n)
-    ∙ ap (rowsBlended xs (a ∷ b ∷ c ∷ [])) (sym (add-one n))
-
--- a row beyond the limit is the level beyond the limit
-pub turn-fails : (limit : ℕ) (xs xs′ : List ℤ) (a b c : ℤ) (n degree from : ℕ) → n < degree → degree ≤ 8 → length xs ≡ 180 → from ≡ 4 * tri n → xs′ ≡ rowsBlended xs (a ∷ b ∷ c ∷ []) n
-    → ranged limit (mixed xs′ (4 * (n + 1)) (4 * (n + 1) + 4) a b c) from (4 * (n + 1)) ≡ false
-    → ranged limit (λ i. getD (rowsBlended xs (a ∷ b ∷ c ∷ []) degree) i (pos 0)) 0 (4 * tri degree) ≡ false
-turn-fails limit xs xs′ a b c n degree from h top long at inv beyond =
-    let next = tri-suc n in
-    let up = tri-mono (suc n) degree h in
-    let most = tri-mono degree 9 (omega arith) in
-    let whole : 4 * tri degree ≡ 4 * tri n + 4 * suc n + (4 * tri degree - 4 * tri (suc n)) = omega arith in
-    ap (ranged limit final 0) whole
-    ∙ ranged-part limit final 0 (4 * tri n) (4 * suc n) (4 * tri degree - 4 * tri (suc n))
-    (ap (λ j. ranged limit final j (4 * suc n)) (zero-add (4 * tri n))
-    ∙ sym (ranged-cong limit (mixed (rowsBlended xs ws n) (4 * suc n) (4 * suc n + 4) a b c) final (4 * tri n) (4 * suc n) (λ i lo hi. row-final xs ws degree n i h (omega (arith, most, tri-nine)) lo (omega arith)))
-    ∙ sym (ap₂ (λ l p. ranged limit (mixed l (4 * suc n) (4 * suc n + 4) a b c) p (4 * suc n)) inv at)
-    ∙ sym (ap (λ k. ranged limit (mixed xs′ (4 * k) (4 * k + 4) a b c) from (4 * k)) (add-one n))
-    ∙ beyond)
-  where
-    ws : List ℤ
-    ws = a ∷ b ∷ c ∷ []
-
-    final : ℕ → ℤ
-    final i = getD (rowsBlended xs (a ∷ b ∷ c ∷ []) degree) i (pos 0)
+    -- a row beyond the limit is the level beyond the limit
+    pub turn-fails : (limit : ℕ) → size w 2 degree ≤ length xs → ranged limit turnOf from (w * (i + 1)) ≡ false
+        → all (within limit) (take (w * tri degree) (rowsBlended w xs ws degree)) ≡ false
+    turn-fails limit long beyond =
+        let next = row-end i in
+        let up = row-mono (suc i) degree below in
+        let most = row-mono degree (degree + 1) (omega arith) in
+        let whole : w * tri degree ≡ w * tri i + w * suc i + (w * tri degree - w * tri (suc i)) = omega (arith, next, up) in
+        sym (ranged-list limit (rowsBlended w xs ws degree) (w * tri degree) (subst (λ k. w * tri degree ≤ k) (sym (length-rows xs ws degree)) (omega (arith, most, size-patch w degree))))
+        ∙ ap (ranged limit final 0) whole
+        ∙ ranged-part limit final 0 (w * tri i) (w * suc i) (w * tri degree - w * tri (suc i))
+        (ap (λ j. ranged limit final j (w * suc i)) (zero-add (w * tri i))
+        ∙ sym (ranged-cong limit (rowOf xs ws (rowsBlended w xs ws i) i) final (w * tri i) (w * suc i)
+        (λ p lo hi. row-final xs ws degree i p below (omega (arith, most, size-patch w degree)) lo (omega (arith, next))))
+        ∙ (λ j. ranged limit (sym turn-is j) (sym at j) (w * sym (add-one i) j))
+        ∙ beyond)
+      where
+        final : ℕ → ℤ
+        final p = getD (rowsBlended w xs ws degree) p (pos 0)

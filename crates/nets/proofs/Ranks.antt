@@ -1,6 +1,7 @@
--- Places in numbers: a curve's entry with j copies of s stands at j, and a patch's entry with n copies of s and t together, k of t, at n(n+1)/2 + k.
-use Prim.Native.Nat.{ℕ, zero, suc, _+_, _*_, _-_, _/_, _≤_}
-use native.Mathlib.Nat.{le-refl, add-zero}
+-- Places in numbers: with two vertices the entry with j copies of the second stands at j, and with three the entry with i copies of the second and third together,
+-- k of the third, at i(i+1)/2 + k.
+use Prim.Native.Nat.{ℕ, zero, suc, _+_, _*_, _≤_, suc-le-suc}
+use native.Mathlib.Nat.{le-refl, add-zero, mul-le-mul-left}
 use native.Mathlib.Numerals.{add-one}
 use native.Mathlib.Omega.{arith}
 use native.Mathlib.Decide.{decLe}
@@ -8,20 +9,40 @@ use mathlib.Core.Path.{_≡_, refl, sym, ap, ap₂, _∙_, subst}
 use mathlib.Core.List.{List, [], _∷_}
 use lib.ListN.{length}
 use Rattle.polar.specs.Order.{counts}
-use Rattle.entries.proofs.Places.{offset, offset-snoc, length-counts, rank}
-use Rattle.machine.specs.Nets.{used}
+use Rattle.entries.specs.Rows.{size, offset, rank}
+use Rattle.entries.proofs.Places.{offset-snoc, length-counts}
 
--- ---- a curve
+-- ---- fewer entries at a lower degree
+
+pub offset-mono : (f : ℕ → List (List ℕ)) (a b : ℕ) → a ≤ b → offset f a ≤ offset f b
+offset-mono f a zero h = subst (λ x. offset f x ≤ 0) (sym (zero-only h)) (le-refl 0)
+  where
+    zero-only : a ≤ 0 → a ≡ 0
+    zero-only k = omega arith
+offset-mono f a (suc b) h = by (decLe a b) (offset-mono f a b)
+  where
+    by : Dec (a ≤ b) → (a ≤ b → offset f a ≤ offset f b) → offset f a ≤ offset f (suc b)
+    by (yes p) rest = let r = rest p in omega (arith, offset-snoc f b)
+    by (no p) rest = let e : a ≡ suc b = omega arith in subst (λ x. offset f x ≤ offset f (suc b)) (sym e) (le-refl (offset f (suc b)))
+
+pub size-mono : (w n a b : ℕ) → a ≤ b → size w n a ≤ size w n b
+unfolding counts
+size-mono w zero a b h = le-refl (w * 1)
+size-mono w (suc n) a b h =
+    let m = offset-mono (counts n) (suc a) (suc b) (suc-le-suc h) in
+    mul-le-mul-left w (omega (arith, m, length-counts n a, length-counts n b))
+
+-- ---- two vertices
 
 length-zero : (k : ℕ) → length (counts 0 k) ≡ 1
 unfolding counts
 length-zero k = refl
 
-pub offset-zero : (k : ℕ) → offset (counts 0) k ≡ k
+offset-zero : (k : ℕ) → offset (counts 0) k ≡ k
 offset-zero zero = refl
 offset-zero (suc k) = offset-snoc (counts 0) k ∙ ap₂ _+_ (offset-zero k) (length-zero k) ∙ omega arith
 
--- ---- a patch
+-- ---- three vertices
 
 -- how many entries stand before row n: 0, 1, 3, 6, ..
 pub length-one : (k : ℕ) → length (counts 1 k) ≡ suc k
@@ -37,20 +58,9 @@ tri-double (suc n) =
     let next : offset (counts 1) (suc n) ≡ offset (counts 1) n + suc n = tri-suc n in
     ap (λ x. 2 * x) next ∙ omega arith
 
-pub tri-mono : (a b : ℕ) → a ≤ b → offset (counts 1) a ≤ offset (counts 1) b
-tri-mono a zero h = subst (λ x. offset (counts 1) x ≤ 0) (sym (zero-only h)) (le-refl 0)
-  where
-    zero-only : a ≤ 0 → a ≡ 0
-    zero-only k = omega arith
-tri-mono a (suc b) h = by (decLe a b) (tri-mono a b)
-  where
-    by : Dec (a ≤ b) → (a ≤ b → offset (counts 1) a ≤ offset (counts 1) b) → offset (counts 1) a ≤ offset (counts 1) (suc b)
-    by (yes p) rest = let r = rest p in omega (arith, tri-suc b)
-    by (no p) rest = let e : a ≡ suc b = omega arith in subst (λ x. offset (counts 1) x ≤ offset (counts 1) (suc b)) (sym e) (le-refl (offset (counts 1) (suc b)))
-
-pub tri-nine : offset (counts 1) 9 ≡ 45
-unfolding counts
-tri-nine = refl
+pub tri-most : (n : ℕ) → n ≤ offset (counts 1) n
+tri-most zero = le-refl 0
+tri-most (suc n) = let rest = tri-most n in omega (arith, rest, tri-suc n)
 
 -- ---- ranks
 
@@ -60,20 +70,15 @@ rank-curve i j = add-zero (offset (counts 0) (j + 0)) ∙ offset-zero (j + 0) �
 pub rank-patch : (i j k : ℕ) → rank 2 (i ∷ j ∷ k ∷ []) ≡ offset (counts 1) (j + k) + k
 rank-patch i j k = ap₂ _+_ (ap (offset (counts 1)) (ap (λ x. j + x) (add-zero k))) (rank-curve j k)
 
--- ---- how many numbers a net has
+-- ---- how many numbers a group has
 
-pub used-curve : (m : ℕ) → used 1 m ≡ 4 * (m + 1)
-unfolding used
-used-curve m = ap (λ x. 4 * x) (length-one m ∙ omega arith)
+pub size-curve : (w m : ℕ) → size w 1 m ≡ w * (m + 1)
+size-curve w m = ap (λ x. w * x) (length-one m ∙ sym (add-one m))
 
-pub used-patch : (m : ℕ) → used 2 m ≡ 4 * offset (counts 1) (m + 1)
-unfolding used
-used-patch m = ap (λ x. 4 * x) (length-counts 1 m ∙ ap (offset (counts 1)) (sym (add-one m)))
+pub size-patch : (w m : ℕ) → size w 2 m ≡ w * offset (counts 1) (m + 1)
+size-patch w m = ap (λ x. w * x) (length-counts 1 m ∙ ap (offset (counts 1)) (sym (add-one m)))
 
-pub used-patch-product : (m : ℕ) → used 2 m ≡ 2 * (m + 1) * (m + 2)
-used-patch-product m = used-patch m ∙ let d = tri-double (m + 1) in omega arith
-
--- ---- counts of a curve and of a patch
+-- ---- counts of two and of three vertices
 
 -- what holds of two counts holds of every list of length 2
 pub by-two : (P : List ℕ → Type 0) → ((i j : ℕ) → P (i ∷ j ∷ [])) → (e : List ℕ) → length e ≡ 2 → P e

@@ -3,27 +3,23 @@ use Prim.Native.Nat.{ℕ, _+_, _*_, _-_, _^_, _≤_, _<_}
 use native.Mathlib.Nat.{mul-le-mul-left}
 use native.Mathlib.Omega.{arith}
 use mathlib.Core.Path.{_≡_, sym, ap, ap₂, _∙_, subst}
-use mathlib.Core.List.{List, [], _∷_}
+use mathlib.Core.List.{List}
 use lib.IntN.{ℤ, pos, natAbs, _+ℤ_, _*ℤ_}
 use lib.Signed.{mag}
 use lib.ListN.{getD, set}
 use borrow.Author.Needs.{sfits-of}
 use mir.Syntax.{w64}
-use mir.Val.{toZ, ofZ, SFits}
-use Rattle.integers.proofs.Signed.{back-fits}
+use mir.Val.{SFits}
+use Rattle.integers.proofs.Signed.{seen, back-fits}
 use Rattle.nets.specs.Rows.{written, mixed, Bounded}
 use Rattle.nets.proofs.Lists.{write-next, write-still}
-
--- a number as the machine reads it back from its bits
-abbrev pub seen : ℤ → ℤ
-seen v = toZ w64 (ofZ w64 v)
 
 -- what an element that was read is: its range is known from its type
 pub element : (v : ℤ) → mag v < 2 ^ 63 → seen v ≡ v
 element v h = back-fits {z = v} (sfits-of h)
 
 -- three products whose weights are W in all
-pub three-small : (a x b y c z : ℤ) (B : ℕ) → natAbs x ≤ B → natAbs y ≤ B → natAbs z ≤ B → (natAbs a + natAbs b + natAbs c) * B < 2 ^ 63
+three-small : (a x b y c z : ℤ) (B : ℕ) → natAbs x ≤ B → natAbs y ≤ B → natAbs z ≤ B → (natAbs a + natAbs b + natAbs c) * B < 2 ^ 63
     → natAbs a * natAbs x + natAbs b * natAbs y + natAbs c * natAbs z < 2 ^ 63
 three-small a x b y c z B hx hy hz h =
     omega (arith, mul-le-mul-left (natAbs a) hx, mul-le-mul-left (natAbs b) hy, mul-le-mul-left (natAbs c) hz)
@@ -63,11 +59,3 @@ module _ (xs₀ : List ℤ) (from count d e : ℕ) (a b c : ℤ) (fa : SFits w64
   -- the weights as the caller gave them
   pub row-weights : mixed xs₀ d e (seen a) (seen b) (seen c) ≡ mixed xs₀ d e a b c
   row-weights = λ i. mixed xs₀ d e (back-fits fa i) (back-fits fb i) (back-fits fc i)
-
--- ---- three weights as they are read back
-
-pub seen-list : (r s t : ℤ) → SFits w64 r → SFits w64 s → SFits w64 t → seen r ∷ seen s ∷ seen t ∷ [] ≡ r ∷ s ∷ t ∷ []
-seen-list r s t fr fs ft = λ i. back-fits fr i ∷ back-fits fs i ∷ back-fits ft i ∷ []
-
-pub seen-weights : (r s t : ℤ) → SFits w64 r → SFits w64 s → SFits w64 t → natAbs (seen r) + natAbs (seen s) + natAbs (seen t) ≡ natAbs r + natAbs s + natAbs t
-seen-weights r s t fr fs ft = λ i. natAbs (back-fits fr i) + natAbs (back-fits fs i) + natAbs (back-fits ft i)

@@ -1,54 +1,83 @@
--- What the private functions that make a first net do: a net holds the values of a form, and each blend with a vertex fixes one of the form's points.
-use Prim.Native.Nat.{ℕ, zero, suc, _+_, _*_, _/_, _%_, _^_, _≤_, _<_}
+-- What the private functions that make a first net do: a net holds the values of a form, and each step with a vertex of the frame fixes one of the form's points.
+use Prim.Native.Nat.{ℕ, zero, suc, _+_, _*_, _-_, _/_, _%_, _^_, _≤_, _<_}
 use mathlib.Core.Path.{_≡_}
 use mathlib.Core.List.{List, [], _∷_}
 use lib.IntN.{ℤ, pos, natAbs}
-use lib.ListN.{length, getD}
+use lib.ListN.{length, getD, replicate}
 use Rattle.polar.specs.Sigma.{Point}
 use Rattle.polar.specs.Order.{total, counts}
-use Rattle.entries.specs.Frame.{taken}
-use Rattle.entries.specs.Entries.{entryAt}
-use Rattle.entries.proofs.Form.{Form}
-use Rattle.entries.proofs.Standard.{units}
-use Rattle.machine.specs.Kinds.{further, known, firstOf, unless}
-use Rattle.machine.specs.Nets.{used}
-use Rattle.machine.specs.Comparison.{Polynomials, vertexAt}
-use Rattle.machine.specs.First.{frameOf, frameIn, coefficientsIn}
+use Rattle.entries.specs.Frame.{taken, units, vertexAt}
+use Rattle.entries.specs.Form.{Form}
+use Rattle.entries.specs.Rows.{entryAt, size}
+use Rattle.kinds.specs.Frames.{frameOf}
+use Rattle.nets.specs.Rows.{Sized, Bounded, written, placeAt}
 
--- every number of a net of degree m is so small that m blends with the frame's vertices fit 64 bits
-pub record Small (kind m : ℕ) (xs : List ℤ) : Type 0 where
+-- a list has room for a net of degree m
+abbrev pub Room : ℕ → ℕ → ℕ → List ℤ → Type 0
+Room w n m xs = size w n m ≤ length xs
+
+-- every number of a net of degree m is so small that m steps with the frame's vertices fit 64 bits
+pub record Small (w n m : ℕ) (xs : List ℤ) : Type 0 where
   pub bound : ℕ
-  pub each : (i : ℕ) → i < used kind m → natAbs (getD xs i (pos 0)) ≤ bound
-  pub fits : (4 * suc kind) ^ m * bound < 2 ^ 63
+  pub each : (i : ℕ) → i < size w n m → natAbs (getD xs i (pos 0)) ≤ bound
+  pub fits : (4 * suc n) ^ m * bound < 2 ^ 63
 
--- every number of the frame is within 4
-abbrev pub FrameWithin : ℕ → List ℤ → Type 0
-FrameWithin kind frame = (i : ℕ) → i < suc kind * suc kind → natAbs (getD frame i (pos 0)) ≤ 4
+-- the frame's numbers are there, and each is within 4
+pub record FrameWithin (n : ℕ) (frame : List ℤ) : Type 0 where
+  pub long : suc n * suc n ≤ length frame
+  pub each : (i : ℕ) → i < suc n * suc n → natAbs (getD frame i (pos 0)) ≤ 4
 
 -- vertex v of the frame
 abbrev pub vertexOf : ℕ → List ℤ → ℕ → Point
-vertexOf kind frame v = vertexAt (frameOf (suc (further kind)) frame) v
+vertexOf n frame v = vertexAt (frameOf (suc n) frame) v
 
--- vertex v of the frame as weights over the frame of the coordinates, Z first; a curve has one coordinate more
+-- vertex v of the frame as weights over the frame of the coordinates, Z first; a curve has one coordinate besides
 abbrev pub vertexWeights : ℕ → List ℤ → ℕ → List ℤ
 vertexWeights zero frame v = []
-vertexWeights (suc zero) frame v = getD frame (2 * v + 1) (pos 0) ∷ getD frame (2 * v) (pos 0) ∷ pos 0 ∷ []
-vertexWeights (suc (suc kind)) frame v = getD frame (3 * v + 2) (pos 0) ∷ getD frame (3 * v) (pos 0) ∷ getD frame (3 * v + 1) (pos 0) ∷ []
+vertexWeights (suc zero) frame v = getD frame (2 * v + 1) (pos 0) ∷ getD frame (2 * v) (pos 0) ∷ pos 0 ∷ pos 0 ∷ []
+vertexWeights (suc (suc n)) frame v = getD frame (3 * v + 2) (pos 0) ∷ getD frame (3 * v) (pos 0) ∷ getD frame (3 * v + 1) (pos 0) ∷ pos 0 ∷ []
 
--- a value for each component and list of points
+-- a value for each number of a row and list of points
 abbrev pub Values : Type 0
 Values = ℕ → List Point → ℤ
 
 -- the entries of a net of degree m are the values of the form G over the frame of the coordinates
-pub record Holds (kind m : ℕ) (G : Values) (xs : List ℤ) : Type 0 where
-  pub form : (c : ℕ) → Form (suc (further kind)) (G c)
-  pub entries : (c : ℕ) (e : List ℕ) → c < 4 → length e ≡ suc (further kind) → total e ≡ m → entryAt (further kind) m xs c e ≡ G c (taken (units (further kind)) e)
+pub record Holds (w n m : ℕ) (G : Values) (xs : List ℤ) : Type 0 where
+  pub form : (c : ℕ) → Form (suc n) (G c)
+  pub entries : (c : ℕ) (e : List ℕ) → c < w → length e ≡ suc n → total e ≡ m → entryAt w n m xs c e ≡ G c (taken (units n) e)
 
 -- the number at place i of the net of degree m with the values of G over the frame
-abbrev pub valueAt : ℕ → ℕ → List ℤ → Values → ℕ → ℤ
-valueAt kind m frame G i = G (i % 4) (taken (vertexOf kind frame) (getD (counts (further kind) m) (i / 4) []))
+abbrev pub valueAt : ℕ → ℕ → ℕ → List ℤ → Values → ℕ → ℤ
+valueAt w n m frame G i = G (i % w) (taken (vertexOf n frame) (getD (counts n m) (i / w) []))
 
--- what is refused of polynomials and a frame before a net is made: the number, or 0
-unfoldable pub judgedFirst : Polynomials → List ℤ → ℕ
-judgedFirst f numbers =
-    firstOf (unless (known (f .kind) (f .degree)) 4) (firstOf (unless (frameIn (suc (further (f .kind))) numbers) 5) (unless (coefficientsIn f) 6))
+-- what the steps ask for: places for a net of degree m, a frame, and a net that is small
+pub record Stepping (w n m : ℕ) (frame xs : List ℤ) : Type 0 where
+  pub sized : Sized w n m
+  pub long : size w n m ≤ length xs
+  pub corners : FrameWithin n frame
+  pub small : Small w n m xs
+
+-- what one step with vertex v asks for: the numbers are so small that it fits 64 bits
+pub record VertexStep (w n m v : ℕ) (frame xs : List ℤ) : Type 0 where
+  pub sized : Sized w n m
+  pub some : 1 ≤ m
+  pub vertex : v ≤ n
+  pub long : size w n m ≤ length xs
+  pub corners : FrameWithin n frame
+  pub bounded : Bounded xs 0 (size w n m) (4 * suc n)
+
+-- ---- what is put, out being the places before and after those afterwards, for every form G whose values the net cur holds
+
+-- the entry with i copies of the vertices after the first, k of them of the third; cur has degree i - k, the points of the entry besides the second vertex being fixed
+abbrev pub EntryPut : ℕ → ℕ → ℕ → ℕ → List ℤ → List ℤ → List ℤ → List ℤ → Type 0
+EntryPut w n i k frame cur out after =
+    (G : Values) → Holds w n (i - k) G cur → after ≡ written out (w * placeAt n i k) w (λ j. G (j % w) (replicate (i - k) (vertexOf n frame 1)))
+
+-- the entries with i copies of the vertices after the first; cur has degree i, the copies of the first vertex being fixed
+abbrev pub RowPut : ℕ → ℕ → ℕ → List ℤ → List ℤ → List ℤ → List ℤ → Type 0
+RowPut w n i frame cur out after =
+    (G : Values) → Holds w n i G cur → after ≡ written out (w * placeAt n i 0) (w * suc ((n - 1) * i)) (valueAt w n i frame G)
+
+-- all entries of degree m
+abbrev pub NetPut : ℕ → ℕ → ℕ → List ℤ → List ℤ → List ℤ → List ℤ → Type 0
+NetPut w n m frame cur out after = (G : Values) → Holds w n m G cur → after ≡ written out 0 (size w n m) (valueAt w n m frame G)

@@ -1,18 +1,23 @@
-// The net over the frame of the coordinates: each entry is the coefficient of its monomial, times L
-// divided by the multinomial of the monomial.
+// The net of one group over the frame of the coordinates: each entry is the coefficient of its monomial,
+// times L divided by the multinomial of the monomial.
 ghost use mathlib.Core.Path.{_≡_};
-ghost use Prim.Native.Nat.{ℕ, suc, _+_, _*_, _-_, _/_, _<_, _≤_};
+ghost use Prim.Native.Nat.{suc, _+_, _*_, _-_, _/_, _<_, _≤_};
 ghost use lib.IntN.{pos, natAbs, _*ℤ_};
 ghost use lib.ListN.{length, getD};
 ghost use Rattle.polar.specs.Order.{monomials};
 ghost use Rattle.polar.specs.Scale.{factorial, multinomial, scale};
 ghost use Rattle.entries.specs.Entries.{placeOf};
-ghost use Rattle.machine.specs.Kinds.{further};
-ghost use Rattle.nets.specs.Rows.{Sized, placeAt, written};
-ghost use Rattle.nets.specs.Coordinates.{exponentsAt, Limited, coordinateAt, Coordinates};
+ghost use Rattle.entries.specs.Rows.{size};
+ghost use Rattle.nets.specs.Rows.{placeAt, written};
+ghost use Rattle.nets.specs.Coordinates.{
+  exponentsAt,
+  CoefficientsIn,
+  Limited,
+  coordinateAt,
+  Coordinates,
+};
 use crate::levels::spread;
 use crate::rows::place;
-use scales::scale;
 
 // k! for k from 0 to 10.
 const FACTORIALS: [u64; 11] = [1, 1, 2, 6, 24, 120, 720, 5040, 40320, 362880, 3628800];
@@ -27,30 +32,29 @@ pub(crate) fn factorial_of(k: usize) -> u64
 // ---- scaled coefficients
 
 // The multinomial of a monomial: h of the first coordinate, l of the second where there is one.
-pub(crate) fn multinomial_of(kind: u8, degree: usize, h: usize, l: usize) -> u64
-    requires { ⌜ Sized kind degree × (h + l ≤ degree) × (l ≤ (kind - 1) * degree) ⌝ }
-    ensures { λ r. ⌜ (r ≡ multinomial degree (exponentsAt kind h l)) × (0 < r) ⌝ }
+pub(crate) fn multinomial_of(dimension: usize, degree: usize, h: usize, l: usize) -> u64
+    requires { ⌜ (1 ≤ dimension) × (dimension ≤ 2) × (degree ≤ 10) × (h + l ≤ degree) × (l ≤ (dimension - 1) * degree) ⌝ }
+    ensures { λ r. ⌜ (r ≡ multinomial degree (exponentsAt dimension h l)) × (0 < r) ⌝ }
 {
     let below = factorial_of(h) * factorial_of(l) * factorial_of(degree - h - l);
     factorial_of(degree) / below
 }
 
-// L divided by the multinomial of a monomial.
-pub(crate) fn factor(kind: u8, degree: usize, h: usize, l: usize) -> i64
-    requires { ⌜ Sized kind degree × (1 ≤ degree) × (h + l ≤ degree) × (l ≤ (kind - 1) * degree) ⌝ }
-    ensures { λ r. ⌜ (r ≡ pos (scale (further kind) degree / multinomial degree (exponentsAt kind h l))) × (natAbs r ≤ 2520) ⌝ }
+// The scale divided by the multinomial of a monomial.
+pub(crate) fn factor(all: u64, dimension: usize, degree: usize, h: usize, l: usize) -> i64
+    requires { ⌜ (all ≤ 2520) × (1 ≤ dimension) × (dimension ≤ 2) × (degree ≤ 10) × (h + l ≤ degree) × (l ≤ (dimension - 1) * degree) ⌝ }
+    ensures { λ r. ⌜ (r ≡ pos (all / multinomial degree (exponentsAt dimension h l))) × (natAbs r ≤ 2520) ⌝ }
 {
-    let all = scale(kind, degree);
-    let parts = multinomial_of(kind, degree, h, l);
+    let parts = multinomial_of(dimension, degree, h, l);
     (all / parts) as i64
 }
 
-// The place of a monomial among the monomials: those of a patch stand in rows of one h each.
-pub(crate) fn monomial_place(kind: u8, degree: usize, h: usize, l: usize) -> usize
-    requires { ⌜ Sized kind degree × (h + l ≤ degree) × (l ≤ (kind - 1) * degree) ⌝ }
-    ensures { λ r. ⌜ r ≡ placeOf (exponentsAt kind h l) (monomials (further kind) degree) ⌝ }
+// The place of a monomial among the monomials: with two coordinates they stand in rows of one h each.
+pub(crate) fn monomial_place(dimension: usize, degree: usize, h: usize, l: usize) -> usize
+    requires { ⌜ (1 ≤ dimension) × (dimension ≤ 2) × (degree ≤ 10) × (h + l ≤ degree) × (l ≤ (dimension - 1) * degree) ⌝ }
+    ensures { λ r. ⌜ r ≡ placeOf (exponentsAt dimension h l) (monomials dimension degree) ⌝ }
 {
-    if kind == 1 {
+    if dimension == 1 {
         return h;
     }
     let rest = degree - h;
@@ -67,7 +71,7 @@ pub(crate) fn scaled(a: i64, factor: i64) -> i64
 
 // Puts the four numbers of a monomial, scaled, into the place of an entry.
 pub(crate) fn put_scaled(out: &mut [i64], to: usize, coefficients: &[i64], from: usize, factor: i64)
-    requires { ⌜ (4 * to + 4 ≤ length (now out)) × (4 * from + 4 ≤ length (now coefficients)) × (natAbs factor ≤ 2520) × ((i : ℕ) → 4 * from ≤ i → i < 4 * from + 4 → natAbs (getD (now coefficients) i (pos 0)) ≤ 1048576) ⌝ }
+    requires { ⌜ (4 * to + 4 ≤ length (now out)) × (4 * from + 4 ≤ length (now coefficients)) × (natAbs factor ≤ 2520) × CoefficientsIn (now coefficients) (4 * from) (4 * from + 4) ⌝ }
     ensures { λ _. ⌜ now (out .exit) ≡ written (now (out .entry)) (4 * to) 4 (λ i. getD (now (coefficients .entry)) (4 * from + (i - 4 * to)) (pos 0) *ℤ factor) ⌝ }
 {
     let p = 4 * to;
@@ -81,46 +85,60 @@ pub(crate) fn put_scaled(out: &mut [i64], to: usize, coefficients: &[i64], from:
 
 // ---- the net over the frame of the coordinates
 
-// The entry with n copies of the vertices after the first, k of them of the third.
+// The entry with i copies of the vertices after the first, k of them of the third.
 pub(crate) fn put_entry(
     out: &mut [i64],
-    kind: u8,
+    all: u64,
+    dimension: usize,
     degree: usize,
     coefficients: &[i64],
-    n: usize,
+    i: usize,
     k: usize,
 )
-    requires { ⌜ Sized kind degree × (1 ≤ degree) × (length (now out) ≡ 180) × (length (now coefficients) ≡ 180) × Limited kind degree (now coefficients) × (n ≤ degree) × (k ≤ (kind - 1) * n) ⌝ }
-    ensures { λ _. ⌜ now (out .exit) ≡ written (now (out .entry)) (4 * placeAt kind n k) 4 (coordinateAt kind degree (now (coefficients .entry))) ⌝ }
+    requires { ⌜ Limited dimension degree (now coefficients) × (all ≡ scale dimension degree) × (size 4 dimension degree ≤ length (now out)) × (i ≤ degree) × (k ≤ (dimension - 1) * i) ⌝ }
+    ensures { λ _. ⌜ now (out .exit) ≡ written (now (out .entry)) (4 * placeAt dimension i k) 4 (coordinateAt dimension degree (now (coefficients .entry))) ⌝ }
 {
-    let to = place(kind, n, k);
-    let h = n - k;
-    let from = monomial_place(kind, degree, h, k);
-    let times = factor(kind, degree, h, k);
+    let to = place(dimension, i, k);
+    let h = i - k;
+    let from = monomial_place(dimension, degree, h, k);
+    let times = factor(all, dimension, degree, h, k);
     put_scaled(out, to, coefficients, from, times);
 }
 
-// The entries with n copies of the vertices after the first.
-pub(crate) fn put_row(out: &mut [i64], kind: u8, degree: usize, coefficients: &[i64], n: usize)
-    requires { ⌜ Sized kind degree × (1 ≤ degree) × (length (now out) ≡ 180) × (length (now coefficients) ≡ 180) × Limited kind degree (now coefficients) × (n ≤ degree) ⌝ }
-    ensures { λ _. ⌜ now (out .exit) ≡ written (now (out .entry)) (4 * placeAt kind n 0) (4 * suc ((kind - 1) * n)) (coordinateAt kind degree (now (coefficients .entry))) ⌝ }
+// The entries with i copies of the vertices after the first.
+pub(crate) fn put_row(
+    out: &mut [i64],
+    all: u64,
+    dimension: usize,
+    degree: usize,
+    coefficients: &[i64],
+    i: usize,
+)
+    requires { ⌜ Limited dimension degree (now coefficients) × (all ≡ scale dimension degree) × (size 4 dimension degree ≤ length (now out)) × (i ≤ degree) ⌝ }
+    ensures { λ _. ⌜ now (out .exit) ≡ written (now (out .entry)) (4 * placeAt dimension i 0) (4 * suc ((dimension - 1) * i)) (coordinateAt dimension degree (now (coefficients .entry))) ⌝ }
 {
-    let last = spread(kind, n);
+    let last = spread(dimension, i);
     let mut k = 0;
     while k <= last {
-        put_entry(&mut *out, kind, degree, coefficients, n, k);
+        put_entry(&mut *out, all, dimension, degree, coefficients, i, k);
         k += 1;
     }
 }
 
-// All entries of the net over the frame of the coordinates.
-pub(crate) fn coordinate_numbers(out: &mut [i64], kind: u8, degree: usize, coefficients: &[i64])
-    requires { ⌜ Sized kind degree × (1 ≤ degree) × (length (now out) ≡ 180) × (length (now coefficients) ≡ 180) × ((i : ℕ) → i < 4 * length (monomials (further kind) degree) → natAbs (getD (now coefficients) i (pos 0)) ≤ 1048576) ⌝ }
-    ensures { λ _. ⌜ Coordinates kind degree (now (coefficients .entry)) (now (out .exit)) ⌝ }
+// All entries of the net over the frame of the coordinates; `all` is the scale.
+pub(crate) fn coordinate_numbers(
+    out: &mut [i64],
+    all: u64,
+    dimension: usize,
+    degree: usize,
+    coefficients: &[i64],
+)
+    requires { ⌜ Limited dimension degree (now coefficients) × (all ≡ scale dimension degree) × (size 4 dimension degree ≤ length (now out)) ⌝ }
+    ensures { λ _. ⌜ Coordinates dimension degree (now (coefficients .entry)) (now (out .exit)) × (length (now (out .exit)) ≡ length (now (out .entry))) ⌝ }
 {
-    let mut n = 0;
-    while n <= degree {
-        put_row(&mut *out, kind, degree, coefficients, n);
-        n += 1;
+    let mut i = 0;
+    while i <= degree {
+        put_row(&mut *out, all, dimension, degree, coefficients, i);
+        i += 1;
     }
 }

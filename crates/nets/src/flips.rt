@@ -1,26 +1,32 @@
-// Flips: the sign of an entry changes where the vertex is taken an odd number of times.
+// Flips: the sign of an entry changes where the vertex is taken an odd number of times. Vertices are
+// counted from 0 here.
 ghost use mathlib.Core.Path.{_≡_};
-ghost use Prim.Native.Nat.{ℕ, pred, suc, _+_, _*_, _-_, _<_, _≤_};
+ghost use Prim.Native.Nat.{suc, _+_, _*_, _-_, _≤_};
 ghost use lib.IntN.{pos, natAbs};
 ghost use lib.ListN.{length, getD};
-ghost use Rattle.machine.specs.Kinds.{further};
-ghost use Rattle.machine.specs.Nets.{used};
-ghost use Rattle.nets.specs.Rows.{Sized, written, placeAt};
-ghost use Rattle.nets.specs.Flips.{countsAt, signed, signedAt, flippedList};
+ghost use Rattle.nets.specs.Rows.{written, placeAt};
+ghost use Rattle.nets.specs.Flips.{
+  countsAt,
+  signed,
+  signedAt,
+  flippedList,
+  InRange,
+  Flips,
+};
 use crate::levels::spread;
 use crate::rows::place;
 
-// How often a vertex is taken in the entry with n copies of the vertices after the first, k of them
+// How often a vertex is taken in the entry with i copies of the vertices after the first, k of them
 // of the third.
-pub(crate) fn copies(kind: u8, vertex: u8, degree: usize, n: usize, k: usize) -> usize
-    requires { ⌜ Sized kind degree × (1 ≤ vertex) × (vertex ≤ kind + 1) × (n ≤ degree) × (k ≤ (kind - 1) * n) ⌝ }
-    ensures { λ r. ⌜ r ≡ getD (countsAt kind degree n k) (pred vertex) 0 ⌝ }
+pub(crate) fn copies(dimension: usize, vertex: usize, degree: usize, i: usize, k: usize) -> usize
+    requires { ⌜ (1 ≤ dimension) × (dimension ≤ 2) × (vertex ≤ dimension) × (i ≤ degree) × (k ≤ (dimension - 1) * i) ⌝ }
+    ensures { λ r. ⌜ r ≡ getD (countsAt dimension degree i k) vertex 0 ⌝ }
 {
-    if vertex == 1 {
-        return degree - n;
+    if vertex == 0 {
+        return degree - i;
     }
-    if vertex == 2 {
-        return n - k;
+    if vertex == 1 {
+        return i - k;
     }
     k
 }
@@ -36,13 +42,13 @@ pub(crate) fn sign(x: i64, count: usize) -> i64
     -x
 }
 
-// Changes the sign of the four numbers of an entry where the count is odd.
-pub(crate) fn sign_entry(xs: &mut [i64], p: usize, count: usize)
-    requires { ⌜ (4 * p + 4 ≤ length (now xs)) × ((i : ℕ) → 4 * p ≤ i → i < 4 * p + 4 → natAbs (getD (now xs) i (pos 0)) ≤ 281474976710656) ⌝ }
-    ensures { λ _. ⌜ now (xs .exit) ≡ written (now (xs .entry)) (4 * p) 4 (λ i. signed count (getD (now (xs .entry)) i (pos 0))) ⌝ }
+// Changes the sign of the numbers of a row where the count is odd.
+pub(crate) fn sign_row(xs: &mut [i64], p: usize, width: usize, count: usize)
+    requires { ⌜ (width * p + width ≤ length (now xs)) × InRange (now xs) (width * p) (width * p + width) ⌝ }
+    ensures { λ _. ⌜ now (xs .exit) ≡ written (now (xs .entry)) (width * p) width (λ i. signed count (getD (now (xs .entry)) i (pos 0))) ⌝ }
 {
-    let from = 4 * p;
-    let end = from + 4;
+    let from = width * p;
+    let end = from + width;
     let mut i = from;
     while i < end {
         xs[i] = sign(xs[i], count);
@@ -50,29 +56,42 @@ pub(crate) fn sign_entry(xs: &mut [i64], p: usize, count: usize)
     }
 }
 
-// Flips a vertex in the entries with n copies of the vertices after the first.
-pub(crate) fn flip_row(xs: &mut [i64], kind: u8, vertex: u8, degree: usize, n: usize)
-    requires { ⌜ Sized kind degree × (1 ≤ vertex) × (vertex ≤ kind + 1) × (n ≤ degree) × (length (now xs) ≡ 180) × ((i : ℕ) → 4 * placeAt kind n 0 ≤ i → i < used kind degree → natAbs (getD (now xs) i (pos 0)) ≤ 281474976710656) ⌝ }
-    ensures { λ _. ⌜ now (xs .exit) ≡ written (now (xs .entry)) (4 * placeAt kind n 0) (4 * suc ((kind - 1) * n)) (signedAt (further kind) degree (pred vertex) (now (xs .entry))) ⌝ }
+// Flips a vertex in the entries with i copies of the vertices after the first.
+pub(crate) fn flip_row(
+    xs: &mut [i64],
+    dimension: usize,
+    vertex: usize,
+    degree: usize,
+    width: usize,
+    i: usize,
+)
+    requires { ⌜ Flips width dimension degree vertex (width * placeAt dimension i 0) (now xs) × (i ≤ degree) ⌝ }
+    ensures { λ _. ⌜ now (xs .exit) ≡ written (now (xs .entry)) (width * placeAt dimension i 0) (width * suc ((dimension - 1) * i)) (signedAt width dimension degree vertex (now (xs .entry))) ⌝ }
 {
-    let p = place(kind, n, 0);
-    let last = spread(kind, n);
+    let p = place(dimension, i, 0);
+    let last = spread(dimension, i);
     let mut k = 0;
     while k <= last {
-        let count = copies(kind, vertex, degree, n, k);
-        sign_entry(&mut *xs, p + k, count);
+        let count = copies(dimension, vertex, degree, i, k);
+        sign_row(&mut *xs, p + k, width, count);
         k += 1;
     }
 }
 
-// Flips a vertex in the numbers of a net.
-pub(crate) fn flip_entries(xs: &mut [i64], kind: u8, vertex: u8, degree: usize)
-    requires { ⌜ Sized kind degree × (1 ≤ vertex) × (vertex ≤ kind + 1) × (length (now xs) ≡ 180) × ((i : ℕ) → i < used kind degree → natAbs (getD (now xs) i (pos 0)) ≤ 281474976710656) ⌝ }
-    ensures { λ _. ⌜ now (xs .exit) ≡ flippedList (further kind) degree (pred vertex) (now (xs .entry)) ⌝ }
+// Flips a vertex in the rows of a net.
+pub(crate) fn flip_entries(
+    xs: &mut [i64],
+    dimension: usize,
+    vertex: usize,
+    degree: usize,
+    width: usize,
+)
+    requires { ⌜ Flips width dimension degree vertex 0 (now xs) ⌝ }
+    ensures { λ _. ⌜ now (xs .exit) ≡ flippedList width dimension degree vertex (now (xs .entry)) ⌝ }
 {
-    let mut n = 0;
-    while n <= degree {
-        flip_row(&mut *xs, kind, vertex, degree, n);
-        n += 1;
+    let mut i = 0;
+    while i <= degree {
+        flip_row(&mut *xs, dimension, vertex, degree, width, i);
+        i += 1;
     }
 }

@@ -1,6 +1,6 @@
-// First nets and calls on nets, whose entries stand in places that the caller lends. Any numbers whatever
-// are taken; what a call answers and leaves is `stepOf` of the crate machine, which the theorem of demand 3
-// is about.
+// First nets and calls on nets, which stand in places that the caller lends: 193 numbers or more, as
+// specs/Lent.antt of the crate machine lays them out. Any numbers whatever are taken. What a call answers
+// and leaves is the step that the theorem of demand 3 is about.
 mod calls;
 mod coordinates;
 mod first;
@@ -9,13 +9,18 @@ mod levels;
 mod rows;
 
 ghost use mathlib.Core.Path.{_≡_};
+ghost use mathlib.Core.List.{[], _∷_};
+ghost use Prim.Native.Nat.{_≤_};
+ghost use lib.IntN.{pos};
+ghost use lib.ListN.{length, take};
 ghost use Rattle.machine.specs.Lent.{
-  firstNumber,
-  firstEntries,
-  lentNumber,
-  lentEntries,
-  pointNumber,
-  pointPlaces,
+  byteOf,
+  putAt,
+  madeNumber,
+  madePlaces,
+  callNumber,
+  callPlaces,
+  callFound,
 };
 use crate::calls::judge_and_move;
 use crate::calls::judge_and_point;
@@ -23,86 +28,144 @@ use crate::first::judge_first;
 use crate::first::make_first;
 use crate::rows::PLACES;
 use crate::rows::copy;
+use kinds::number_count;
 use machine::Call;
 use machine::Weights;
 
+// How many places a net has: kind and degrees, nine for a frame, the entries, and one for the largest
+// component.
+pub const NET: usize = 193;
+
+// Where the entries begin and end.
+const ENTRIES: usize = 12;
+
+const END: usize = 192;
+
+// A number as a byte; 255 where it is none, which is no kind and no degree.
+fn byte_of(v: i64) -> u8
+    ensures { λ r. ⌜ r ≡ byteOf v ⌝ }
+{
+    if v < 0 {
+        return 255;
+    }
+    if v <= 255 {
+        return v as u8;
+    }
+    255
+}
+
+// A byte as a wider number.
+fn wide(b: u8) -> i64
+    ensures { λ r. ⌜ r ≡ pos b ⌝ }
+{
+    b as i64
+}
+
+// Puts kind and degrees into the first three places.
+fn put_head(net: &mut [i64], kind: u8, degree: u8, second: u8)
+    requires { ⌜ 3 ≤ length (now net) ⌝ }
+    ensures { λ _. ⌜ now (net .exit) ≡ putAt 0 (pos kind ∷ pos degree ∷ pos second ∷ []) (now (net .entry)) ⌝ }
+{
+    net[0] = wide(kind);
+    net[1] = wide(degree);
+    net[2] = wide(second);
+}
+
+// The nine numbers that a frame begins with.
+fn first_nine(frame: &[i64]) -> [i64; 9]
+    requires { ⌜ 9 ≤ length (now frame) ⌝ }
+    ensures { λ r. ⌜ r ≡ take 9 (now (frame .entry)) ⌝ }
+{
+    [
+        frame[0],
+        frame[1],
+        frame[2],
+        frame[3],
+        frame[4],
+        frame[5],
+        frame[6],
+        frame[7],
+        frame[8],
+    ]
+}
+
 // Makes the first net of polynomials over a frame, in places that the caller lends, and answers 0; or
-// answers the number of the refusal, and the places stay as they were. The coefficients are those of
-// the record, four to a monomial. Both lists have the 180 places of a net; the number is 11 otherwise.
+// answers the number of the refusal, and the places stay as they were. The frame has nine numbers or more,
+// of which a curve takes four, and the coefficients are 180 or more, of which kind and degrees take the
+// first ones, four to a monomial.
 pub fn first_net(
-    entries: &mut [i64],
+    net: &mut [i64],
     kind: u8,
     degree: u8,
-    frame: [i64; 9],
+    second: u8,
+    frame: &[i64],
     coefficients: &[i64],
 ) -> u8
-    ensures number { λ k. ⌜ k ≡ firstNumber (record { kind = kind; degree = degree; coefficients = now (coefficients .entry) }) frame (now (entries .entry)) ⌝ }
-    ensures entries { λ _. ⌜ now (entries .exit) ≡ firstEntries (record { kind = kind; degree = degree; coefficients = now (coefficients .entry) }) frame (now (entries .entry)) ⌝ }
+    ensures number { λ k. ⌜ k ≡ madeNumber kind degree second (now (frame .entry)) (now (coefficients .entry)) (now (net .entry)) ⌝ }
+    ensures places { λ _. ⌜ now (net .exit) ≡ madePlaces kind degree second (now (frame .entry)) (now (coefficients .entry)) (now (net .entry)) ⌝ }
 {
-    if coefficients.len() != PLACES {
+    if frame.len() < 9 {
         return 11;
     }
-    if entries.len() != PLACES {
+    if coefficients.len() < PLACES {
         return 11;
     }
-    let number = judge_first(kind, degree, frame, coefficients);
+    if net.len() < NET {
+        return 11;
+    }
+    let corners = first_nine(frame);
+    let number = judge_first(kind, degree, second, corners, coefficients);
     if number != 0 {
         return number;
     }
     let mut made = [0; PLACES];
-    if !make_first(&mut made, kind, degree, &frame, coefficients) {
+    if !make_first(&mut made, kind, degree, second, &corners, coefficients) {
         return 7;
     }
-    copy(entries, &made, PLACES);
+    put_head(net, kind, degree, second);
+    copy(
+        &mut net[ENTRIES..END],
+        &made,
+        number_count(kind, degree, second),
+    );
     0
 }
 
-// Makes a move on a net whose entries stand in lent places; a refused one leaves them as they were.
-pub fn take_move(
-    entries: &mut [i64],
-    kind: u8,
-    degree: u8,
-    operation: u8,
-    vertex: u8,
-    weights: Weights,
-) -> u8
-    ensures number { λ k. ⌜ k ≡ lentNumber (record { kind = kind; degree = degree; entries = now (entries .entry) }) (Call.Move operation vertex weights) ⌝ }
-    ensures entries { λ _. ⌜ now (entries .exit) ≡ lentEntries (record { kind = kind; degree = degree; entries = now (entries .entry) }) (Call.Move operation vertex weights) ⌝ }
+// Makes a move on a net; a refused one leaves every place as it was.
+pub fn take_move(net: &mut [i64], operation: u8, vertex: u8, weights: Weights) -> u8
+    ensures number { λ k. ⌜ k ≡ callNumber (Call.Move operation vertex weights) (now (net .entry)) [] ⌝ }
+    ensures places { λ _. ⌜ now (net .exit) ≡ callPlaces (Call.Move operation vertex weights) (now (net .entry)) [] ⌝ }
 {
-    if entries.len() != PLACES {
+    if net.len() < NET {
         return 11;
     }
+    let kind = byte_of(net[0]);
+    let degree = byte_of(net[1]);
+    let second = byte_of(net[2]);
     judge_and_move(
-        entries,
+        &mut net[ENTRIES..END],
         kind,
         degree,
+        second,
         operation,
         vertex,
-        weights.r,
-        weights.s,
-        weights.t,
+        weights,
     )
 }
 
-// Finds a point of a net whose entries stand in lent places: x, y, z and w go into the first four places
-// of `found`, or nothing does.
-pub fn find_point(entries: &[i64], kind: u8, degree: u8, weights: Weights, found: &mut [i64]) -> u8
-    ensures number { λ k. ⌜ k ≡ pointNumber (record { kind = kind; degree = degree; entries = now (entries .entry) }) (Call.Point weights) (now (found .entry)) ⌝ }
-    ensures found { λ _. ⌜ now (found .exit) ≡ pointPlaces (record { kind = kind; degree = degree; entries = now (entries .entry) }) (Call.Point weights) (now (found .entry)) ⌝ }
+// Finds a point of a net: x, y, z and w go into the first four places of `found`, or nothing does.
+pub fn find_point(net: &[i64], weights: Weights, found: &mut [i64]) -> u8
+    ensures number { λ k. ⌜ k ≡ callNumber (Call.Point weights) (now (net .entry)) (now (found .entry)) ⌝ }
+    ensures found { λ _. ⌜ now (found .exit) ≡ callFound (Call.Point weights) (now (net .entry)) (now (found .entry)) ⌝ }
 {
+    if net.len() < NET {
+        return 11;
+    }
     if found.len() < 4 {
         return 11;
     }
-    if entries.len() != PLACES {
-        return 11;
-    }
-    judge_and_point(
-        entries,
-        kind,
-        degree,
-        weights.r,
-        weights.s,
-        weights.t,
-        found,
-    )
+    let kind = byte_of(net[0]);
+    let degree = byte_of(net[1]);
+    let second = byte_of(net[2]);
+    judge_and_point(&net[ENTRIES..END], kind, degree, second, weights, found)
 }

@@ -1,47 +1,32 @@
-// Numbers in a row: the test of their range, and blends in place.
+// Numbers in rows: copies, and de Casteljau steps in place.
+//
+// The functions of this crate below the calls see one group of a net: 1 + dimension vertices, a degree,
+// and a row of `width` numbers for each entry, whatever the kind is.
 ghost use mathlib.Core.Path.{_≡_};
+ghost use mathlib.Core.Bool.{true};
 ghost use Prim.Native.Nat.{pred, _+_, _*_, _<_, _≤_, _^_};
 ghost use lib.IntN.{pos, natAbs, _+ℤ_, _*ℤ_};
-ghost use lib.ListN.{length, take, getD};
-ghost use mathlib.Core.Bool.{true};
+ghost use lib.ListN.{length, getD};
 ghost use Rattle.polar.specs.Order.{counts};
-ghost use Rattle.entries.proofs.Places.{offset};
-ghost use Rattle.projection.specs.Projection.{inRange};
-ghost use Rattle.machine.specs.Kinds.{further, within, all};
-ghost use mathlib.Core.List.{[], _∷_};
-ghost use Rattle.machine.specs.Nets.{used};
+ghost use Rattle.entries.specs.Rows.{size, offset};
+ghost use Rattle.machine.specs.Calls.{weightList};
 ghost use Rattle.nets.specs.Rows.{
   written,
   mixed,
   ranged,
+  weightSum,
   Bounded,
   Sized,
   placeAt,
   rowsBlended,
   blended,
+  Leaves,
 };
-use integers::magnitude;
-use projection::in_range;
+use integers::is_within;
+use machine::Weights;
 
-// How many places the array of a net has.
+// How many places the entries of a net have.
 pub(crate) const PLACES: usize = 180;
-
-// ---- range
-
-// Whether the first n numbers are in range.
-pub(crate) fn all_in_range(xs: &[i64], n: usize) -> bool
-    requires { ⌜ n ≤ length (now xs) ⌝ }
-    ensures { λ r. ⌜ r ≡ all inRange (take n (now (xs .entry))) ⌝ }
-{
-    let mut i = 0;
-    while i < n {
-        if !in_range(xs[i]) {
-            return false;
-        }
-        i += 1;
-    }
-    true
-}
 
 // ---- copies
 
@@ -57,14 +42,7 @@ pub(crate) fn copy(to: &mut [i64], from: &[i64], count: usize)
     }
 }
 
-// ---- blends
-
-// Whether a number is at most `limit` in absolute value.
-pub(crate) fn is_within(v: i64, limit: u64) -> bool
-    ensures { λ r. ⌜ r ≡ within limit v ⌝ }
-{
-    magnitude(v) <= limit
-}
+// ---- one row
 
 // One blended number.
 pub(crate) fn mix(a: i64, x: i64, b: i64, y: i64, c: i64, z: i64) -> i64
@@ -105,64 +83,82 @@ pub(crate) fn blend_row(
 
 // ---- places
 
-// How many numbers a net of a kind and degree has.
-pub(crate) fn numbers(kind: u8, degree: usize) -> usize
-    requires { ⌜ Sized kind degree ⌝ }
-    ensures { λ r. ⌜ r ≡ used kind degree ⌝ }
+// How many numbers the rows of a group have.
+pub(crate) fn numbers(dimension: usize, degree: usize, width: usize) -> usize
+    requires { ⌜ Sized width dimension degree ⌝ }
+    ensures { λ r. ⌜ r ≡ size width dimension degree ⌝ }
 {
-    if kind == 1 {
-        return 4 * (degree + 1);
+    if dimension == 1 {
+        return width * (degree + 1);
     }
-    2 * (degree + 1) * (degree + 2)
+    width * ((degree + 1) * (degree + 2) / 2)
 }
 
-// The place of the entry that has n copies of the vertices after the first, k of them of the third.
-pub(crate) fn place(kind: u8, n: usize, k: usize) -> usize
-    requires { ⌜ Sized kind n × (k ≤ n) ⌝ }
-    ensures { λ r. ⌜ r ≡ placeAt kind n k ⌝ }
+// The place of the entry that has i copies of the vertices after the first, k of them of the third.
+pub(crate) fn place(dimension: usize, i: usize, k: usize) -> usize
+    requires { ⌜ (1 ≤ dimension) × (dimension ≤ 2) × (i ≤ 180) × (k ≤ i) ⌝ }
+    ensures { λ r. ⌜ r ≡ placeAt dimension i k ⌝ }
 {
-    if kind == 1 {
-        return n;
+    if dimension == 1 {
+        return i;
     }
-    n * (n + 1) / 2 + k
+    i * (i + 1) / 2 + k
 }
 
-// ---- one level
+// ---- one step
 
-// Blends the rows of a patch in place, each with the next one, as far as they are within the limit.
-pub(crate) fn blend_rows(xs: &mut [i64], degree: usize, r: i64, s: i64, t: i64, limit: u64) -> bool
-    requires { ⌜ (degree ≤ 8) × (length (now xs) ≡ 180) × Bounded (now xs) 0 (used 2 degree) (natAbs r + natAbs s + natAbs t) ⌝ }
-    ensures { λ b. ⌜ (b ≡ ranged limit (λ i. getD (rowsBlended (now (xs .entry)) (r ∷ s ∷ t ∷ []) degree) i (pos 0)) 0 (4 * offset (counts 1) degree)) × (b ≡ true → now (xs .exit) ≡ rowsBlended (now (xs .entry)) (r ∷ s ∷ t ∷ []) degree) ⌝ }
+// Blends the rows of a triangle in place, each with the next one, as far as they are within the limit.
+pub(crate) fn blend_rows(
+    xs: &mut [i64],
+    degree: usize,
+    width: usize,
+    weights: Weights,
+    limit: u64,
+) -> bool
+    requires { ⌜ Sized width 2 degree × (size width 2 degree ≤ length (now xs)) × Bounded (now xs) 0 (size width 2 degree) (weightSum weights) ⌝ }
+    ensures { λ b. ⌜ Leaves limit (width * offset (counts 1) degree) (rowsBlended width (now (xs .entry)) weights degree) b (now (xs .exit)) ⌝ }
 {
+    let a = weights.r;
+    let b = weights.s;
+    let c = weights.t;
     let mut from = 0;
-    let mut n = 0;
-    while n < degree {
-        let count = 4 * (n + 1);
-        if !blend_row(&mut *xs, from, count, count, count + 4, r, s, t, limit) {
+    let mut i = 0;
+    while i < degree {
+        let count = width * (i + 1);
+        if !blend_row(&mut *xs, from, count, count, count + width, a, b, c, limit) {
             return false;
         }
         from += count;
-        n += 1;
+        i += 1;
     }
     true
 }
 
-// One blend of a net, every polar value with one more copy of the point that the weights name, as far as
-// the values are within the limit. The answer is whether all of them are.
+// One de Casteljau step on a group: every polar value with one more copy of the point that the weights
+// name, as far as the values are within the limit. The answer is whether all of them are.
 pub(crate) fn blend(
     xs: &mut [i64],
-    kind: u8,
+    dimension: usize,
     degree: usize,
-    r: i64,
-    s: i64,
-    t: i64,
+    width: usize,
+    weights: Weights,
     limit: u64,
 ) -> bool
-    requires { ⌜ Sized kind degree × (1 ≤ degree) × (length (now xs) ≡ 180) × Bounded (now xs) 0 (used kind degree) (natAbs r + natAbs s + natAbs t) ⌝ }
-    ensures { λ b. ⌜ (b ≡ all (within limit) (take (used kind (pred degree)) (blended (further kind) (pred degree) (r ∷ s ∷ t ∷ []) (now (xs .entry))))) × (b ≡ true → now (xs .exit) ≡ blended (further kind) (pred degree) (r ∷ s ∷ t ∷ []) (now (xs .entry))) ⌝ }
+    requires { ⌜ Sized width dimension degree × (1 ≤ degree) × (size width dimension degree ≤ length (now xs)) × Bounded (now xs) 0 (size width dimension degree) (weightSum weights) ⌝ }
+    ensures { λ b. ⌜ Leaves limit (size width dimension (pred degree)) (blended width dimension (pred degree) (weightList weights) (now (xs .entry))) b (now (xs .exit)) ⌝ }
 {
-    if kind == 1 {
-        return blend_row(&mut *xs, 0, 4 * degree, 4, 4, r, s, 0, limit);
+    if dimension == 1 {
+        return blend_row(
+            &mut *xs,
+            0,
+            width * degree,
+            width,
+            width,
+            weights.r,
+            weights.s,
+            0,
+            limit,
+        );
     }
-    blend_rows(xs, degree, r, s, t, limit)
+    blend_rows(xs, degree, width, weights, limit)
 }

@@ -1,2 +1,3 @@
-pub mod Steps
+pub mod FirstNet
+pub mod Records
 pub mod Demand3

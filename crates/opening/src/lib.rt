@@ -1,27 +1,21 @@
 // A record opened: its first net, in places that the caller lends, or the refusal with its offset. This is
 // where demand 3 starts: specs/Demand3.antt states it from the bytes of an accepted record on.
 ghost use mathlib.Core.Path.{_≡_};
-ghost use Prim.Native.Nat.{_≤_};
-ghost use mathlib.Core.Bool.{true, cond};
-ghost use lib.Dec.{eqb};
-ghost use lib.IntN.{pos};
-ghost use lib.ListN.{length, replicate};
-ghost use Rattle.machine.specs.Kinds.{known};
-ghost use Rattle.bytes.specs.Numbers.{coefficientsOf};
-ghost use Rattle.machine.specs.First.{firstNet, firstRefusal};
+ghost use mathlib.Core.Bool.{true};
+ghost use Rattle.kinds.specs.Kinds.{known};
+ghost use Rattle.machine.specs.Lent.{wide};
 ghost use Rattle.records.specs.Reading.{endExtent};
 ghost use Rattle.opening.specs.Opening.{
-  polynomialsAt,
-  numbersAt,
   refusalAt,
-  unopened,
   openedIn,
-  entriesIn,
+  placesIn,
+  FirstMade,
 };
 use bytes::frame_numbers;
 use bytes::part_from;
 use bytes::read_coefficients;
-use frames::coefficient_count;
+use kinds::number_count;
+use nets::NET;
 use nets::first_net;
 use records::Extent;
 use records::Layout;
@@ -30,42 +24,31 @@ use records::Refusal;
 use records::read;
 use records::value;
 
-// How many places the entries of a net have.
-const PLACES: usize = 180;
+// How many coefficients there are at most.
+const COEFFICIENTS: usize = 180;
 
-// What a record gives besides its first net: the refusal, with number 0 where there is none; the kind and
-// the degree; and where the record's moves and its point stand.
+// What a record gives besides its first net: the refusal, with number 0 where there is none, and where the
+// record's moves and its point stand.
 pub struct Opened {
     pub refusal: Refusal,
-    pub kind: u8,
-    pub degree: u8,
     pub moves: Extent,
     pub point: Extent,
 }
 
-// Reads coefficients into places that are all 0; the reader is lent only those that it fills.
-fn read_into(part: &[u8], count: usize, out: &mut [i64])
-    requires { ⌜ (count ≤ 180) × (now out ≡ replicate 180 (pos 0)) ⌝ }
-    ensures { λ _. ⌜ now (out .exit) ≡ coefficientsOf (now (part .entry)) count ⌝ }
-{
-    read_coefficients(part, count, &mut out[0..count]);
-}
-
 // Makes the first net of a record with this layout, or tells the number of the refusal. The coefficient
 // reader gets the part of the record that begins with field 3's value.
-fn make_first(input: &[u8], layout: Layout, entries: &mut [i64]) -> u8
-    requires { ⌜ (length (now entries) ≡ 180) × (known (layout .kind) (layout .degree) ≡ true) ⌝ }
-    ensures number { λ k. ⌜ k ≡ firstRefusal (polynomialsAt layout (now (input .entry))) (numbersAt layout (now (input .entry))) ⌝ }
-    ensures entries { λ k. ⌜ now (entries .exit) ≡ cond (eqb k 0) (firstNet (polynomialsAt layout (now (input .entry))) (numbersAt layout (now (input .entry))) .entries) (now (entries .entry)) ⌝ }
+fn make_first(input: &[u8], layout: Layout, net: &mut [i64]) -> u8
+    requires { ⌜ (wide (now net) ≡ true) × (known (layout .kind) (layout .degree) 0 ≡ true) ⌝ }
+    ensures { λ k. ⌜ FirstMade layout (now (input .entry)) (now (net .entry)) k (now (net .exit)) ⌝ }
 {
     let kind = layout.kind;
     let degree = layout.degree;
     let frame = frame_numbers(value(input, layout.frame));
     let start = layout.coefficients.start;
-    let count = coefficient_count(kind, degree);
-    let mut coefficients = [0i64; PLACES];
-    read_into(part_from(input, start), count, &mut coefficients);
-    first_net(entries, kind, degree, frame, &coefficients)
+    let count = number_count(kind, degree, 0);
+    let mut coefficients = [0i64; COEFFICIENTS];
+    read_coefficients(part_from(input, start), &mut coefficients[0..count]);
+    first_net(net, kind, degree, 0, &frame, &coefficients)
 }
 
 // A refusal of the first net, at an offset; none has offset 0.
@@ -94,13 +77,11 @@ fn nothing(input: &[u8]) -> Extent
 
 // What stands beside a refusal.
 fn refuse(input: &[u8], refusal: Refusal) -> Opened
-    ensures { λ r. ⌜ r ≡ unopened (now (input .entry)) refusal ⌝ }
+    ensures { λ r. ⌜ r ≡ record { refusal = refusal; moves = endExtent (now (input .entry)); point = endExtent (now (input .entry)) } ⌝ }
 {
     let end = nothing(input);
     Opened {
         refusal,
-        kind: 0,
-        degree: 0,
         moves: end,
         point: end,
     }
@@ -108,11 +89,11 @@ fn refuse(input: &[u8], refusal: Refusal) -> Opened
 
 // Opens a record: any bytes at all give a first net or a refusal. A refusal leaves the lent places as they
 // were.
-pub fn open(input: &[u8], entries: &mut [i64]) -> Opened
-    ensures opened { λ r. ⌜ r ≡ openedIn (now (input .entry)) (now (entries .entry)) ⌝ }
-    ensures entries { λ _. ⌜ now (entries .exit) ≡ entriesIn (now (input .entry)) (now (entries .entry)) ⌝ }
+pub fn open(input: &[u8], net: &mut [i64]) -> Opened
+    ensures opened { λ r. ⌜ r ≡ openedIn (now (input .entry)) (now (net .entry)) ⌝ }
+    ensures places { λ _. ⌜ now (net .exit) ≡ placesIn (now (input .entry)) (now (net .entry)) ⌝ }
 {
-    if entries.len() != PLACES {
+    if net.len() < NET {
         return refuse(
             input,
             Refusal {
@@ -124,16 +105,15 @@ pub fn open(input: &[u8], entries: &mut [i64]) -> Opened
     match read(input) {
         Reading::Refused(refusal) => refuse(input, refusal),
         Reading::Accepted(layout) => {
-            let number = make_first(input, layout, entries);
+            let number = make_first(input, layout, net);
             let refusal = refusal_at(number, layout.coefficients.field);
-            let kind = layout.kind;
-            let degree = layout.degree;
+            if number != 0 {
+                return refuse(input, refusal);
+            }
             let moves = layout.moves;
             let point = layout.point;
             Opened {
                 refusal,
-                kind,
-                degree,
                 moves,
                 point,
             }

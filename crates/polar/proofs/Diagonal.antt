@@ -1,13 +1,13 @@
 -- m copies of one point: σ is the multinomial times the monomial's value at the point.
 -- The idea: multiplied by the factorials of the exponents, σ of m copies is m! times the monomial; each coordinate adds its exponent times that.
 -- At the point with all coordinates 1 this says that the factorials divide m!, so the document's quotient is exact.
-use Prim.Native.Nat.{ℕ, zero, suc, _+_, _*_, _-_, _/_, _<_, _≤_, zero-le, suc-le-suc}
+use Prim.Native.Nat.{ℕ, zero, suc, _+_, _*_, _-_, _<_, _≤_, zero-le, suc-le-suc}
 use native.Mathlib.Nat.{le-of-suc-le-suc, not-suc-le-zero, mul-pos, mul-zero, div-eq-of-eq-mul-right, mul-comm, add-suc, suc-add, zero-add, add-zero}
 use native.Mathlib.Omega.{arith}
 use mathlib.Core.Path.{_≡_, refl, sym, ap, ap₂, _∙_}
 use mathlib.Core.Logic.{⊎-elim}
-use mathlib.Core.List.{List, [], _∷_, _++_, map}
-use lib.IntN.{ℤ, pos, negsuc, negℤ, natAbs, _+ℤ_, _-ℤ_, _*ℤ_, *ℤ-zero, +ℤ-invr}
+use mathlib.Core.List.{List, [], _∷_}
+use lib.IntN.{ℤ, pos, natAbs, _+ℤ_, _-ℤ_, _*ℤ_, *ℤ-zero, +ℤ-invr}
 use lib.Dec.{lit≤}
 use lib.ListN.{getD, length, replicate, getD-replicate}
 use Rattle.integers.specs.Sum.{sum, upto}

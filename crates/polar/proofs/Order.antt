@@ -1,11 +1,14 @@
--- The members of the two orders: what a member's length and total are.
-use Prim.Native.Nat.{ℕ, zero, suc, _+_, _-_, _≤_, _<_}
+-- The members of the two orders: what a member's length and total are; and a test of lists one after the other.
+use Prim.Native.Nat.{ℕ, zero, suc, _-_, _≤_, _<_}
 use native.Mathlib.Omega.{arith}
 use mathlib.Core.Path.{_≡_, refl, sym, ap, _∙_, subst}
-use mathlib.Core.Logic.{_⊎_, inl, inr, ⊎-elim}
-use mathlib.Core.List.{List, [], _∷_, _++_, map, List·Memᴰ, List·Memᴰ·head, List·Memᴰ·tail, List·Memᴰ·not-nil, List·Memᴰ·append-cases, List·Memᴰ·eq-of-singleton, Memᴰ·of-map}
+use mathlib.Core.Bool.{Bool, _&&_}
+use mathlib.Core.Logic.{_⊎_, inl, inr}
+use mathlib.Core.List.{List, [], _∷_, map, List·Memᴰ, List·Memᴰ·head, List·Memᴰ·tail, List·Memᴰ·not-nil, List·Memᴰ·append-cases, List·Memᴰ·eq-of-singleton, Memᴰ·of-map}
 use lib.ListN.{length}
 use Rattle.integers.specs.Sum.{upto}
+use Rattle.integers.specs.Test.{all}
+use Rattle.integers.proofs.All.{all-append}
 use Rattle.integers.proofs.Sums.{upto-below}
 use Rattle.polar.specs.Order.{joined, total, monomials, counts}
 
@@ -44,3 +47,8 @@ counts-total (suc n) m e h =
     let b : k .0 < suc m = k .1 in
     let t : total (k .2 .0) ≡ k .0 = r .1 in
     subst (λ x. (length x ≡ suc (suc n)) × (total x ≡ m)) (k .2 .2) (ap suc (r .0), omega arith)
+
+-- a test of lists one after the other
+pub all-joined : {A B : Type 0} (test : B → Bool) (f : A → List B) (xs : List A) → all test (joined f xs) ≡ all (λ x. all test (f x)) xs
+all-joined test f [] = refl
+all-joined test f (x ∷ xs) = all-append test (f x) (joined f xs) ∙ ap (λ b. all test (f x) && b) (all-joined test f xs)

@@ -1,17 +1,17 @@
 -- The scale: every multinomial divides it, it is positive, and no smaller positive number has them all as divisors.
 -- The search meets the product of the numbers at the latest, so it ends at a common multiple, and it passes over none.
-use Prim.Native.Nat.{ℕ, zero, suc, _+_, _*_, _/_, _%_, _∣_, _≤_, _<_, zero-le, suc-le-suc}
-use native.Mathlib.Nat.{mul-pos, le-refl, le-trans, le-suc, add-zero, add-suc, suc-add, dvd-of-mod-eq-zero, mod-eq-zero-of-dvd, dvd-mul-right, dvd-mul-left-of-dvd, le-antisymm}
+use Prim.Native.Nat.{ℕ, zero, suc, _+_, _*_, _%_, _∣_, _≤_, _<_}
+use native.Mathlib.Nat.{mul-pos, le-refl, le-trans, le-suc, dvd-of-mod-eq-zero, mod-eq-zero-of-dvd, dvd-mul-right, dvd-mul-left-of-dvd}
 use native.Mathlib.Decide.{decLe}
 use native.Mathlib.Omega.{arith}
-use mathlib.Core.Path.{_≡_, refl, sym, ap, ap₂, _∙_, subst}
+use mathlib.Core.Path.{_≡_, refl, sym, ap, _∙_, subst}
 use mathlib.Core.Logic.{_⊎_, inl, inr}
-use mathlib.Core.Bool.{Bool, true, false, _&&_}
+use mathlib.Core.Bool.{Bool, true, false}
 use mathlib.Core.List.{List, [], _∷_, map, List·Memᴰ, List·Memᴰ·head, List·Memᴰ·tail, List·Memᴰ·not-nil, List·Memᴰ·cases-cons, Memᴰ·map, Memᴰ·of-map}
 use lib.Dec.{eqb, lit≤}
-use lib.ListN.{length}
 use borrow.Author.Tests.{eqb-true, eq-eqb}
-use Rattle.polar.specs.Order.{total, monomials}
+use Rattle.integers.proofs.All.{clash, and-true, and-parts}
+use Rattle.polar.specs.Order.{monomials}
 use Rattle.polar.specs.Scale.{multinomial, allDivide, first, product, leastCommonMultiple, scale}
 use Rattle.polar.proofs.Order.{monomials-total}
 use Rattle.polar.proofs.Diagonal.{multinomial-pos}
@@ -29,9 +29,6 @@ at-or-past {k} {j} h = by (decLe (suc k) j)
     by : Dec (suc k ≤ j) → (k ≡ j) ⊎ (suc k ≤ j)
     by (yes p) = inr p
     by (no p) = inl (omega arith)
-
-clash : {b : Bool} → b ≡ true → b ≡ false → ⊥
-clash p q = let z : _≡_ {A = ℕ} 0 1 = cc in omega arith
 
 -- if the test passes at one of the places looked at, it passes at the place found
 first-passes : (test : ℕ → Bool) (n k j : ℕ) → k ≤ j → j ≤ k + n → test j ≡ true → test (first test n k) ≡ true
@@ -72,17 +69,10 @@ first-from test (suc n) k =
 
 -- ---- common multiples
 
-and-true : (a b : Bool) → a ≡ true → b ≡ true → (a && b) ≡ true
-and-true a b p q = ap₂ _&&_ p q
-
-and-parts : (a b : Bool) → (a && b) ≡ true → (a ≡ true) × (b ≡ true)
-and-parts true b h = (refl, h)
-and-parts false b h = absurd (clash h refl)
-
 all-divide : (ns : List ℕ) (k : ℕ) → ((n : ℕ) → List·Memᴰ n ns → n ∣ k) → allDivide ns k ≡ true
 all-divide [] k h = refl
 all-divide (n ∷ ns) k h =
-    and-true (eqb (k % n) 0) (allDivide ns k) (eq-eqb (k % n) 0 (mod-eq-zero-of-dvd n (h n (List·Memᴰ·head refl))))
+    and-true (eq-eqb (k % n) 0 (mod-eq-zero-of-dvd n (h n (List·Memᴰ·head refl))))
     (all-divide ns k (λ i m. h i (List·Memᴰ·tail m)))
 
 divide-each : (ns : List ℕ) (k : ℕ) → allDivide ns k ≡ true → (n : ℕ) → List·Memᴰ n ns → n ∣ k

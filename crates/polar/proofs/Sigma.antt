@@ -8,7 +8,7 @@ use lib.ListN.{getD}
 use Rattle.integers.specs.Sum.{sum, upto}
 use Rattle.integers.proofs.Sums.{sum-cong, sum-upto-cong, sum-swap, sum-*l, sum-*r, sum-neg, sum-zero}
 use Rattle.integers.proofs.Ring.{ring, ring-rules}
-use Rattle.polar.specs.Sigma.{Point, Exponents, lowered, unit, σ}
+use Rattle.polar.specs.Sigma.{Point, Exponents, lowered, σ}
 
 pub lowered-zero : (c : ℕ) (e : Exponents) → lowered c (λ x. pos 0) e ≡ pos 0
 lowered-zero c [] = refl

@@ -1,40 +1,76 @@
--- m copies of q give the scale times the polynomial at q: term by term, the multinomial of σ cancels with the quotient of the scale by it.
-use Prim.Native.Nat.{ℕ, zero, suc, _*_, _-_, _/_}
-use native.Mathlib.Nat.{div-mul-cancel}
-use mathlib.Core.Path.{_≡_, refl, sym, ap, ap₂, _∙_}
-use mathlib.Core.List.{List, [], _∷_, List·Memᴰ, List·Memᴰ·head, List·Memᴰ·tail}
+-- As many copies of each group's q as its degree give the scale times the polynomial at the points: term by term, the multinomial of σ cancels with the quotient of the scale by it.
+use Prim.Native.Nat.{ℕ, _*_, _-_, _/_, _∣_}
+use native.Mathlib.Nat.{div-mul-cancel, mul-dvd-mul, dvd-refl}
+use mathlib.Core.Path.{_≡_, refl, sym, ap, ap₂, _∙_, subst}
+use mathlib.Core.List.{List, [], _∷_, map, List·Memᴰ, List·Memᴰ·head, List·Memᴰ·tail, Memᴰ·of-map}
 use lib.IntN.{ℤ, pos, _+ℤ_, _*ℤ_, *ℤ-zero}
 use lib.ListN.{getD, drop, replicate}
-use Rattle.integers.specs.Sum.{sum}
 use Rattle.integers.proofs.Laws.{*ℤ-distl}
 use Rattle.integers.proofs.Ring.{ring, ring-rules}
-use Rattle.polar.specs.Sigma.{Point, Exponents, σ}
+use Rattle.polar.specs.Sigma.{Point, Exponents}
 use Rattle.polar.specs.Order.{total, monomials}
-use Rattle.polar.specs.Scale.{multinomial, scale}
-use Rattle.polar.specs.Polar.{Term, polar, power, powers, value, terms}
-use Rattle.polar.proofs.Order.{monomials-total}
+use Rattle.polar.specs.Groups.{Group, head, tail, pairs, monomialsOver}
+use Rattle.polar.specs.Scale.{multinomial, multinomialOver, scaleOver}
+use Rattle.polar.specs.Polar.{σOver, polarOver, power, powers, powersOver, valueOver, terms}
+use Rattle.polar.proofs.Order.{of-joined, monomials-total}
 use Rattle.polar.proofs.Scale.{multinomial-divides}
 use Rattle.polar.proofs.Diagonal.{diagonal}
 
-module _ (n m : ℕ) (q : Point) where
-  one-term : (e : Exponents) → List·Memᴰ e (monomials n m) → (a : ℤ)
-      → a *ℤ pos (scale n m / multinomial m e) *ℤ σ (suc n) (replicate m q) e
-      ≡ pos (scale n m) *ℤ (a *ℤ (powers q 0 e *ℤ power (getD q n (pos 0)) (m - total e)))
-  one-term e h a =
-      let t = monomials-total n m e h in
-      ap (λ s. a *ℤ pos (scale n m / multinomial m e) *ℤ s) (diagonal n m e (t .0) (t .1) q)
-      ∙ ring (a ∷ pos (scale n m / multinomial m e) ∷ pos (multinomial m e) ∷ powers q 0 e ∷ power (getD q n (pos 0)) (m - total e) ∷ []) (search ring-rules depth 60 fits 9000) tt
-      ∙ ap (λ k. pos k *ℤ (a *ℤ (powers q 0 e *ℤ power (getD q n (pos 0)) (m - total e)))) (div-mul-cancel (multinomial m e) (multinomial-divides n m e h))
+-- a member of pairs is one of xs before one of yss
+pub of-pairs : {A : Type 0} (xs : List A) (yss : List (List A)) {zs : List A} → List·Memᴰ zs (pairs xs yss) → (x : A) × (ys : List A) × List·Memᴰ x xs × List·Memᴰ ys yss × (x ∷ ys ≡ zs)
+of-pairs xs yss m =
+    let j = of-joined (λ x. map (λ ys. x ∷ ys) yss) xs m in
+    let r = Memᴰ·of-map (λ ys. j .0 ∷ ys) yss (j .2) in
+    (j .0, r .0, j .1, r .1, r .2)
 
-  each-term : (c : ℕ) (es : List Exponents) (numbers : List ℤ) → ((e : Exponents) → List·Memᴰ e es → List·Memᴰ e (monomials n m))
-      → polar n m (terms c es numbers) (replicate m q) ≡ pos (scale n m) *ℤ value n m (terms c es numbers) q
-  unfolding polar value
-  each-term c [] numbers inside = sym (*ℤ-zero (pos (scale n m)))
+-- every multinomial divides the scale
+pub multinomial-divides-over : (gs : List Group) (es : List Exponents) → List·Memᴰ es (monomialsOver gs) → multinomialOver gs es ∣ scaleOver gs
+unfolding monomialsOver
+multinomial-divides-over [] es h = dvd-refl 1
+multinomial-divides-over (g ∷ gs) es h =
+    let r = of-pairs (monomials (g .dimension) (g .degree)) (monomialsOver gs) h in
+    subst (λ x. multinomialOver (g ∷ gs) x ∣ scaleOver (g ∷ gs)) (r .4)
+    (mul-dvd-mul (multinomial (g .degree) (r .0)) (multinomialOver gs (r .1))
+    (multinomial-divides (g .dimension) (g .degree) (r .0) (r .2)) (multinomial-divides-over gs (r .1) (r .3)))
+
+-- as many copies of each group's point as the group's degree says
+abbrev pub copies : List Group → List Point → List (List Point)
+copies [] qs = []
+copies (g ∷ gs) qs = replicate (g .degree) (head qs) ∷ copies gs (tail qs)
+
+-- σ of them is the multinomial times the monomial at the points
+diagonal-over : (gs : List Group) (qs : List Point) (es : List Exponents) → List·Memᴰ es (monomialsOver gs)
+    → σOver gs (copies gs qs) es ≡ pos (multinomialOver gs es) *ℤ powersOver gs qs es
+unfolding monomialsOver
+diagonal-over [] qs es h = refl
+diagonal-over (g ∷ gs) qs es h =
+    let r = of-pairs (monomials (g .dimension) (g .degree)) (monomialsOver gs) h in
+    let t = monomials-total (g .dimension) (g .degree) (r .0) (r .2) in
+    subst (λ x. σOver (g ∷ gs) (copies (g ∷ gs) qs) x ≡ pos (multinomialOver (g ∷ gs) x) *ℤ powersOver (g ∷ gs) qs x) (r .4)
+    (ap₂ _*ℤ_ (diagonal (g .dimension) (g .degree) (r .0) (t .0) (t .1) (head qs)) (diagonal-over gs (tail qs) (r .1) (r .3))
+    ∙ both (multinomial (g .degree) (r .0)) (multinomialOver gs (r .1)) (powers (head qs) 0 (r .0) *ℤ power (getD (head qs) (g .dimension) (pos 0)) (g .degree - total (r .0)))
+    (powersOver gs (tail qs) (r .1)))
+  where
+    both : (j k : ℕ) (a b : ℤ) → pos j *ℤ a *ℤ (pos k *ℤ b) ≡ pos (j * k) *ℤ (a *ℤ b)
+    both j k a b = ring (pos j ∷ pos k ∷ a ∷ b ∷ []) (search ring-rules depth 60) tt
+
+module _ (gs : List Group) (qs : List Point) where
+  one-term : (e : List Exponents) → List·Memᴰ e (monomialsOver gs) → (a : ℤ)
+      → a *ℤ pos (scaleOver gs / multinomialOver gs e) *ℤ σOver gs (copies gs qs) e ≡ pos (scaleOver gs) *ℤ (a *ℤ powersOver gs qs e)
+  one-term e h a =
+      ap (λ s. a *ℤ pos (scaleOver gs / multinomialOver gs e) *ℤ s) (diagonal-over gs qs e h)
+      ∙ ring (a ∷ pos (scaleOver gs / multinomialOver gs e) ∷ pos (multinomialOver gs e) ∷ powersOver gs qs e ∷ []) (search ring-rules depth 60 fits 9000) tt
+      ∙ ap (λ k. pos k *ℤ (a *ℤ powersOver gs qs e)) (div-mul-cancel (multinomialOver gs e) (multinomial-divides-over gs e h))
+
+  each-term : (c : ℕ) (es : List (List Exponents)) (numbers : List ℤ) → ((e : List Exponents) → List·Memᴰ e es → List·Memᴰ e (monomialsOver gs))
+      → polarOver gs (terms c es numbers) (copies gs qs) ≡ pos (scaleOver gs) *ℤ valueOver gs (terms c es numbers) qs
+  unfolding polarOver valueOver
+  each-term c [] numbers inside = sym (*ℤ-zero (pos (scaleOver gs)))
   each-term c (e ∷ es) numbers inside =
       ap₂ _+ℤ_ (one-term e (inside e (List·Memᴰ·head refl)) (getD numbers c (pos 0))) (each-term c es (drop 4 numbers) (λ x h. inside x (List·Memᴰ·tail h)))
-      ∙ sym (*ℤ-distl (pos (scale n m)) (getD numbers c (pos 0) *ℤ (powers q 0 e *ℤ power (getD q n (pos 0)) (m - total e))) (value n m (terms c es (drop 4 numbers)) q))
+      ∙ sym (*ℤ-distl (pos (scaleOver gs)) (getD numbers c (pos 0) *ℤ powersOver gs qs e) (valueOver gs (terms c es (drop 4 numbers)) qs))
 
-  -- the polar value of m copies of q is L × F(q)
+  -- the polar value of the copies is L × F(q)
   pub polar-diagonal : (c : ℕ) (numbers : List ℤ)
-      → polar n m (terms c (monomials n m) numbers) (replicate m q) ≡ pos (scale n m) *ℤ value n m (terms c (monomials n m) numbers) q
-  polar-diagonal c numbers = each-term c (monomials n m) numbers (λ e h. h)
+      → polarOver gs (terms c (monomialsOver gs) numbers) (copies gs qs) ≡ pos (scaleOver gs) *ℤ valueOver gs (terms c (monomialsOver gs) numbers) qs
+  polar-diagonal c numbers = each-term c (monomialsOver gs) numbers (λ e h. h)

@@ -1,4 +1,5 @@
 pub mod Sigma
 pub mod Order
+pub mod Groups
 pub mod Scale
 pub mod Polar

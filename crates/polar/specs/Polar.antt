@@ -1,22 +1,28 @@
--- Polynomials, their values and their scaled polar values (document 01, 'Polynomials and polar values').
--- A polynomial of degree m in n coordinates before Z and Z itself is the list of its terms, exponents and coefficient.
+-- Polynomials, their values and their scaled polar values (document 01, 'Polynomials and polar values'), for all kinds: over a list of groups.
+-- A polynomial is the list of its terms, the exponents of each group and the coefficient.
 use Prim.Native.Nat.{ℕ, zero, suc, _-_, _/_}
 use mathlib.Core.List.{List, [], _∷_}
 use lib.IntN.{ℤ, pos, _*ℤ_}
 use lib.ListN.{getD, drop}
-use Rattle.integers.specs.Sum.{sum, upto}
+use Rattle.integers.specs.Sum.{sum}
 use Rattle.polar.specs.Sigma.{Point, Exponents, σ}
-use Rattle.polar.specs.Order.{total, monomials}
-use Rattle.polar.specs.Scale.{multinomial, scale}
+use Rattle.polar.specs.Order.{total}
+use Rattle.polar.specs.Groups.{Group, head, tail}
+use Rattle.polar.specs.Scale.{multinomialOver, scaleOver}
 
 pub record Term : Type 0 where
-  pub exponents : Exponents
+  pub exponents : List Exponents
   pub coefficient : ℤ
 
--- the scaled polar value of a list of m parameter points: the sum of a × (L ÷ its multinomial) × its σ
-unfoldable pub polar : ℕ → ℕ → List Term → List Point → ℤ
-polar n m terms ps =
-    sum (λ t. t .coefficient *ℤ pos (scale n m / multinomial m (t .exponents)) *ℤ σ (suc n) ps (t .exponents)) terms
+-- σ over groups, of a list of points for each: the product
+abbrev pub σOver : List Group → List (List Point) → List Exponents → ℤ
+σOver [] pss es = pos 1
+σOver (g ∷ gs) pss es = σ (suc (g .dimension)) (head pss) (head es) *ℤ σOver gs (tail pss) (tail es)
+
+-- the scaled polar value of a list of points for each group: the sum of a × (L ÷ its multinomial) × its σ
+unfoldable pub polarOver : List Group → List Term → List (List Point) → ℤ
+polarOver gs terms pss =
+    sum (λ t. t .coefficient *ℤ pos (scaleOver gs / multinomialOver gs (t .exponents)) *ℤ σOver gs pss (t .exponents)) terms
 
 abbrev pub power : ℤ → ℕ → ℤ
 power x zero = pos 1
@@ -27,12 +33,17 @@ abbrev pub powers : Point → ℕ → Exponents → ℤ
 powers q c [] = pos 1
 powers q c (k ∷ e) = power (getD q c (pos 0)) k *ℤ powers q (suc c) e
 
--- F(q): the sum of a times the coordinates to their exponents, Z to what is left of the degree
-unfoldable pub value : ℕ → ℕ → List Term → Point → ℤ
-value n m terms q =
-    sum (λ t. t .coefficient *ℤ (powers q 0 (t .exponents) *ℤ power (getD q n (pos 0)) (m - total (t .exponents)))) terms
+-- a monomial at a point for each group: in each the coordinates to their exponents, Z to what is left of the degree
+abbrev pub powersOver : List Group → List Point → List Exponents → ℤ
+powersOver [] qs es = pos 1
+powersOver (g ∷ gs) qs es =
+    powers (head qs) 0 (head es) *ℤ power (getD (head qs) (g .dimension) (pos 0)) (g .degree - total (head es)) *ℤ powersOver gs (tail qs) (tail es)
+
+-- F(q), of a point for each group
+unfoldable pub valueOver : List Group → List Term → List Point → ℤ
+valueOver gs terms qs = sum (λ t. t .coefficient *ℤ powersOver gs qs (t .exponents)) terms
 
 -- the terms of component c: the coefficients of a record stand four to a monomial, x, y, z, w
-abbrev pub terms : ℕ → List Exponents → List ℤ → List Term
+abbrev pub terms : ℕ → List (List Exponents) → List ℤ → List Term
 terms c [] numbers = []
 terms c (e ∷ es) numbers = record { exponents = e; coefficient = getD numbers c (pos 0) } ∷ terms c es (drop 4 numbers)

@@ -3,7 +3,9 @@ use Prim.Native.Nat.{ℕ, zero, suc, _*_, _-_, _/_, _%_}
 use mathlib.Core.Bool.{Bool, true, false, _&&_}
 use mathlib.Core.List.{List, [], _∷_, map}
 use lib.Dec.{eqb}
+use Rattle.polar.specs.Sigma.{Exponents}
 use Rattle.polar.specs.Order.{total, monomials}
+use Rattle.polar.specs.Groups.{Group, head, tail}
 
 abbrev pub factorial : ℕ → ℕ
 factorial zero = 1
@@ -39,3 +41,12 @@ leastCommonMultiple ns = first (allDivide ns) (product ns) 1
 -- the scale L of degree m with n coordinates before Z
 unfoldable pub scale : ℕ → ℕ → ℕ
 scale n m = leastCommonMultiple (map (multinomial m) (monomials n m))
+
+-- over groups: the products
+abbrev pub multinomialOver : List Group → List Exponents → ℕ
+multinomialOver [] es = 1
+multinomialOver (g ∷ gs) es = multinomial (g .degree) (head es) * multinomialOver gs (tail es)
+
+abbrev pub scaleOver : List Group → ℕ
+scaleOver [] = 1
+scaleOver (g ∷ gs) = scale (g .dimension) (g .degree) * scaleOver gs

@@ -1,11 +1,11 @@
 -- Number and values of each answer: by the definition's three tests there are four cases, and in each they are what the tests say.
-use mathlib.Core.Path.{_≡_, refl, sym, ap, _∙_, subst}
+use mathlib.Core.Path.{_≡_, refl, sym, ap, subst}
 use mathlib.Core.Bool.{Bool, true, false, not, _&&_, cond}
 use mathlib.Core.List.{[], _∷_, map}
 use lib.IntN.{ℤ}
 use lib.Ieee.{binary64, toBits}
 use Rattle.projection.specs.declared.Projection.{Projection}
-use Rattle.projection.specs.Projection.{allInRange, isZero, allZero, quotientOf, coordsOf, directionOf, projectionBy, projectionOf, refusal, coordinates, coordinateBits, directionNumbers, quotients, Projected}
+use Rattle.projection.specs.Projection.{allInRange, isZero, allZero, quotientOf, coordsOf, directionOf, projectionBy, projectionOf, refusal, coordinates, coordinateBits, directionNumbers, Projected}
 
 module _ (x y z w : ℤ) where
   number : (a b c : Bool) → refusal (projectionBy a b c x y z w) ≡ cond a 0 10

@@ -12,7 +12,8 @@ use lib.Signed.{quotZ}
 use Rattle.projection.specs.Gcd.{gcd}
 use Rattle.projection.specs.Projection.{isZero, allZero, isNegative, firstNonzero, negatedIf, gcdOf, directionOf}
 use Rattle.projection.proofs.Gcd.{gcd-divides, gcd-positive, gcd-reduced}
-use Rattle.projection.proofs.Signed.{apart, natAbs-negated}
+use Rattle.integers.proofs.All.{clash}
+use Rattle.projection.proofs.Signed.{natAbs-negated}
 
 -- ---- the divisor
 
@@ -26,7 +27,7 @@ zeros x y z p q r =
 pub divisor-positive : (x y z : ℤ) → allZero x y z ≡ false → 0 < gcdOf x y z
 divisor-positive x y z h =
     gcd-positive (natAbs x ∷ natAbs y ∷ natAbs z ∷ [])
-    (λ e. apart (sym (zeros x y z (NatL.eq-zero-of-zero-dvd (e .0)) (NatL.eq-zero-of-zero-dvd (e .1 .0)) (NatL.eq-zero-of-zero-dvd (e .1 .1 .0))) ∙ h))
+    (λ e. clash (zeros x y z (NatL.eq-zero-of-zero-dvd (e .0)) (NatL.eq-zero-of-zero-dvd (e .1 .0)) (NatL.eq-zero-of-zero-dvd (e .1 .1 .0))) h)
 
 -- ---- products
 

@@ -1,43 +1,33 @@
--- Signed numbers as the code holds them. A signed local is its bits, and what the machine reads back from them, `readBack v`, is v, since v fits: so each
--- law follows from one on v, by cases on its sign.
+-- Signed numbers as the code holds them. A signed local is its bits, and what the machine reads back from them, `seen v`, is v, since v fits (integers/proofs/Signed.antt):
+-- so each law follows from one on v, by cases on its sign.
 use mathlib.Core.Path.{_≡_, refl, sym, ap, _∙_, subst}
 use mathlib.Core.Bool.{Bool, true, false, _&&_}
-use Prim.Native.Nat.{ℕ, zero, suc, _-_, _/_, _^_, _≤_, _<_}
+use Prim.Native.Nat.{ℕ, suc, _-_, _/_, _^_, _≤_, _<_}
 use native.Mathlib.Nat.{div-le-self, le-trans}
 use native.Mathlib.Omega.{arith}
-use borrow.Author.Tests.{ltb-true, ltb-false, leb-true, le-leb, lt-leb, eq-eqb, ne-eqb, le-ltb}
+use borrow.Author.Tests.{leb-true, eq-eqb, ne-eqb, le-ltb}
 use lib.Dec.{T, eqb}
 use lib.IntN.{ℤ, pos, negsuc, negℤ, natAbs, _-ℤ_}
-use lib.Signed.{ltZ, leZ, quotZ}
+use lib.Signed.{ltZ, quotZ}
 use lib.Ieee.{binary64, inFloat}
 use mir.Syntax.{w64}
-use mir.Val.{SFits, ofZ, toZ}
-use mir.ValLaws.{toZ-ofZ}
+use mir.Val.{SFits, ofZ}
+use Rattle.integers.proofs.All.{and-parts}
+use Rattle.integers.proofs.Laws.{natAbs-neg}
+use Rattle.integers.proofs.Signed.{seen, back-fits, fits-abs}
 use Rattle.projection.specs.Projection.{limit, inRange, allInRange, isZero, isNegative, negatedIf}
 
--- the two truth values differ
-pub apart : true ≡ false → ⊥
-apart e = let z : _≡_ {A = ℕ} 0 1 = cc in omega arith
-
--- what the machine reads back from v's bits
-abbrev pub readBack : ℤ → ℤ
-readBack v = toZ w64 (ofZ w64 v)
-
-pub read-back : (v : ℤ) → SFits w64 v → readBack v ≡ v
-read-back v f = toZ-ofZ w64 v f
-
 -- what is found of numbers that were read back is found of the numbers
-pub at-three : {A : Type 0} (f : ℤ → ℤ → ℤ → A) (x y z : ℤ) → SFits w64 x → SFits w64 y → SFits w64 z → f (readBack x) (readBack y) (readBack z) ≡ f x y z
-at-three f x y z p q r = λ i. f (read-back x p i) (read-back y q i) (read-back z r i)
+pub at-three : {A : Type 0} (f : ℤ → ℤ → ℤ → A) (x y z : ℤ) → SFits w64 x → SFits w64 y → SFits w64 z → f (seen x) (seen y) (seen z) ≡ f x y z
+at-three f x y z p q r = λ i. f (back-fits p i) (back-fits q i) (back-fits r i)
 
 pub at-four : {A : Type 0} (f : ℤ → ℤ → ℤ → ℤ → A) (x y z w : ℤ) → SFits w64 x → SFits w64 y → SFits w64 z → SFits w64 w
-    → f (readBack x) (readBack y) (readBack z) (readBack w) ≡ f x y z w
-at-four f x y z w p q r s = λ i. f (read-back x p i) (read-back y q i) (read-back z r i) (read-back w s i)
+    → f (seen x) (seen y) (seen z) (seen w) ≡ f x y z w
+at-four f x y z w p q r s = λ i. f (back-fits p i) (back-fits q i) (back-fits r i) (back-fits s i)
 
 -- a component in range fits
 pub in-range-fits : (v : ℤ) → natAbs v ≤ limit → SFits w64 v
-in-range-fits (pos n) h = record { sfits = omega arith }
-in-range-fits (negsuc n) h = record { sfits = omega arith }
+in-range-fits v h = fits-abs v (omega arith)
 
 -- ---- zero and sign
 
@@ -57,39 +47,18 @@ below-zero : (v : ℤ) → ltZ v (pos 0) ≡ isNegative v
 below-zero (pos n) = le-ltb n 0 (omega arith)
 below-zero (negsuc n) = refl
 
-pub is-negative : (v : ℤ) → SFits w64 v → ltZ (readBack v) (pos 0) ≡ isNegative v
-is-negative v f = ap (λ (u : ℤ). ltZ u (pos 0)) (read-back v f) ∙ below-zero v
+pub is-negative : (v : ℤ) → SFits w64 v → ltZ (seen v) (pos 0) ≡ isNegative v
+is-negative v f = ap (λ (u : ℤ). ltZ u (pos 0)) (back-fits f) ∙ below-zero v
 
--- ---- range: below -limit, or not below it and then up to the limit
-
-below-range : (v : ℤ) → ltZ v (negℤ (pos limit)) ≡ true → false ≡ inRange v
-below-range (pos n) e = absurd (apart (sym e))
-below-range (negsuc n) e = let far = ltb-true (limit - 1) n e in sym (lt-leb (suc n) limit (omega arith))
-
-not-below-range : (v : ℤ) → ltZ v (negℤ (pos limit)) ≡ false → leZ v (pos limit) ≡ inRange v
-not-below-range (pos n) e = refl
-not-below-range (negsuc n) e = let near = ltb-false (limit - 1) n e in sym (le-leb (suc n) limit (omega arith))
-
-pub too-low : (v : ℤ) → SFits w64 v → ltZ (readBack v) (negℤ (pos limit)) ≡ true → false ≡ inRange v
-too-low v f e = below-range v (ap (λ (u : ℤ). ltZ u (negℤ (pos limit))) (sym (read-back v f)) ∙ e)
-
-pub not-too-low : (v : ℤ) → SFits w64 v → ltZ (readBack v) (negℤ (pos limit)) ≡ false → leZ (readBack v) (pos limit) ≡ inRange v
-not-too-low v f e =
-    ap (λ (u : ℤ). leZ u (pos limit)) (read-back v f)
-    ∙ not-below-range v (ap (λ (u : ℤ). ltZ u (negℤ (pos limit))) (sym (read-back v f)) ∙ e)
+-- ---- range
 
 -- all four are in range
-all-true : (a b c d : Bool) → a && b && c && d ≡ true → (a ≡ true) × (b ≡ true) × (c ≡ true) × (d ≡ true)
-all-true true true true true e = (refl, refl, refl, refl)
-all-true true true true false e = absurd (apart (sym e))
-all-true true true false d e = absurd (apart (sym e))
-all-true true false c d e = absurd (apart (sym e))
-all-true false b c d e = absurd (apart (sym e))
-
 pub within : (x y z w : ℤ) → allInRange x y z w ≡ true → (natAbs x ≤ limit) × (natAbs y ≤ limit) × (natAbs z ≤ limit) × (natAbs w ≤ limit)
 within x y z w e =
-    let each = all-true (inRange x) (inRange y) (inRange z) (inRange w) e in
-    (leb-true (natAbs x) limit (each .0), leb-true (natAbs y) limit (each .1), leb-true (natAbs z) limit (each .2), leb-true (natAbs w) limit (each .3))
+    let last = and-parts (inRange x && inRange y && inRange z) (inRange w) e in
+    let third = and-parts (inRange x && inRange y) (inRange z) (last .0) in
+    let first = and-parts (inRange x) (inRange y) (third .0) in
+    (leb-true (natAbs x) limit (first .0), leb-true (natAbs y) limit (first .1), leb-true (natAbs z) limit (third .1), leb-true (natAbs w) limit (last .1))
 
 -- ---- conversion to f64
 
@@ -98,34 +67,29 @@ unfolding inFloat
 floats (pos n) h = lib.Dec.le→leb n (2 ^ 53) (omega arith)
 floats (negsuc n) h = lib.Dec.lt→ltb n (2 ^ 53) (omega arith)
 
-pub converts : (v : ℤ) → natAbs v ≤ limit → T (inFloat binary64 (readBack v))
-converts v h = subst (λ (u : ℤ). T (inFloat binary64 u)) (sym (read-back v (in-range-fits v h))) (floats v h)
+pub converts : (v : ℤ) → natAbs v ≤ limit → T (inFloat binary64 (seen v))
+converts v h = subst (λ (u : ℤ). T (inFloat binary64 u)) (sym (back-fits (in-range-fits v h))) (floats v h)
 
 -- ---- negation
-
-natAbs-neg : (v : ℤ) → natAbs (negℤ v) ≡ natAbs v
-natAbs-neg (pos zero) = refl
-natAbs-neg (pos (suc n)) = refl
-natAbs-neg (negsuc n) = refl
 
 pub natAbs-negated : (b : Bool) (v : ℤ) → natAbs (negatedIf b v) ≡ natAbs v
 natAbs-negated true v = natAbs-neg v
 natAbs-negated false v = refl
 
-minus : (v : ℤ) → pos 0 -ℤ readBack v ≡ negℤ (readBack v)
-minus v = lib.IntN.+ℤ-idl (negℤ (readBack v))
+minus : (v : ℤ) → pos 0 -ℤ seen v ≡ negℤ (seen v)
+minus v = lib.IntN.+ℤ-idl (negℤ (seen v))
 
-negation : (v : ℤ) → natAbs v ≤ limit → pos 0 -ℤ readBack v ≡ negℤ v
-negation v h = minus v ∙ ap negℤ (read-back v (in-range-fits v h))
+negation : (v : ℤ) → natAbs v ≤ limit → pos 0 -ℤ seen v ≡ negℤ v
+negation v h = minus v ∙ ap negℤ (back-fits (in-range-fits v h))
 
 negation-in-range : (v : ℤ) → natAbs v ≤ limit → natAbs (negℤ v) ≤ limit
 negation-in-range v h = subst (λ (n : ℕ). n ≤ limit) (sym (natAbs-neg v)) h
 
-pub negation-fits : (v : ℤ) → natAbs v ≤ limit → SFits w64 (pos 0 -ℤ readBack v)
+pub negation-fits : (v : ℤ) → natAbs v ≤ limit → SFits w64 (pos 0 -ℤ seen v)
 negation-fits v h = subst (λ (u : ℤ). SFits w64 u) (sym (negation v h)) (in-range-fits (negℤ v) (negation-in-range v h))
 
-pub negation-is : (v : ℤ) → natAbs v ≤ limit → readBack (pos 0 -ℤ readBack v) ≡ negℤ v
-negation-is v h = read-back (pos 0 -ℤ readBack v) (negation-fits v h) ∙ negation v h
+pub negation-is : (v : ℤ) → natAbs v ≤ limit → seen (pos 0 -ℤ seen v) ≡ negℤ v
+negation-is v h = back-fits (negation-fits v h) ∙ negation v h
 
 -- ---- division
 
@@ -139,42 +103,42 @@ module _ (v d : ℤ) (h : natAbs v ≤ limit) (f : SFits w64 d) where
   quot-in-range : natAbs (quotZ v d) ≤ limit
   quot-in-range = le-trans (quot-small v d) h
 
-  quot-back : quotZ (readBack v) (readBack d) ≡ quotZ v d
-  quot-back = ap (λ (u : ℤ). quotZ u (readBack d)) (read-back v (in-range-fits v h)) ∙ ap (λ (u : ℤ). quotZ v u) (read-back d f)
+  quot-back : quotZ (seen v) (seen d) ≡ quotZ v d
+  quot-back = ap (λ (u : ℤ). quotZ u (seen d)) (back-fits (in-range-fits v h)) ∙ ap (λ (u : ℤ). quotZ v u) (back-fits f)
 
-  pub quot-fits : SFits w64 (quotZ (readBack v) (readBack d))
+  pub quot-fits : SFits w64 (quotZ (seen v) (seen d))
   quot-fits = subst (λ (u : ℤ). SFits w64 u) (sym quot-back) (in-range-fits (quotZ v d) quot-in-range)
 
-  pub quot-is : readBack (quotZ (readBack v) (readBack d)) ≡ quotZ v d
-  quot-is = read-back (quotZ (readBack v) (readBack d)) quot-fits ∙ quot-back
+  pub quot-is : seen (quotZ (seen v) (seen d)) ≡ quotZ v d
+  quot-is = back-fits quot-fits ∙ quot-back
 
-  pub quot-is-in-range : natAbs (readBack (quotZ (readBack v) (readBack d))) ≤ limit
+  pub quot-is-in-range : natAbs (seen (quotZ (seen v) (seen d))) ≤ limit
   quot-is-in-range = subst (λ (u : ℤ). natAbs u ≤ limit) (sym quot-is) quot-in-range
 
 -- a quotient, negated or not, as a result
-negated-quot-back : (b : Bool) (v d : ℤ) → natAbs v ≤ limit → readBack (negatedIf b (quotZ v d)) ≡ negatedIf b (quotZ v d)
+negated-quot-back : (b : Bool) (v d : ℤ) → natAbs v ≤ limit → seen (negatedIf b (quotZ v d)) ≡ negatedIf b (quotZ v d)
 negated-quot-back b v d h =
-    read-back (negatedIf b (quotZ v d))
+    back-fits
     (in-range-fits (negatedIf b (quotZ v d)) (subst (λ (n : ℕ). n ≤ limit) (sym (natAbs-negated b (quotZ v d))) (le-trans (quot-small v d) h)))
 
 pub reduced-is : (b : Bool) (v d r : ℤ) → natAbs v ≤ limit → SFits w64 d
-    → r ≡ negatedIf b (readBack (quotZ (readBack v) (readBack d))) → readBack r ≡ negatedIf b (quotZ v d)
-reduced-is b v d r h f e = ap readBack (e ∙ ap (λ (u : ℤ). negatedIf b u) (quot-is v d h f)) ∙ negated-quot-back b v d h
+    → r ≡ negatedIf b (seen (quotZ (seen v) (seen d))) → seen r ≡ negatedIf b (quotZ v d)
+reduced-is b v d r h f e = ap seen (e ∙ ap (λ (u : ℤ). negatedIf b u) (quot-is v d h f)) ∙ negated-quot-back b v d h
 
 -- a component of a direction, from the divisor's and the sign's values
 module _ (v d : ℤ) (g : ℕ) (h : natAbs v ≤ limit) (k : g ≤ limit) (e : d ≡ pos g) where
-  divisor-back : readBack d ≡ pos g
-  divisor-back = ap readBack e ∙ read-back (pos g) (in-range-fits (pos g) k)
+  divisor-back : seen d ≡ pos g
+  divisor-back = ap seen e ∙ back-fits (in-range-fits (pos g) k)
 
-  pub component-asks : 0 < g → (natAbs (readBack v) ≤ limit) × (0 < natAbs (readBack d))
+  pub component-asks : 0 < g → (natAbs (seen v) ≤ limit) × (0 < natAbs (seen d))
   component-asks p = (
-    subst (λ (u : ℤ). natAbs u ≤ limit) (sym (read-back v (in-range-fits v h))) h,
+    subst (λ (u : ℤ). natAbs u ≤ limit) (sym (back-fits (in-range-fits v h))) h,
     subst (λ (u : ℤ). 0 < natAbs u) (sym divisor-back) p,
   )
 
-  pub component-is : (b b′ : Bool) (r : ℤ) → b ≡ b′ → r ≡ negatedIf b (quotZ (readBack v) (readBack d)) → readBack r ≡ negatedIf b′ (quotZ v (pos g))
+  pub component-is : (b b′ : Bool) (r : ℤ) → b ≡ b′ → r ≡ negatedIf b (quotZ (seen v) (seen d)) → seen r ≡ negatedIf b′ (quotZ v (pos g))
   component-is b b′ r p q =
-      ap readBack (q ∙ (λ i. negatedIf (p i) (quotZ (read-back v (in-range-fits v h) i) (divisor-back i))))
+      ap seen (q ∙ (λ i. negatedIf (p i) (quotZ (back-fits (in-range-fits v h) i) (divisor-back i))))
       ∙ negated-quot-back b′ v (pos g) h
 
 -- a divisor that is not 0 has bits that are not 0

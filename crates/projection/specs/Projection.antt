@@ -3,10 +3,11 @@ use Prim.Native.Nat.{ℕ}
 use mathlib.Core.Path.{_≡_}
 use mathlib.Core.Bool.{Bool, true, false, not, _&&_, cond}
 use mathlib.Core.List.{List, [], _∷_, map}
-use lib.Dec.{leb, eqb}
+use lib.Dec.{eqb}
 use lib.IntN.{ℤ, pos, negsuc, negℤ, natAbs}
 use lib.Signed.{quotZ}
 use lib.Ieee.{Float, fin, binary64, ofInt, div, toBits}
+use Rattle.integers.specs.Test.{within}
 use Rattle.projection.specs.Gcd.{gcd}
 use Rattle.projection.specs.declared.Coords.{Coords}
 use Rattle.projection.specs.declared.PrimitiveVector.{PrimitiveVector}
@@ -21,7 +22,7 @@ limit = 281474976710656
 
 -- a component is "in range"
 abbrev pub inRange : ℤ → Bool
-inRange v = leb (natAbs v) limit
+inRange v = within limit v
 
 -- each of the four is
 abbrev pub allInRange : ℤ → ℤ → ℤ → ℤ → Bool

@@ -26,10 +26,11 @@ ghost use Rattle.projection.specs.Projection.{
   projectionOf,
   Projected,
 };
+use integers::is_within;
 use integers::magnitude;
 
 // The largest absolute value of a component in range, 2 to the 48th.
-const LIMIT: i64 = 281474976710656;
+const LIMIT: u64 = 281474976710656;
 
 // What stands for every NaN: an exponent of ones, then a fraction that begins with its only one.
 const NAN_BITS: u64 = 0x7ff8000000000000;
@@ -67,10 +68,7 @@ pub enum Projection {
 pub fn in_range(v: i64) -> bool
     ensures { λ r. ⌜ r ≡ inRange v ⌝ }
 {
-    if v < -LIMIT {
-        return false;
-    }
-    v <= LIMIT
+    is_within(v, LIMIT)
 }
 
 // All four are.

@@ -1,253 +1,218 @@
--- What holds of an accepted record. The steps of the reader are followed back from the end: each tag was taken or passed over, a required one was taken, and what
--- the tests of a taken field said is kept by the steps after it.
+-- What holds of an accepted record. The steps of the reader are followed back from the end: none was refused, so that what stands in each slot passed its tests.
 use mathlib.Core.Path.{_≡_, refl, sym, _∙_, ap, subst}
 use mathlib.Core.Bool.{Bool, true, false, cond}
-use mathlib.Core.List.{List, [], _∷_, foldl}
-use mathlib.Core.Logic.{inl, inr}
-use Prim.Native.Nat.{ℕ, _+_, _≤_, _<_}
+use mathlib.Core.List.{List, [], _∷_}
+use mathlib.Core.Logic.{_⊎_, inl, inr}
+use Prim.Native.Nat.{ℕ, _+_, _*_, _≤_, _<_}
 use native.Mathlib.Omega.{arith}
-use borrow.Author.Tests.{eqb-true, eqb-false}
+use borrow.Author.Tests.{eqb-true}
 use lib.ListN.{length, getD, take, drop}
 use lib.Seq.{getD-take, getD-drop}
-use lib.Dec.{eqb}
-use Rattle.machine.specs.Kinds.{known}
-use Rattle.machine.specs.First.{frameIn, coefficientsIn}
-use Rattle.bytes.specs.Numbers.{frameNumbers}
-use Rattle.records.specs.Table.{tags, required, vertices, frameLength, coefficientsLength, pointLength, movesLengthAllowed, lengthAllowed, valuesAllowed}
-use Rattle.records.specs.Reading.{left, lengthAt, valueAt, standsAt, fieldRefusal, blank, extentAt, extentOf, sameTag, withField, bytesOf, noField, taken, finished, readingOf}
+use lib.Dec.{eqb, ltb}
+use Rattle.integers.specs.Test.{within, all}
+use Rattle.integers.proofs.All.{clash, and-parts}
+use Rattle.kinds.specs.Kinds.{known}
+use Rattle.kinds.specs.Frames.{framesAllowed}
+use Rattle.machine.proofs.Refusals.{none-failed}
+use Rattle.bytes.specs.Numbers.{frameNumbers, coefficientsOf}
+use Rattle.bytes.proofs.Numbers.{coefficients-of-value}
+use Rattle.records.specs.Table.{slots, tagOf, tagsIn, required, headGroups, frameLength, coefficientCount, coefficientsLength, pointLength, movesLengthAllowed, polynomialsOf, fieldRow}
+use Rattle.machine.specs.Refusals.{_else_, firstFailed, numbered}
+use Rattle.records.specs.Reading.{left, bytesAt, headOf, tagAmong, isTag, standing, missingNumber, endExtent, extentAt, extentIn, extentAmong, extentBy, fieldExtent, bytesOf, stay, readStanding, readSlot, readEnd, layoutWith, concluded, readingOf}
 use Rattle.records.specs.Causes.{Sound}
-use Rattle.records.specs.declared.Tag.{Tag}
-use Rattle.records.specs.declared.Tag.the-variants.{Kind, Frame, Coefficients, Moves, Point}
 use Rattle.records.specs.declared.Extent.{Extent}
 use Rattle.records.specs.declared.Layout.{Layout}
+use Rattle.records.specs.declared.Slot.{Slot}
+use Rattle.records.specs.declared.Slot.the-variants.{First, Second, Third, Fourth, Fifth}
+use Rattle.records.specs.declared.Tag.{Tag}
+use Rattle.records.specs.declared.Tag.the-variants.{Kind, Coefficients}
+use Rattle.records.specs.declared.Standing.the-variants.{Field, Nothing}
 use Rattle.records.specs.declared.Progress.{Progress}
-use Rattle.records.specs.declared.Progress.the-variants.{At, Stopped}
+use Rattle.records.specs.declared.Reading.{Reading}
 use Rattle.records.specs.declared.Reading.the-variants.{Accepted, Refused}
-use Rattle.records.proofs.Fields.{stands-there, same-polynomials, not-refused, moved-on, stopped, takes, misses, skips}
+use Rattle.records.proofs.Slots.{long-enough, stands-there, field-passes, missing-refused, Stepped, stepped, all-steps}
+use Rattle.records.proofs.Slots.Stepped.{took, fell, lacked, skipped}
 
--- ---- one step, back from where it leads
+-- ---- one slot
 
--- the field with the tag was taken at the offset
-record Took (s : List ℕ) (tag : Tag) (at : ℕ) (l : Layout) : Type 0 where
-  stands : standsAt tag s at ≡ true
-  passes : fieldRefusal tag l s at ≡ 0
+-- the extent is that of a field, which passed its tests
+record Filled (tag : Tag) (s : List ℕ) (e : Extent) : Type 0 where
+  starts : e .start ≡ e .field + 3
+  long : fieldRow tag .lengthAllowed (headOf s) (e .length) ≡ true
+  room : e .start + e .length ≤ length s
+  good : firstFailed (fieldRow tag .tests (headOf s) (bytesOf e s)) ≡ 0
 
-data Step (s : List ℕ) (p : Progress) (tag : Tag) (at′ : ℕ) (l′ : Layout) : Type 0 where
-  took : (at : ℕ) (l : Layout) → p ≡ At at l → Took s tag at l → withField tag l s at ≡ l′ → Step s p tag at′ l′
-  skipped : p ≡ At at′ l′ → required tag ≡ false → Step s p tag at′ l′
+-- what a slot has after a step that was not refused, from an offset on
+data Went (slot : Slot) (s : List ℕ) (at : ℕ) (e : Extent) : Type 0 where
+  filled : {tag : Tag} → standing slot s at ≡ Field tag → e .field ≡ at → Filled tag s e → Went slot s at e
+  empty : required slot ≡ false → e ≡ endExtent s → Went slot s at e
 
-step-back : (s : List ℕ) (p : Progress) (tag : Tag) (at′ : ℕ) (l′ : Layout) → taken s p tag ≡ At at′ l′ → Step s p tag at′ l′
-unfolding taken
-step-back s (Stopped r) tag at′ l′ e = let z : _≡_ {A = ℕ} 0 1 = cc in absurd (omega arith)
-step-back s (At at l) tag at′ l′ e = by-stand (standsAt tag s at) refl
+went : {slot : Slot} {s : List ℕ} {at : ℕ} {x : Progress} → Stepped slot s at x → x .number ≡ 0 → Went slot s at (x .extent)
+unfolding extentAt bytesAt
+went {slot} {s} {at} (took {tag = tag} h k is) z =
+    let tests = field-passes tag (headOf s) s at k in
+    let there = stands-there slot s at h in
+    subst (λ (y : Progress). Went slot s at (y .extent)) (sym is)
+    (filled h refl (record { starts = refl; long = tests .long; room = omega arith; good = tests .good }))
+went (fell h k is) z = absurd (k (sym (ap (λ (y : Progress). y .number) is) ∙ z))
+went {s = s} {at = at} (lacked h q is) z = absurd (missing-refused s at (sym (ap (λ (y : Progress). y .number) is) ∙ z))
+went (skipped h q is) z = empty q (ap (λ (y : Progress). y .extent) is)
+
+inside : {slot : Slot} {s : List ℕ} {at : ℕ} {e : Extent} → Went slot s at e → e .start + e .length ≤ length s
+inside (filled h f t) = t .room
+inside {s = s} (empty r h) = subst (λ (e : Extent). e .start + e .length ≤ length s) (sym h) (omega arith)
+
+-- a field that stands in a slot is the slot's own, as yet the only one
+only : {tag t : Tag} (byte : ℕ) → tagAmong (t ∷ []) byte ≡ Field tag → tag ≡ t
+only {tag} {t} byte e = by (eqb byte (fieldRow t .byte)) e
   where
-    by-refusal : (t : Bool) → eqb (fieldRefusal tag l s at) 0 ≡ t → standsAt tag s at ≡ true → Step s (At at l) tag at′ l′
-    by-refusal true k h =
-        let none = eqb-true (fieldRefusal tag l s at) 0 k in
-        let there : At (at + 3 + lengthAt s at) (withField tag l s at) ≡ At at′ l′ = sym (takes s tag refl h ∙ moved-on tag l s at none) ∙ e in
-        took at l refl (record { stands = h; passes = none }) (cc)
-    by-refusal false k h =
-        let halt : Stopped (record { number = fieldRefusal tag l s at; offset = at }) ≡ At at′ l′ = sym (takes s tag refl h ∙ stopped tag l s at (eqb-false (fieldRefusal tag l s at) 0 k)) ∙ e in
-        let z : _≡_ {A = ℕ} 0 1 = cc in
-        absurd (omega arith)
+    by : (b : Bool) → cond b (Field t) Nothing ≡ Field tag → tag ≡ t
+    by true k = cc
+    by false k = absurd (clash (ap isTag k) refl)
 
-    by-need : (t : Bool) → required tag ≡ t → standsAt tag s at ≡ false → Step s (At at l) tag at′ l′
-    by-need true q h =
-        let halt = sym (misses s tag refl h q) ∙ e in
-        let z : _≡_ {A = ℕ} 0 1 = cc in
-        absurd (omega arith)
-    by-need false q h = skipped (sym (skips s tag refl h q) ∙ e) q
+own : (slot : Slot) (s : List ℕ) (at : ℕ) {tag : Tag} {e : Extent} → standing slot s at ≡ Field tag → Filled tag s e → Filled (tagOf slot) s e
+own slot s at {e = e} h t = subst (λ (u : Tag). Filled u s e) (only (getD s at 0) (sym (long-enough slot s at (stands-there slot s at h)) ∙ h)) t
 
-    by-stand : (t : Bool) → standsAt tag s at ≡ t → Step s (At at l) tag at′ l′
-    by-stand true h = by-refusal (eqb (fieldRefusal tag l s at) 0) refl h
-    by-stand false h = by-need (required tag) refl h
+must : {slot : Slot} {s : List ℕ} {at : ℕ} {e : Extent} → required slot ≡ true → Went slot s at e → (e .field ≡ at) × Filled (tagOf slot) s e
+must {slot} {s} {at} q (filled h f t) = (f, own slot s at h t)
+must q (empty r h) = absurd (clash q r)
 
--- ---- every value lies within the record
-
-abbrev Inside : List ℕ → Layout → Type 0
-Inside s l = (tag : Tag) → extentOf tag l .start + extentOf tag l .length ≤ length s
-
-either : (t : Bool) (e f : Extent) (n : ℕ) → e .start + e .length ≤ n → f .start + f .length ≤ n → cond t e f .start + cond t e f .length ≤ n
-either true e f n h k = h
-either false e f n h k = k
-
-inside-with : {s : List ℕ} {tag : Tag} {at : ℕ} {l : Layout} → Took s tag at l → Inside s l → Inside s (withField tag l s at)
-unfolding withField extentAt
-inside-with {s} {tag} {at} {l} h inside t = by-tag t
+-- a step that was not refused: nor was the one before
+not-stopped : (before next : Progress) → cond (eqb (before .number) 0) next before .number ≡ 0 → before .number ≡ 0
+not-stopped before next z = by (eqb (before .number) 0) refl z
   where
-    new : extentAt s at .start + extentAt s at .length ≤ length s
-    new =
-        let there = stands-there tag s at (h .stands) in
-        let room = not-refused tag l s at (h .passes) in
-        omega arith
+    by : (b : Bool) → eqb (before .number) 0 ≡ b → cond b next before .number ≡ 0 → before .number ≡ 0
+    by true k z = eqb-true (before .number) 0 k
+    by false k z = z
 
-    by-tag : (t : Tag) → extentOf t (withField tag l s at) .start + extentOf t (withField tag l s at) .length ≤ length s
-    by-tag Kind = either (sameTag tag Kind) (extentAt s at) (l .head) (length s) new (inside Kind)
-    by-tag Frame = either (sameTag tag Frame) (extentAt s at) (l .frame) (length s) new (inside Frame)
-    by-tag Coefficients = either (sameTag tag Coefficients) (extentAt s at) (l .coefficients) (length s) new (inside Coefficients)
-    by-tag Moves = either (sameTag tag Moves) (extentAt s at) (l .moves) (length s) new (inside Moves)
-    by-tag Point = either (sameTag tag Point) (extentAt s at) (l .point) (length s) new (inside Point)
+back : (slot : Slot) (s : List ℕ) (before : Progress) → readSlot slot (headOf s) s before .number ≡ 0
+    → (before .number ≡ 0) × Went slot s (before .at) (readSlot slot (headOf s) s before .extent)
+unfolding readSlot
+back slot s before z =
+    let none = not-stopped before (readStanding (standing slot s (before .at)) slot (headOf s) s (before .at)) z in (none, went (stepped slot s before none) z)
 
--- ---- what is known after each of the first fields
+-- ---- what the tests of the fields say
 
-record AfterKind (s : List ℕ) (l : Layout) : Type 0 where
-  degree : known (l .kind) (l .degree) ≡ true
-  noMoves : l .moves .length ≡ 0
-  noPoint : l .point .length ≡ 0
-  within : Inside s l
+passed : (b : Bool) (k : ℕ) → numbered (b else k ∷ []) ≡ true → firstFailed (b else k ∷ []) ≡ 0 → b ≡ true
+passed b k n e = and-parts b true (none-failed (b else k ∷ []) n .0 e) .0
 
-record AfterFrame (s : List ℕ) (l : Layout) : Type 0 where
-  before : AfterKind s l
-  frameLong : l .frame .length ≡ frameLength (l .kind)
-  frameGood : frameIn (vertices (l .kind)) (frameNumbers (bytesOf (l .frame) s)) ≡ true
-
-after-kind : {s : List ℕ} → Took s Kind 0 (blank s) → AfterKind s (withField Kind (blank s) s 0)
-unfolding withField extentAt lengthAllowed valuesAllowed valueAt
-after-kind {s} h =
-    record {
-      degree = (λ i. known (sym (byte 0 (omega arith)) i) (sym (byte 1 (omega arith)) i)) ∙ tests .2;
-      noMoves = refl;
-      noPoint = refl;
-      within = inside-with h (λ tag. nothing tag);
-    }
+head-known : {s : List ℕ} {e : Extent} → e .field ≡ 0 → Filled Kind s e → known (getD s 3 0) (getD s 4 0) 0 ≡ true
+head-known {s} {e} first h = (λ i. known (sym (byte 0 (omega arith)) i) (sym (byte 1 (omega arith)) i) 0) ∙ passed (known (getD (bytesOf e s) 0 0) (getD (bytesOf e s) 1 0) 0) 4 refl (h .good)
   where
-    tests : (eqb (lengthAt s 0) 2 ≡ true) × (lengthAt s 0 ≤ left s 3) × (known (getD (take (lengthAt s 0) (drop 3 s)) 0 0) (getD (take (lengthAt s 0) (drop 3 s)) 1 0) ≡ true)
-    tests = not-refused Kind (blank s) s 0 (h .passes)
-
-    byte : (k : ℕ) → k < 2 → getD (take (lengthAt s 0) (drop 3 s)) k 0 ≡ getD s (3 + k) 0
+    byte : (k : ℕ) → k < 2 → getD (bytesOf e s) k 0 ≡ getD s (3 + k) 0
     byte k b =
-        let two = eqb-true (lengthAt s 0) 2 (tests .0) in
-        getD-take (lengthAt s 0) (drop 3 s) k 0 (omega arith) ∙ getD-drop 3 s k 0
+        let two = eqb-true (e .length) 2 (h .long) in
+        let from : e .start + k ≡ 3 + k = omega (arith, h .starts) in
+        getD-take (e .length) (drop (e .start) s) k 0 (omega arith) ∙ getD-drop (e .start) s k 0 ∙ ap (λ j. getD s j 0) from
 
-    nothing : (tag : Tag) → extentOf tag (blank s) .start + extentOf tag (blank s) .length ≤ length s
-    nothing Kind = omega arith
-    nothing Frame = omega arith
-    nothing Coefficients = omega arith
-    nothing Moves = omega arith
-    nothing Point = omega arith
+-- the coefficients of field 3's value are those of the part that begins with it
+coefficients-in : {s : List ℕ} {e : Extent} → Filled Coefficients s e
+    → all (within 1048576) (polynomialsOf (headOf s .kind) (headOf s .degree) (drop (e .start) s) .coefficients) ≡ true
+coefficients-in {s} {e} h =
+    let count = coefficientCount (headGroups (headOf s)) in
+    let long : e .length ≡ 4 * count = omega (arith, eqb-true (e .length) (coefficientsLength (headGroups (headOf s))) (h .long)) in
+    ap (all (within 1048576))
+    (sym (coefficients-of-value (drop (e .start) s) count) ∙ ap (λ n. coefficientsOf (take n (drop (e .start) s)) count) (sym long))
+    ∙ passed (all (within 1048576) (coefficientsOf (bytesOf e s) count)) 6 refl (h .good)
 
-after-frame : {s : List ℕ} {at : ℕ} {l : Layout} → Took s Frame at l → AfterKind s l → AfterFrame s (withField Frame l s at)
-unfolding withField extentAt lengthAllowed valuesAllowed valueAt
-after-frame {s} {at} {l} h k =
-    let tests = not-refused Frame l s at (h .passes) in
-    record {
-      before = record { degree = k .degree; noMoves = k .noMoves; noPoint = k .noPoint; within = inside-with h (k .within) };
-      frameLong = eqb-true (lengthAt s at) (frameLength (l .kind)) (tests .0);
-      frameGood = tests .2;
-    }
-
-after-coefficients : {s : List ℕ} {at : ℕ} {l : Layout} → Took s Coefficients at l → AfterFrame s l → Sound s (withField Coefficients l s at)
-unfolding withField extentAt lengthAllowed valuesAllowed valueAt
-after-coefficients {s} {at} {l} h k =
-    let tests = not-refused Coefficients l s at (h .passes) in
-    let long = eqb-true (lengthAt s at) (coefficientsLength (l .kind) (l .degree)) (tests .0) in
-    record {
-      degree = k .before .degree;
-      frameLong = k .frameLong;
-      frameGood = k .frameGood;
-      coefficientsField = refl;
-      coefficientsLong = long;
-      coefficientsGood = sym (ap coefficientsIn (same-polynomials (l .kind) (l .degree) (lengthAt s at) (drop (at + 3) s) long)) ∙ tests .2;
-      movesLong = ap movesLengthAllowed (k .before .noMoves);
-      pointLong = inl (k .before .noPoint);
-      within = inside-with h (k .before .within);
-    }
-
-after-moves : {s : List ℕ} {at : ℕ} {l : Layout} → Took s Moves at l → Sound s l → Sound s (withField Moves l s at)
-unfolding withField extentAt lengthAllowed
-after-moves {s} {at} {l} h k =
-    record {
-      degree = k .degree;
-      frameLong = k .frameLong;
-      frameGood = k .frameGood;
-      coefficientsField = k .coefficientsField;
-      coefficientsLong = k .coefficientsLong;
-      coefficientsGood = k .coefficientsGood;
-      movesLong = not-refused Moves l s at (h .passes) .0;
-      pointLong = k .pointLong;
-      within = inside-with h (k .within);
-    }
-
-after-point : {s : List ℕ} {at : ℕ} {l : Layout} → Took s Point at l → Sound s l → Sound s (withField Point l s at)
-unfolding withField extentAt lengthAllowed
-after-point {s} {at} {l} h k =
-    record {
-      degree = k .degree;
-      frameLong = k .frameLong;
-      frameGood = k .frameGood;
-      coefficientsField = k .coefficientsField;
-      coefficientsLong = k .coefficientsLong;
-      coefficientsGood = k .coefficientsGood;
-      movesLong = k .movesLong;
-      pointLong = inr (eqb-true (lengthAt s at) (pointLength (l .kind)) (not-refused Point l s at (h .passes) .0));
-      within = inside-with h (k .within);
-    }
-
--- ---- the five steps
-
-abbrev Holds : (Layout → Type 0) → Progress → Type 0
-Holds P (At at l) = P l
-Holds P (Stopped r) = Unit {0}
-
--- what holds before a tag, and what it becomes by the field with the tag or without it
-through : (s : List ℕ) (P Q : Layout → Type 0) (tag : Tag) (p : Progress) → Holds P p → ((at : ℕ) (l : Layout) → p ≡ At at l → Took s tag at l → P l → Q (withField tag l s at))
-    → (required tag ≡ false → (l : Layout) → P l → Q l) → Holds Q (taken s p tag)
-through s P Q tag p h new old = by-progress (taken s p tag) refl
-  where
-    from : {at : ℕ} {l : Layout} → p ≡ At at l → P l
-    from e = subst (Holds P) e h
-
-    by-step : {at′ : ℕ} {l′ : Layout} → Step s p tag at′ l′ → Q l′
-    by-step (took at l e t is) = subst Q is (new at l e t (from e))
-    by-step {l′} (skipped e q) = old q l′ (from e)
-
-    by-progress : (q : Progress) → taken s p tag ≡ q → Holds Q q
-    by-progress (Stopped r) e = tt
-    by-progress (At at′ l′) e = by-step (step-back s p tag at′ l′ e)
-
-never : {A : Type 0} → true ≡ false → A
-never e = let z : _≡_ {A = ℕ} 0 1 = cc in absurd (omega arith)
-
--- the first step starts at the record's beginning
-abbrev KindStep : List ℕ → Progress → Type 0
-KindStep s (At at l) = Took s Kind at l → AfterKind s (withField Kind l s at)
-KindStep s (Stopped r) = Unit {0}
-
-at-finish : {s : List ℕ} {l : Layout} (p : Progress) → Holds (Sound s) p → finished s p ≡ Accepted l → Sound s l
-unfolding finished
-at-finish (Stopped r) h e = let z : _≡_ {A = ℕ} 0 1 = cc in absurd (omega arith)
-at-finish {s} {l} (At at l′) h e = by-end (eqb (left s at) 0) e
-  where
-    by-end : (t : Bool) → cond t (Accepted l′) (Refused (noField s at)) ≡ Accepted l → Sound s l
-    by-end true k = let same : l′ ≡ l = cc in subst (Sound s) same h
-    by-end false k = let z : _≡_ {A = ℕ} 0 1 = cc in absurd (omega arith)
-
--- ---- after each tag
-
--- where the reader stands after some of the tags
-abbrev pub reached : List ℕ → List Tag → Progress
-reached s ts = foldl (taken s) (At 0 (blank s)) ts
+-- ---- all slots
 
 module _ (s : List ℕ) where
-  h1 : Holds (AfterKind s) (reached s (Kind ∷ []))
-  h1 = through s (λ l. Unit {0}) (AfterKind s) Kind (At 0 (blank s)) tt (λ at l e t u. subst (KindStep s) e after-kind t) (λ q. never q)
+  abbrev step1 : Progress
+  step1 = readSlot First (headOf s) s (stay 0 s 0)
 
-  h2 : Holds (AfterFrame s) (reached s (Kind ∷ Frame ∷ []))
-  h2 = through s (AfterKind s) (AfterFrame s) Frame (reached s (Kind ∷ [])) h1 (λ at l e t k. after-frame t k) (λ q. never q)
+  abbrev step2 : Progress
+  step2 = readSlot Second (headOf s) s step1
 
-  h3 : Holds (Sound s) (reached s (Kind ∷ Frame ∷ Coefficients ∷ []))
-  h3 = through s (AfterFrame s) (Sound s) Coefficients (reached s (Kind ∷ Frame ∷ [])) h2 (λ at l e t k. after-coefficients t k) (λ q. never q)
+  abbrev step3 : Progress
+  step3 = readSlot Third (headOf s) s step2
 
-  h4 : Holds (Sound s) (reached s (Kind ∷ Frame ∷ Coefficients ∷ Moves ∷ []))
-  h4 = through s (Sound s) (Sound s) Moves (reached s (Kind ∷ Frame ∷ Coefficients ∷ [])) h3 (λ at l e t k. after-moves t k) (λ q l k. k)
+  abbrev step4 : Progress
+  step4 = readSlot Fourth (headOf s) s step3
 
-  h5 : Holds (Sound s) (reached s tags)
-  h5 = through s (Sound s) (Sound s) Point (reached s (Kind ∷ Frame ∷ Coefficients ∷ Moves ∷ [])) h4 (λ at l e t k. after-point t k) (λ q l k. k)
+  abbrev step5 : Progress
+  step5 = readSlot Fifth (headOf s) s step4
+
+  abbrev layout : Layout
+  layout = layoutWith s (step1 .extent ∷ step2 .extent ∷ step3 .extent ∷ step4 .extent ∷ step5 .extent ∷ [])
+
+  whole-layout : step5 .number ≡ 0 → Sound s layout
+  whole-layout z =
+      let five = back Fifth s step4 z in
+      let four = back Fourth s step3 (five .0) in
+      let three = back Third s step2 (four .0) in
+      let two = back Second s step1 (three .0) in
+      let one = back First s (stay 0 s 0) (two .0) in
+      let head = must refl (one .1) in
+      let frame = must refl (two .1) .1 in
+      let coefficients = must refl (three .1) .1 in
+      record {
+        degree = head-known (head .0) (head .1);
+        frameLong = eqb-true (step2 .extent .length) (frameLength (headGroups (headOf s))) (frame .long);
+        frameGood = passed (framesAllowed (headGroups (headOf s)) (frameNumbers (bytesOf (step2 .extent) s))) 5 refl (frame .good);
+        coefficientsField = coefficients .starts;
+        coefficientsLong = eqb-true (step3 .extent .length) (coefficientsLength (headGroups (headOf s))) (coefficients .long);
+        coefficientsGood = coefficients-in coefficients;
+        movesLong = moves (four .1);
+        pointLong = point (five .1);
+        within = within-all layout (inside (one .1)) (inside (two .1)) (inside (three .1)) (inside (four .1)) (inside (five .1));
+      }
+    where
+      moves : {at : ℕ} {e : Extent} → Went Fourth s at e → movesLengthAllowed (e .length) ≡ true
+      moves {at} (filled h f t) = own Fourth s at h t .long
+      moves (empty r h) = ap (λ (e : Extent). movesLengthAllowed (e .length)) h
+
+      point : {at : ℕ} {e : Extent} → Went Fifth s at e → (e .length ≡ 0) ⊎ (e .length ≡ pointLength (headGroups (headOf s)))
+      point {at} {e} (filled h f t) = inr (eqb-true (e .length) (pointLength (headGroups (headOf s))) (own Fifth s at h t .long))
+      point (empty r h) = inl (ap (λ (e : Extent). e .length) h)
+
+      Within : Extent → Type 0
+      Within e = e .start + e .length ≤ length s
+
+      within-all : (l : Layout) → Within (l .head) → Within (l .frame) → Within (l .coefficients) → Within (l .moves) → Within (l .point)
+          → (slot : Slot) → Within (extentIn slot l)
+      within-all l a b c d e First = a
+      within-all l a b c d e Second = b
+      within-all l a b c d e Third = c
+      within-all l a b c d e Fourth = d
+      within-all l a b c d e Fifth = e
+
+  -- the end is not refused, nor then is the last slot
+  at-end : readEnd s step5 .number ≡ 0 → step5 .number ≡ 0
+  unfolding readEnd
+  at-end z = not-stopped step5 (stay (missingNumber (ltb 0 (left s (step5 .at))) s (step5 .at)) s (step5 .at)) z
 
   pub accepted-sound : (l : Layout) → readingOf s ≡ Accepted l → Sound s l
-  unfolding readingOf
-  accepted-sound l e = at-finish (reached s tags) h5 e
+  unfolding concluded
+  accepted-sound l e = by (eqb (readEnd s step5 .number) 0) refl (sym (all-steps s refl refl refl refl refl refl refl) ∙ e)
+    where
+      by : (b : Bool) → eqb (readEnd s step5 .number) 0 ≡ b
+          → cond b (Accepted layout) (Refused (record { number = readEnd s step5 .number; offset = readEnd s step5 .at })) ≡ Accepted l → Sound s l
+      by true z k = subst (Sound s) (cc) (whole-layout (at-end (eqb-true (readEnd s step5 .number) 0 z)))
+      by false z k = let z : _≡_ {A = ℕ} 0 1 = cc in absurd (omega arith)
 
-  -- after field 1 kind and degree are known
-  pub known-after : {at : ℕ} {l : Layout} → taken s (At 0 (blank s)) Kind ≡ At at l → known (l .kind) (l .degree) ≡ true
-  known-after e = subst (Holds (AfterKind s)) e h1 .degree
+-- ---- every field's value lies within the record
+
+module _ (s : List ℕ) (n : ℕ) where
+  extent-inside : fieldExtent s n .start + fieldExtent s n .length ≤ length s
+  unfolding fieldExtent extentBy
+  extent-inside = by (readingOf s) refl
+    where
+      Inside : Extent → Type 0
+      Inside e = e .start + e .length ≤ length s
+
+      either : (a b : Extent) (t : Bool) → Inside a → Inside b → Inside (cond t a b)
+      either a b true h k = h
+      either a b false h k = k
+
+      among : (l : Layout) → Sound s l → (rest : List Slot) → Inside (extentAmong rest s l n)
+      among l h [] = omega arith
+      among l h (slot ∷ rest) = either (extentIn slot l) (extentAmong rest s l n) (isTag (tagAmong (tagsIn slot) n)) (h .within slot) (among l h rest)
+
+      by : (r : Reading) → readingOf s ≡ r → Inside (extentBy r s n)
+      by (Accepted l) e = among l (accepted-sound s l e) slots
+      by (Refused r) e = omega arith
+
+  -- so does an extent that is the field's
+  pub with-inside : {e : Extent} → e ≡ fieldExtent s n → (e ≡ fieldExtent s n) × (e .start + e .length ≤ length s)
+  with-inside is = (is, subst (λ (e : Extent). e .start + e .length ≤ length s) (sym is) extent-inside)

@@ -1,249 +1,254 @@
--- Each cause of a refusal both ways. The fold over the tags is followed from wherever a field begins: there a cause settles the reading, and a reading that is
--- refused leads back to its cause.
+-- The table of refusals, both ways. The slots are followed from wherever a field begins: there a cause settles the reading, and a reading that is refused leads
+-- back to its cause.
 use mathlib.Core.Path.{_≡_, refl, sym, _∙_, ap, subst}
-use mathlib.Core.Bool.{Bool, true, false, not, _&&_, _||_, cond}
-use mathlib.Core.List.{List, [], _∷_, foldl}
+use mathlib.Core.Bool.{Bool, true, false, not, _&&_, _||_}
+use mathlib.Core.List.{List, [], _∷_, _++_}
 use mathlib.Core.Logic.{_⊎_, inl, inr}
-use Prim.Native.Nat.{ℕ, _+_, _≤_, _<_}
+use Prim.Native.Nat.{ℕ, zero, suc, _+_, _≤_, _<_}
 use native.Mathlib.Omega.{arith}
-use borrow.Author.Tests.{eqb-true, eqb-false, ltb-true, ltb-false, leb-true, leb-false, ne-eqb}
+use borrow.Author.Tests.{eqb-true, eqb-false, ltb-true, ltb-false, lt-ltb, ne-eqb}
 use lib.ListN.{length, getD}
-use lib.Dec.{eqb, ltb, leb}
-use Rattle.records.specs.Table.{tags, tagNumber, required, lengthAllowed, valuesAllowed, valuesNumber}
-use Rattle.records.specs.Reading.{left, lengthAt, valueAt, standsAt, fieldRefusal, noField, blank, withField, taken, finished, readingOf, readingNumber, readingValues}
-use Rattle.records.specs.Causes.{Begins, mayCome, anyRequired, Caused, Told}
+use lib.Dec.{eqb, ltb}
+use Rattle.records.specs.Table.{slots, tagsIn, required, fieldRow}
+use Rattle.integers.proofs.All.{clash}
+use Rattle.machine.specs.Refusals.{firstFailed}
+use Rattle.records.specs.Reading.{left, lengthAt, bytesAt, headOf, fieldNumber, tagAmong, isTag, standing, missingNumber, endExtent, extentAt, stay, readSlot, readEnd, concluded, onward, readingOf, readingNumber, readingValues}
+use Rattle.records.specs.Causes.{Begins, Comes, mayCome, anyRequired, Caused, Verdict}
 use Rattle.records.specs.Causes.Begins.{first, after, without}
-use Rattle.records.specs.Causes.Caused.{cutField, cutValue, wrongTag, absentTag, wrongLength, wrongValues}
+use Rattle.records.specs.Causes.Comes.{comes}
+use Rattle.records.specs.Causes.Caused.{cutField, cutValue, wrongTag, absentTag, wrongLength, wrongValue}
+use Rattle.records.specs.declared.Extent.{Extent}
+use Rattle.records.specs.declared.Slot.{Slot}
+use Rattle.records.specs.declared.Slot.the-variants.{First, Second, Third, Fourth, Fifth}
 use Rattle.records.specs.declared.Tag.{Tag}
-use Rattle.records.specs.declared.Tag.the-variants.{Kind, Frame, Coefficients, Moves, Point}
-use Rattle.records.specs.declared.Layout.{Layout}
+use Rattle.records.specs.declared.Standing.{Standing}
+use Rattle.records.specs.declared.Standing.the-variants.{Field, Nothing}
 use Rattle.records.specs.declared.Refusal.{Refusal}
 use Rattle.records.specs.declared.Progress.{Progress}
-use Rattle.records.specs.declared.Progress.the-variants.{At, Stopped}
 use Rattle.records.specs.declared.Reading.{Reading}
 use Rattle.records.specs.declared.Reading.the-variants.{Accepted, Refused}
-use Rattle.records.proofs.Fields.{too-short, long-enough, stands-there, value-numbered, wrong-length, cut-short, by-values, not-refused, stopped, moved-on, at-end, one-or-two, other-tag, takes, misses, skips}
+use Rattle.records.proofs.Slots.{too-short, long-enough, stands-there, wrong-length, cut-short, by-value, Judged, judged, field-passes, goes-past, stops, at-end, one-or-two, other-tag, missing-refused, passed-on, Stepped, takes, misses, stepped}
+use Rattle.records.proofs.Slots.Stepped.{took, fell, lacked, skipped}
+
+-- ---- a step of the reader that is not refused
+
+abbrev go : ℕ → Extent → Progress
+go at e = record { number = 0; at = at; extent = e }
+
+-- the reading after a slot, by the step that it makes
+abbrev onto : List Slot → List ℕ → List Extent → Progress → Reading
+onto rest s es x = onward rest s x (es ++ (x .extent ∷ []))
 
 -- ---- the reading, from where a field begins
 
-abbrev pub onward : List ℕ → List Tag → Progress → Reading
-onward s rest p = finished s (foldl (taken s) p rest)
+record From (s : List ℕ) (rest : List Slot) (at : ℕ) : Type 0 where
+  extents : List Extent
+  last : Extent
+  is : readingOf s ≡ onward rest s (go at last) extents
 
-from-here : {s : List ℕ} {rest : List Tag} {at : ℕ} {l : Layout} → Begins s rest at l → readingOf s ≡ onward s rest (At at l)
+from-here : {s : List ℕ} {rest : List Slot} {at : ℕ} → Begins s rest at → From s rest at
 unfolding readingOf
-from-here first = refl
-from-here {s} (after {tag = tag} {rest = rest} {at = at} {l = l} b h k) =
-    from-here b ∙ ap (onward s rest) (takes s tag refl h ∙ moved-on tag l s at k)
-from-here {s} (without {tag = tag} {rest = rest} b h k) = from-here b ∙ ap (onward s rest) (skips s tag refl h k)
+from-here {s} first = record { extents = []; last = endExtent s; is = refl }
+from-here {s} (after {slot = slot} {rest = rest} {tag = tag} {at = at} b h k) =
+    let f = from-here b in
+    record {
+      extents = f .extents ++ (extentAt s at ∷ []);
+      last = extentAt s at;
+      is = f .is ∙ ap (onto rest s (f .extents)) (takes slot s (go at (f .last)) refl h ∙ goes-past tag (headOf s) s at slot k);
+    }
+from-here {s} (without {slot = slot} {rest = rest} {at = at} b h k) =
+    let f = from-here b in
+    record {
+      extents = f .extents ++ (endExtent s ∷ []);
+      last = endExtent s;
+      is = f .is ∙ ap (onto rest s (f .extents)) (misses slot s (go at (f .last)) refl h k);
+    }
 
--- a refusal is not taken back
-pub stays : (s : List ℕ) (rest : List Tag) (r : Refusal) → onward s rest (Stopped r) ≡ Refused r
-unfolding taken finished
-stays s [] r = refl
-stays s (tag ∷ rest) r = stays s rest r
+-- a refusal is not readSlot back
+refuses : (s : List ℕ) (step : Progress) (es : List Extent) → (step .number ≡ 0 → ⊥) → concluded s step es ≡ Refused (record { number = step .number; offset = step .at })
+unfolding concluded
+refuses s step es z = rw (ne-eqb (step .number) 0 z) refl
+
+stays : (rest : List Slot) (s : List ℕ) (step : Progress) (es : List Extent) → (step .number ≡ 0 → ⊥)
+    → onward rest s step es ≡ Refused (record { number = step .number; offset = step .at })
+unfolding readEnd
+stays [] s step es z = rw (ne-eqb (step .number) 0 z) (refuses s step es z)
+stays (slot ∷ rest) s step es z = ap (onto rest s es) (passed-on slot (headOf s) s step z) ∙ stays rest s step (es ++ (step .extent ∷ [])) z
 
 -- an offset that is reached lies within the record
-reached : {s : List ℕ} {rest : List Tag} {at : ℕ} {l : Layout} → Begins s rest at l → at ≤ length s
+reached : {s : List ℕ} {rest : List Slot} {at : ℕ} → Begins s rest at → at ≤ length s
 reached first = omega arith
-reached {s} (after {tag = tag} {at = at} {l = l} b h k) = let there = stands-there tag s at h in let room = not-refused tag l s at k in omega arith
+reached {s} (after {slot = slot} {tag = tag} {at = at} b h k) =
+    let there = stands-there slot s at h in let room = field-passes tag (headOf s) s at k in omega arith
 reached (without b h k) = reached b
 
 -- ---- a cause settles the reading
 
 or-false : (a b : Bool) → a || b ≡ false → (a ≡ false) × (b ≡ false)
-or-false true b e = let z : _≡_ {A = ℕ} 0 1 = cc in absurd (omega arith)
+or-false true b e = absurd (clash refl e)
 or-false false b e = (refl, e)
 
--- no tag that may come, by the byte, stands here, and the record has not ended or lacks a required tag
-module _ (s : List ℕ) (at : ℕ) (l : Layout) (byte : ℕ) (none : (tag : Tag) → eqb byte (tagNumber tag) ≡ false → standsAt tag s at ≡ false) where
-  stuck : (rest : List Tag) → mayCome rest byte ≡ false → (0 < left s at) ⊎ (anyRequired rest ≡ true) → onward s rest (At at l) ≡ Refused (noField s at)
-  unfolding finished
-  stuck [] e (inl h) = rw (ne-eqb (left s at) 0 (λ z. omega arith)) refl
-  stuck [] e (inr h) = let z : _≡_ {A = ℕ} 0 1 = cc in absurd (omega arith)
-  stuck (tag ∷ rest) e c = by-case (required tag) refl (stuck rest)
-    where
-      parts : (eqb byte (tagNumber tag) ≡ false) × ((not (required tag) && mayCome rest byte) ≡ false)
-      parts = or-false (eqb byte (tagNumber tag)) (not (required tag) && mayCome rest byte) e
+not-tag : (x : Standing) → isTag x ≡ false → x ≡ Nothing
+not-tag (Field tag) e = absurd (clash refl e)
+not-tag Nothing e = refl
 
-      still : required tag ≡ false → (0 < left s at) ⊎ (anyRequired (tag ∷ rest) ≡ true) → (0 < left s at) ⊎ (anyRequired rest ≡ true)
+-- no tag that may come, by the byte, stands here, and the record has not readEnd or a slot must still be filled
+module _ (s : List ℕ) (at byte : ℕ) (none : (slot : Slot) → isTag (tagAmong (tagsIn slot) byte) ≡ false → standing slot s at ≡ Nothing) where
+  abbrev Stuck : List Slot → Type 0
+  Stuck rest =
+      (e : Extent) (es : List Extent) → mayCome rest byte ≡ false → (0 < left s at) ⊎ (anyRequired rest ≡ true)
+      → onward rest s (go at e) es ≡ Refused (record { number = missingNumber true s at; offset = at })
+
+  stuck : (rest : List Slot) → Stuck rest
+  unfolding readEnd
+  stuck [] e es m (inl h) = ap (λ t. concluded s (stay (missingNumber t s at) s at) es) (lt-ltb 0 (left s at) h) ∙ refuses s (stay (missingNumber true s at) s at) es (missing-refused s at)
+  stuck [] e es m (inr h) = absurd (clash h refl)
+  stuck (slot ∷ rest) e es m c = by-case (required slot) refl (stuck rest)
+    where
+      parts : (isTag (tagAmong (tagsIn slot) byte) ≡ false) × ((not (required slot) && mayCome rest byte) ≡ false)
+      parts = or-false (isTag (tagAmong (tagsIn slot) byte)) (not (required slot) && mayCome rest byte) m
+
+      still : required slot ≡ false → (0 < left s at) ⊎ (anyRequired (slot ∷ rest) ≡ true) → (0 < left s at) ⊎ (anyRequired rest ≡ true)
       still q (inl h) = inl h
       still q (inr h) = inr (sym (ap (λ (b : Bool). b || anyRequired rest) q) ∙ h)
 
-      by-case : (t : Bool) → required tag ≡ t
-          → (mayCome rest byte ≡ false → (0 < left s at) ⊎ (anyRequired rest ≡ true) → onward s rest (At at l) ≡ Refused (noField s at))
-          → onward s rest (taken s (At at l) tag) ≡ Refused (noField s at)
-      by-case true q later = ap (onward s rest) (misses s tag refl (none tag (parts .0)) q) ∙ stays s rest (noField s at)
+      by-case : (t : Bool) → required slot ≡ t → Stuck rest → onto rest s es (readSlot slot (headOf s) s (go at e)) ≡ Refused (record { number = missingNumber true s at; offset = at })
+      by-case true q later =
+          ap (onto rest s es) (misses slot s (go at e) refl (none slot (parts .0)) q) ∙ stays rest s (stay (missingNumber true s at) s at) (es ++ (endExtent s ∷ [])) (missing-refused s at)
       by-case false q later =
-          ap (onward s rest) (skips s tag refl (none tag (parts .0)) q)
-          ∙ later (sym (ap (λ (b : Bool). not b && mayCome rest byte) q) ∙ parts .1) (still q c)
+          ap (onto rest s es) (misses slot s (go at e) refl (none slot (parts .0)) q)
+          ∙ later (endExtent s) (es ++ (endExtent s ∷ [])) (sym (ap (λ (b : Bool). not b && mayCome rest byte) q) ∙ parts .1) (still q c)
 
--- no tag's number is 0
-zero-comes-not : (rest : List Tag) → mayCome rest 0 ≡ false
+-- no tag is 0
+zero-comes-not : (rest : List Slot) → mayCome rest 0 ≡ false
 zero-comes-not [] = refl
-zero-comes-not (Kind ∷ rest) = refl
-zero-comes-not (Frame ∷ rest) = refl
-zero-comes-not (Coefficients ∷ rest) = refl
-zero-comes-not (Moves ∷ rest) = zero-comes-not rest
-zero-comes-not (Point ∷ rest) = zero-comes-not rest
+zero-comes-not (First ∷ rest) = refl
+zero-comes-not (Second ∷ rest) = refl
+zero-comes-not (Third ∷ rest) = refl
+zero-comes-not (Fourth ∷ rest) = zero-comes-not rest
+zero-comes-not (Fifth ∷ rest) = zero-comes-not rest
 
--- fewer than three bytes are left, so that no tag stands here
-stuck-short : (s : List ℕ) (at : ℕ) (l : Layout) (rest : List Tag) → left s at < 3 → (0 < left s at) ⊎ (anyRequired rest ≡ true)
-    → onward s rest (At at l) ≡ Refused (noField s at)
-stuck-short s at l rest short c = stuck s at l 0 (λ tag e. too-short tag s at short) rest (zero-comes-not rest) c
+-- fewer than three bytes are left, so that no field stands here
+stuck-short : {s : List ℕ} {rest : List Slot} {at : ℕ} → Begins s rest at → left s at < 3 → (0 < left s at) ⊎ (anyRequired rest ≡ true)
+    → readingOf s ≡ Refused (record { number = missingNumber true s at; offset = at })
+stuck-short {s} {rest} {at} b short c =
+    let f = from-here b in f .is ∙ stuck s at 0 (λ slot e. too-short slot s at short) rest (f .last) (f .extents) (zero-comes-not rest) c
 
 -- a field with a right tag is refused
-halted : {s : List ℕ} {tag : Tag} {rest : List Tag} {at : ℕ} {l : Layout} (n : ℕ) → Begins s (tag ∷ rest) at l → standsAt tag s at ≡ true
-    → fieldRefusal tag l s at ≡ n → (n ≡ 0 → ⊥) → readingOf s ≡ Refused (record { number = n; offset = at })
-halted {s} {tag} {rest} {at} {l} n b h e z =
-    from-here b
-    ∙ ap (onward s rest) (takes s tag refl h ∙ stopped tag l s at (λ k. z (sym e ∙ k)) ∙ ap (λ (m : ℕ). Stopped (record { number = m; offset = at })) e)
-    ∙ stays s rest (record { number = n; offset = at })
+halted : {s : List ℕ} {tag : Tag} {at n : ℕ} → Comes s tag at → fieldNumber tag (headOf s) s at ≡ suc n → readingOf s ≡ Refused (record { number = suc n; offset = at })
+halted {s} {tag} {at} {n} (comes {slot = slot} {rest = rest} b h) e =
+    let f = from-here b in
+    f .is
+    ∙ ap (onto rest s (f .extents))
+    (takes slot s (go at (f .last)) refl h ∙ stops tag (headOf s) s at slot (λ k. let z = sym e ∙ k in omega arith) ∙ ap (λ (m : ℕ). stay m s at) e)
+    ∙ stays rest s (stay (suc n) s at) (f .extents ++ (endExtent s ∷ [])) (λ z. omega arith)
+
+abbrev as-refused : ℕ → ℕ → Reading
+as-refused at n = Refused (record { number = n; offset = at })
 
 -- Where a cause is there, the reading is refused with its number and offset.
 pub caused-refused : {s : List ℕ} {n at : ℕ} → Caused s n at → readingOf s ≡ Refused (record { number = n; offset = at })
-caused-refused {s} (cutField {rest = rest} {at = at} {l = l} b h k) =
-    from-here b ∙ stuck-short s at l rest k (inl h) ∙ ap Refused (one-or-two s at h k)
-caused-refused {s} (cutValue {tag = tag} {at = at} {l = l} b h e k) = halted 1 b h (cut-short tag l s at e k) (λ z. omega arith)
-caused-refused {s} (wrongTag {rest = rest} {at = at} {l = l} b h e) =
-    from-here b
-    ∙ stuck s at l (getD s at 0) (λ tag k. long-enough tag s at h ∙ k) rest e (inl (omega arith))
-    ∙ ap Refused (other-tag s at (omega arith) h)
-caused-refused {s} (absentTag {rest = rest} {l = l} b e) =
+caused-refused {s} (cutField {at = at} b h k) = stuck-short b k (inl h) ∙ ap (as-refused at) (one-or-two s at h k)
+caused-refused {s} (cutValue {tag = tag} {at = at} c e k) = halted c (cut-short tag (headOf s) s at e k)
+caused-refused {s} (wrongTag {rest = rest} {at = at} b h m) =
+    let f = from-here b in
+    f .is
+    ∙ stuck s at (getD s at 0) (λ slot k. long-enough slot s at h ∙ not-tag (tagAmong (tagsIn slot) (getD s at 0)) k) rest (f .last) (f .extents) m (inl (omega arith))
+    ∙ ap (as-refused at) (other-tag s at h)
+caused-refused {s} (absentTag b e) =
     let none : left s (length s) ≡ 0 = omega arith in
-    from-here b ∙ stuck-short s (length s) l rest (omega arith) (inr e) ∙ ap Refused (at-end s (length s) none)
-caused-refused {s} (wrongLength {tag = tag} {at = at} {l = l} b h e) = halted 3 b h (wrong-length tag l s at e) (λ z. omega arith)
-caused-refused {s} (wrongValues {tag = tag} {at = at} {l = l} b h e k v) =
-    halted
-    (valuesNumber tag)
-    b
-    h
-    (by-values tag l s at e k ∙ ap (λ (t : Bool). cond t 0 (valuesNumber tag)) v)
-    (value-numbered tag (l .kind) (l .degree) (valueAt s at) v)
+    stuck-short b (omega arith) (inr e) ∙ ap (as-refused (length s)) (at-end s (length s) none)
+caused-refused {s} (wrongLength {tag = tag} {at = at} c e) = halted c (wrong-length tag (headOf s) s at e)
+caused-refused {s} (wrongValue {tag = tag} {at = at} c e k v) = halted c (by-value tag (headOf s) s at e k ∙ v)
 
 -- ---- a refused reading has a cause
 
-abbrev CausedAs : List ℕ → Refusal → Type 0
-CausedAs s r = Caused s (r .number) (r .offset)
-
 -- by what is left where no tag that may come stands
-module _ {s : List ℕ} {rest : List Tag} {at : ℕ} {l : Layout} (b : Begins s rest at l) where
-  no-field-caused : (3 ≤ left s at → mayCome rest (getD s at 0) ≡ false) → (left s at ≡ 0 → anyRequired rest ≡ true) → CausedAs s (noField s at)
-  no-field-caused tag end = by-end (eqb (left s at) 0) refl
+module _ {s : List ℕ} {rest : List Slot} {at : ℕ} (b : Begins s rest at) where
+  missing-caused : (3 ≤ left s at → mayCome rest (getD s at 0) ≡ false) → (left s at ≡ 0 → anyRequired rest ≡ true) → Caused s (missingNumber true s at) at
+  missing-caused tag end = by-end (eqb (left s at) 0) refl
     where
-      by-three : (t : Bool) → ltb (left s at) 3 ≡ t → 0 < left s at → CausedAs s (noField s at)
-      by-three true k h =
-          let short = ltb-true (left s at) 3 k in
-          subst (CausedAs s) (sym (one-or-two s at h short)) (cutField b h short)
-      by-three false k h =
-          let long = ltb-false (left s at) 3 k in
-          subst (CausedAs s) (sym (other-tag s at h long)) (wrongTag b long (tag long))
+      with-number : {n : ℕ} → missingNumber true s at ≡ n → Caused s n at → Caused s (missingNumber true s at) at
+      with-number e c = subst (λ n. Caused s n at) (sym e) c
 
-      at-last : (at ≡ length s) → Begins s rest (length s) l
-      at-last e = subst (λ (k : ℕ). Begins s rest k l) e b
+      by-three : (t : Bool) → ltb (left s at) 3 ≡ t → 0 < left s at → Caused s (missingNumber true s at) at
+      by-three true k h = let short = ltb-true (left s at) 3 k in with-number (one-or-two s at h short) (cutField b h short)
+      by-three false k h = let long = ltb-false (left s at) 3 k in with-number (other-tag s at long) (wrongTag b long (tag long))
 
-      by-end : (t : Bool) → eqb (left s at) 0 ≡ t → CausedAs s (noField s at)
+      by-end : (t : Bool) → eqb (left s at) 0 ≡ t → Caused s (missingNumber true s at) at
       by-end true k =
           let none = eqb-true (left s at) 0 k in
           let inside = reached b in
-          let last : at ≡ length s = omega arith in
-          subst (CausedAs s) (sym (at-end s at none)) (subst (Caused s 2) (sym last) (absentTag (at-last last) (end none)))
+          let last : length s ≡ at = omega arith in
+          with-number (at-end s at none) (subst (Caused s 2) last (absentTag (subst (Begins s rest) (sym last) b) (end none)))
       by-end false k = let some = eqb-false (left s at) 0 k in by-three (ltb (left s at) 3) refl (omega arith)
 
 -- by the first test that a field fails
-module _ {s : List ℕ} {tag : Tag} {rest : List Tag} {at : ℕ} {l : Layout} (b : Begins s (tag ∷ rest) at l) (h : standsAt tag s at ≡ true) where
-  field-caused : (fieldRefusal tag l s at ≡ 0 → ⊥) → Caused s (fieldRefusal tag l s at) at
-  field-caused z = by-length (lengthAllowed tag (l .kind) (l .degree) (lengthAt s at)) refl
+module _ {s : List ℕ} {tag : Tag} {at : ℕ} (c : Comes s tag at) where
+  field-caused : (fieldNumber tag (headOf s) s at ≡ 0 → ⊥) → Caused s (fieldNumber tag (headOf s) s at) at
+  field-caused z = by (judged tag (headOf s) s at)
     where
-      with-number : {n : ℕ} → fieldRefusal tag l s at ≡ n → Caused s n at → Caused s (fieldRefusal tag l s at) at
-      with-number e c = subst (λ (n : ℕ). Caused s n at) (sym e) c
+      with-number : {n : ℕ} → fieldNumber tag (headOf s) s at ≡ n → Caused s n at → Caused s (fieldNumber tag (headOf s) s at) at
+      with-number e d = subst (λ n. Caused s n at) (sym e) d
 
-      by-value : (t : Bool) → valuesAllowed tag (l .kind) (l .degree) (valueAt s at) ≡ t → lengthAllowed tag (l .kind) (l .degree) (lengthAt s at) ≡ true
-          → lengthAt s at ≤ left s (at + 3) → Caused s (fieldRefusal tag l s at) at
-      by-value true v e k = absurd (z (by-values tag l s at e k ∙ ap (λ (t : Bool). cond t 0 (valuesNumber tag)) v))
-      by-value false v e k = with-number (by-values tag l s at e k ∙ ap (λ (t : Bool). cond t 0 (valuesNumber tag)) v) (wrongValues b h e k v)
+      by : Judged tag (headOf s) s at → Caused s (fieldNumber tag (headOf s) s at) at
+      by (Judged.badLength e) = with-number (wrong-length tag (headOf s) s at e) (wrongLength c e)
+      by (Judged.badRoom e r) = with-number (cut-short tag (headOf s) s at e r) (cutValue c e r)
+      by (Judged.whole e r) = by-number (firstFailed (fieldRow tag .tests (headOf s) (bytesAt s at))) refl
+        where
+          by-number : (n : ℕ) → firstFailed (fieldRow tag .tests (headOf s) (bytesAt s at)) ≡ n → Caused s (fieldNumber tag (headOf s) s at) at
+          by-number zero v = absurd (z (by-value tag (headOf s) s at e r ∙ v))
+          by-number (suc n) v = with-number (by-value tag (headOf s) s at e r ∙ v) (wrongValue c e r v)
 
-      by-room : (t : Bool) → leb (lengthAt s at) (left s (at + 3)) ≡ t → lengthAllowed tag (l .kind) (l .degree) (lengthAt s at) ≡ true
-          → Caused s (fieldRefusal tag l s at) at
-      by-room true k e = by-value (valuesAllowed tag (l .kind) (l .degree) (valueAt s at)) refl e (leb-true (lengthAt s at) (left s (at + 3)) k)
-      by-room false k e =
-          let lacking = leb-false (lengthAt s at) (left s (at + 3)) k in
-          with-number (cut-short tag l s at e lacking) (cutValue b h e lacking)
-
-      by-length : (t : Bool) → lengthAllowed tag (l .kind) (l .degree) (lengthAt s at) ≡ t → Caused s (fieldRefusal tag l s at) at
-      by-length true e = by-room (leb (lengthAt s at) (left s (at + 3))) refl e
-      by-length false e = with-number (wrong-length tag l s at e) (wrongLength b h e)
-
--- what a reading tells: an accepted record is taken to its end, and a refused one has a cause
+-- what a reading tells: an accepted record is readSlot to its end, and a refused one has a cause
 abbrev Outcome : List ℕ → Reading → Type 0
-Outcome s (Accepted l) = Begins s [] (length s) l
-Outcome s (Refused r) = CausedAs s r
+Outcome s (Accepted l) = Verdict s 0 (l .kind ∷ l .degree ∷ [])
+Outcome s (Refused r) = Caused s (r .number) (r .offset)
 
-at-rest : {s : List ℕ} {at : ℕ} {l : Layout} → Begins s [] at l → Outcome s (finished s (At at l))
-unfolding finished
-at-rest {s} {at} {l} b = by-case (eqb (left s at) 0) refl
+at-rest : {s : List ℕ} {at : ℕ} (e : Extent) (es : List Extent) → Begins s [] at → Outcome s (onward [] s (go at e) es)
+unfolding readEnd concluded
+at-rest {s} {at} e es b = by-case (ltb 0 (left s at)) refl
   where
-    by-case : (t : Bool) → eqb (left s at) 0 ≡ t → Outcome s (cond t (Accepted l) (Refused (noField s at)))
+    by-case : (t : Bool) → ltb 0 (left s at) ≡ t → Outcome s (concluded s (stay (missingNumber t s at) s at) es)
     by-case true k =
-        let none = eqb-true (left s at) 0 k in
-        let inside = reached b in
-        subst (λ (n : ℕ). Begins s [] n l) (omega arith) b
-    by-case false k = no-field-caused b (λ h. refl) (λ e. absurd (eqb-false (left s at) 0 k e))
+        let some = ltb-true 0 (left s at) k in
+        subst (Outcome s) (sym (refuses s (stay (missingNumber true s at) s at) es (missing-refused s at))) (missing-caused b (λ h. refl) (λ z. absurd (omega arith)))
+    by-case false k = let none = ltb-false 0 (left s at) k in let inside = reached b in Verdict.accepted (subst (Begins s []) (omega arith) b)
 
-outcome : {s : List ℕ} (rest : List Tag) (at : ℕ) (l : Layout) → Begins s rest at l → Outcome s (onward s rest (At at l))
-outcome [] at l b = at-rest b
-outcome {s} (tag ∷ rest) at l b = by-stand (standsAt tag s at) refl (outcome rest)
+outcome : {s : List ℕ} (rest : List Slot) (at : ℕ) (e : Extent) (es : List Extent) → Begins s rest at → Outcome s (onward rest s (go at e) es)
+outcome [] at e es b = at-rest e es b
+outcome {s} (slot ∷ rest) at e es b = by (stepped slot s (go at e) refl) (outcome rest)
   where
-    Later : Type 0
-    Later = (k : ℕ) (m : Layout) → Begins s rest k m → Outcome s (onward s rest (At k m))
+    settled : {x y : Progress} → x ≡ y → Outcome s (onto rest s es y) → Outcome s (onto rest s es x)
+    settled is o = subst (λ x. Outcome s (onto rest s es x)) (sym is) o
 
-    settled : {p q : Progress} → p ≡ q → Outcome s (onward s rest q) → Outcome s (onward s rest p)
-    settled e o = subst (λ p. Outcome s (onward s rest p)) (sym e) o
+    halt : (n : ℕ) → (n ≡ 0 → ⊥) → Caused s n at → Outcome s (onto rest s es (stay n s at))
+    halt n z c = subst (Outcome s) (sym (stays rest s (stay n s at) (es ++ (endExtent s ∷ [])) z)) c
 
-    halt : (r : Refusal) → CausedAs s r → Outcome s (onward s rest (Stopped r))
-    halt r c = subst (Outcome s) (sym (stays s rest r)) c
-
-    by-refusal : (t : Bool) → eqb (fieldRefusal tag l s at) 0 ≡ t → standsAt tag s at ≡ true → Later → Outcome s (onward s rest (taken s (At at l) tag))
-    by-refusal true k h later =
-        let none = eqb-true (fieldRefusal tag l s at) 0 k in
-        settled (takes s tag refl h ∙ moved-on tag l s at none) (later (at + 3 + lengthAt s at) (withField tag l s at) (after b h none))
-    by-refusal false k h later =
-        let some = eqb-false (fieldRefusal tag l s at) 0 k in
-        settled
-        (takes s tag refl h ∙ stopped tag l s at some)
-        (halt (record { number = fieldRefusal tag l s at; offset = at }) (field-caused b h some))
-
-    by-need : (t : Bool) → required tag ≡ t → standsAt tag s at ≡ false → Later → Outcome s (onward s rest (taken s (At at l) tag))
-    by-need true q h later =
-        settled
-        (misses s tag refl h q)
-        (halt (noField s at)
-        (no-field-caused b
-        (λ long. rw (sym (long-enough tag s at long) ∙ h, q) refl)
-        (λ e. rw q refl)))
-    by-need false q h later = settled (skips s tag refl h q) (later at l (without b h q))
-
-    by-stand : (t : Bool) → standsAt tag s at ≡ t → Later → Outcome s (onward s rest (taken s (At at l) tag))
-    by-stand true h later = by-refusal (eqb (fieldRefusal tag l s at) 0) refl h later
-    by-stand false h later = by-need (required tag) refl h later
+    by : {x : Progress} → Stepped slot s at x → ((k : ℕ) (e : Extent) (es : List Extent) → Begins s rest k → Outcome s (onward rest s (go k e) es)) → Outcome s (onto rest s es x)
+    by (took h k is) later = settled is (later (at + 3 + lengthAt s at) (extentAt s at) (es ++ (extentAt s at ∷ [])) (after b h k))
+    by (fell {tag = tag} h k is) later = settled is (halt (fieldNumber tag (headOf s) s at) k (field-caused (comes b h) k))
+    by (lacked h q is) later =
+        settled is
+        (halt (missingNumber true s at) (missing-refused s at)
+        (missing-caused b (λ long. rw (ap isTag (sym (long-enough slot s at long) ∙ h), q) refl) (λ z. rw q refl)))
+    by (skipped h q is) later = settled is (later at (endExtent s) (es ++ (endExtent s ∷ [])) (without b h q))
 
 outcome-of : (s : List ℕ) → Outcome s (readingOf s)
-outcome-of s = subst (Outcome s) (sym (from-here first)) (outcome tags 0 (blank s) first)
+unfolding readingOf
+outcome-of s = outcome {s = s} slots 0 (endExtent s) [] first
 
 -- Where a reading is refused, its cause is there.
 pub refused-caused : (s : List ℕ) (r : Refusal) → readingOf s ≡ Refused r → Caused s (r .number) (r .offset)
 refused-caused s r e = subst (Outcome s) e (outcome-of s)
 
--- Where a record is accepted, the reader has gone from field to field up to its very end.
-pub accepted-whole : (s : List ℕ) (l : Layout) → readingOf s ≡ Accepted l → Begins s [] (length s) l
-accepted-whole s l e = subst (Outcome s) e (outcome-of s)
-
 -- So number and values of every reading are what the table tells of the bytes.
-pub table-told : (s : List ℕ) → Told s (readingNumber (readingOf s)) (readingValues (readingOf s))
-table-told s = by-case (readingOf s) (outcome-of s)
+pub table-verdict : (s : List ℕ) → Verdict s (readingNumber (readingOf s)) (readingValues (readingOf s))
+table-verdict s = by-case (readingOf s) (outcome-of s)
   where
-    by-case : (r : Reading) → Outcome s r → Told s (readingNumber r) (readingValues r)
-    by-case (Accepted l) o = Told.accepted o
-    by-case (Refused r) o = Told.refused o
+    by-case : (r : Reading) → Outcome s r → Verdict s (readingNumber r) (readingValues r)
+    by-case (Accepted l) o = o
+    by-case (Refused r) o = Verdict.refused o
 
 -- a record of no bytes lacks tag 1, at its end, which is its beginning
 pub empty-record : readingOf [] ≡ Refused (record { number = 2; offset = 0 })

@@ -1,5 +1,4 @@
-pub mod Fields
+pub mod Slots
 pub mod Causes
 pub mod Accepted
 pub mod Samples
-pub mod Steps

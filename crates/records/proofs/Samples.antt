@@ -1,4 +1,4 @@
--- Worked records: document 01's circle record, whole, and a table of refusals, a line or more for each row of its table of causes. One computed test covers the table.
+-- Worked records: document 01's circle record, whole, and a table of refusals, a line or more for each fieldRow of its table of causes. One computed test covers the table.
 use mathlib.Core.Path.{_≡_, refl}
 use mathlib.Core.Bool.{Bool, true, false, _&&_}
 use mathlib.Core.List.{List, [], _∷_, _++_}
@@ -6,7 +6,8 @@ use Prim.Native.Nat.{ℕ}
 use lib.Dec.{eqb}
 use lib.ListN.{replicate}
 use Rattle.polar.specs.Order.{monomials}
-use Rattle.machine.specs.First.{frameOf, frameIn, coefficientsIn}
+use Rattle.polar.specs.Groups.{monomialsOver}
+use Rattle.kinds.specs.Frames.{frameOf, frameAllowed, framesAllowed}
 use Rattle.bytes.specs.Numbers.{frameNumbers, coefficientsOf}
 use Rattle.records.specs.Reading.{readingOf, readingNumber, readingValues}
 use Rattle.records.specs.declared.Reading.the-variants.{Accepted}
@@ -46,7 +47,7 @@ pub circle-read :
       moves = record { field = 74; start = 74; length = 0 };
       point = record { field = 67; start = 70; length = 4 };
     })
-unfolding readingOf frameIn frameNumbers frameOf monomials coefficientsIn coefficientsOf
+unfolding readingOf framesAllowed frameAllowed frameNumbers frameOf monomialsOver monomials coefficientsOf
 circle-read = refl
 
 -- ---- refusals
@@ -104,5 +105,5 @@ right [] = true
 right (x ∷ xs) = refusedAs (x .bytes) (x .number) (x .offset) && right xs
 
 pub samples-right : right samples ≡ true
-unfolding right frameIn frameNumbers frameOf monomials coefficientsIn coefficientsOf
+unfolding right framesAllowed frameAllowed frameNumbers frameOf monomialsOver monomials coefficientsOf
 samples-right = refl

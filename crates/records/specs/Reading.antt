@@ -1,20 +1,22 @@
 -- What the reader makes of any bytes at all (document 01, 'The record' and 'Refused, and with which number'): the layout of an accepted record,
--- or the number and the offset of the first cause of refusal.
+-- or the number and the offset of the first cause of refusal. The reader goes from slot to slot; `at` is the offset where it stands.
 use Prim.Native.Nat.{ℕ, _+_, _-_}
-use mathlib.Core.Bool.{Bool, true, _&&_, _||_, cond}
-use mathlib.Core.List.{List, [], _∷_, foldl}
+use mathlib.Core.Bool.{Bool, true, false, _||_, not, cond}
+use mathlib.Core.List.{List, [], _∷_, _++_}
 use lib.ListN.{length, getD, take, drop}
 use lib.Dec.{eqb, leb, ltb}
-use Rattle.machine.specs.Kinds.{known}
+use Rattle.machine.specs.Refusals.{Test, _else_, firstFailed}
 use Rattle.bytes.specs.Numbers.{unsignedOf}
-use Rattle.records.specs.Table.{tags, tagNumber, required, lengthAllowed, valuesAllowed, valuesNumber}
+use Rattle.records.specs.Table.{slots, tagsIn, required, fieldRow}
+use Rattle.records.specs.declared.Head.{Head}
+use Rattle.records.specs.declared.Slot.{Slot}
+use Rattle.records.specs.declared.Slot.the-variants.{First, Second, Third, Fourth, Fifth}
 use Rattle.records.specs.declared.Tag.{Tag}
-use Rattle.records.specs.declared.Tag.the-variants.{Kind, Frame, Coefficients, Moves, Point}
-use Rattle.records.specs.declared.Layout.{Layout}
+use Rattle.records.specs.declared.Standing.{Standing}
+use Rattle.records.specs.declared.Standing.the-variants.{Field, Nothing}
 use Rattle.records.specs.declared.Extent.{Extent}
-use Rattle.records.specs.declared.Refusal.{Refusal}
+use Rattle.records.specs.declared.Layout.{Layout}
 use Rattle.records.specs.declared.Progress.{Progress}
-use Rattle.records.specs.declared.Progress.the-variants.{At, Stopped}
 use Rattle.records.specs.declared.Reading.{Reading}
 use Rattle.records.specs.declared.Reading.the-variants.{Accepted, Refused}
 
@@ -30,35 +32,49 @@ unfolding unsignedOf
 lengthAt s at = unsignedOf (take 2 (drop (at + 1) s))
 
 -- the value: as many bytes as the length says, or what is left of them
-unfoldable pub valueAt : List ℕ → ℕ → List ℕ
+unfoldable pub bytesAt : List ℕ → ℕ → List ℕ
 unfolding lengthAt
-valueAt s at = take (lengthAt s at) (drop (at + 3) s)
+bytesAt s at = take (lengthAt s at) (drop (at + 3) s)
 
--- tag and length are all there, and the tag is this one
-abbrev pub standsAt : Tag → List ℕ → ℕ → Bool
-standsAt tag s at = leb 3 (left s at) && eqb (getD s at 0) (tagNumber tag)
+-- what field 1 says: it comes first, so that its value begins at offset 3
+abbrev pub headOf : List ℕ → Head
+headOf s = record { kind = getD s 3 0; degree = getD s 4 0 }
 
--- the number of the first test that fails, and 0 where all pass
-abbrev pub firstFailed : List (Bool × ℕ) → ℕ
-firstFailed [] = 0
-firstFailed (test ∷ tests) = cond (test .0) (firstFailed tests) (test .1)
+-- the tests of a field with a right tag
+abbrev pub fieldTests : Tag → Head → List ℕ → ℕ → List Test
+fieldTests tag h s at =
+    -- 'length not one the table allows'
+    fieldRow tag .lengthAllowed h (lengthAt s at) else 3
+    -- 'value cut short'
+    ∷ leb (lengthAt s at) (left s (at + 3)) else 1
+    ∷ fieldRow tag .tests h (bytesAt s at)
 
--- what a field with the right tag is refused for: first its length is tested, then whether its value is whole, then its numbers; 0 where it is not refused
-unfoldable pub fieldRefusal : Tag → Layout → List ℕ → ℕ → ℕ
-unfolding lengthAllowed valuesAllowed lengthAt valueAt
-fieldRefusal tag l s at =
-    firstFailed
-    ((lengthAllowed tag (l .kind) (l .degree) (lengthAt s at), 3)
-    ∷ (leb (lengthAt s at) (left s (at + 3)), 1)
-    ∷ (valuesAllowed tag (l .kind) (l .degree) (valueAt s at), valuesNumber tag)
-    ∷ [])
+unfoldable pub fieldNumber : Tag → Head → List ℕ → ℕ → ℕ
+unfolding lengthAt bytesAt
+fieldNumber tag h s at = firstFailed (fieldTests tag h s at)
 
--- The refusal where the reader stands at no tag that may come next: too few bytes for a tag and a length is 1, another tag is 2, and so is
--- the end of the record, where the offset reached is the record's length.
-abbrev pub noField : List ℕ → ℕ → Refusal
-noField s at = record { number = cond (ltb 0 (left s at) && ltb (left s at) 3) 1 2; offset = at }
+-- ---- one slot
 
--- ---- the layout
+-- the field among these that has the tag byte
+abbrev pub tagAmong : List Tag → ℕ → Standing
+tagAmong [] byte = Nothing
+tagAmong (tag ∷ more) byte = cond (eqb byte (fieldRow tag .byte)) (Field tag) (tagAmong more byte)
+
+-- what stands in a slot: tag and length are all there, and the tag is one of the slot's
+unfoldable pub standing : Slot → List ℕ → ℕ → Standing
+standing slot s at = cond (leb 3 (left s at)) (tagAmong (tagsIn slot) (getD s at 0)) Nothing
+
+-- The tests where the reader stands at no tag that may come next: none fails unless a field is due. At the end of the record the offset is the record's length.
+abbrev pub missingTests : Bool → List ℕ → ℕ → List Test
+missingTests due s at =
+    -- '1 or 2 bytes left where a field begins'
+    (not due || (eqb (left s at) 0 || leb 3 (left s at))) else 1
+    -- 'tag unknown, repeated, lower than the last, or before a required lower one; or required one absent at the end'
+    ∷ not due else 2
+    ∷ []
+
+abbrev pub missingNumber : Bool → List ℕ → ℕ → ℕ
+missingNumber due s at = firstFailed (missingTests due s at)
 
 -- the extent of an absent field: nothing, after the last byte
 abbrev pub endExtent : List ℕ → Extent
@@ -69,72 +85,53 @@ unfoldable pub extentAt : List ℕ → ℕ → Extent
 unfolding lengthAt
 extentAt s at = record { field = at; start = at + 3; length = lengthAt s at }
 
--- the layout before any field
-abbrev pub blank : List ℕ → Layout
-blank s =
-    record {
-      kind = 0;
-      degree = 0;
-      head = endExtent s;
-      frame = endExtent s;
-      coefficients = endExtent s;
-      moves = endExtent s;
-      point = endExtent s;
-    }
+-- past the field at the offset; or still there, refused with a number or, where it is 0, not
+abbrev pub past : List ℕ → ℕ → Progress
+past s at = record { number = 0; at = at + 3 + lengthAt s at; extent = extentAt s at }
 
--- the two tags are the same
-abbrev pub sameTag : Tag → Tag → Bool
-sameTag t u = eqb (tagNumber t) (tagNumber u)
+abbrev pub stay : ℕ → List ℕ → ℕ → Progress
+stay number s at = record { number = number; at = at; extent = endExtent s }
 
--- the layout with one field more, at an offset; the value of field 1 is the kind byte and the degree byte
-unfoldable pub withField : Tag → Layout → List ℕ → ℕ → Layout
-unfolding extentAt
-withField tag l s at =
-    record {
-      kind = cond (sameTag tag Kind) (getD s (at + 3) 0) (l .kind);
-      degree = cond (sameTag tag Kind) (getD s (at + 4) 0) (l .degree);
-      head = cond (sameTag tag Kind) (extentAt s at) (l .head);
-      frame = cond (sameTag tag Frame) (extentAt s at) (l .frame);
-      coefficients = cond (sameTag tag Coefficients) (extentAt s at) (l .coefficients);
-      moves = cond (sameTag tag Moves) (extentAt s at) (l .moves);
-      point = cond (sameTag tag Point) (extentAt s at) (l .point);
-    }
+-- a field of the slot is taken, or refused; where there is none, a slot that must be filled is refused and another one is left empty
+unfoldable pub readStanding : Standing → Slot → Head → List ℕ → ℕ → Progress
+unfolding fieldNumber lengthAt extentAt
+readStanding (Field tag) slot h s at = let n = fieldNumber tag h s at in cond (eqb n 0) (past s at) (stay n s at)
+readStanding Nothing slot h s at = stay (missingNumber (required slot) s at) s at
 
--- ---- the fields, from the first to the last
+-- the reader comes to a slot; a refusal is passed on
+unfoldable pub readSlot : Slot → Head → List ℕ → Progress → Progress
+unfolding readStanding standing
+readSlot slot h s before = cond (eqb (before .number) 0) (readStanding (standing slot s (before .at)) slot h s (before .at)) before
 
--- field 1 is the first to be taken: at every other tag kind and degree are known
-abbrev pub headed : Tag → ℕ → ℕ → Bool
-headed tag kind degree = sameTag tag Kind || known kind degree
+-- after the last slot nothing may be left: what is, is no field
+unfoldable pub readEnd : List ℕ → Progress → Progress
+readEnd s last = cond (eqb (last .number) 0) (stay (missingNumber (ltb 0 (left s (last .at))) s (last .at)) s (last .at)) last
 
--- the reader may come to the tag
-abbrev pub ready : Tag → Progress → Bool
-ready tag (Stopped r) = true
-ready tag (At at l) = headed tag (l .kind) (l .degree)
+-- ---- all slots
 
--- past the field with the tag that begins at the offset, or stopped by its refusal
-unfoldable pub passed : Tag → Layout → List ℕ → ℕ → Progress
-unfolding fieldRefusal withField lengthAt
-passed tag l s at =
-    cond (eqb (fieldRefusal tag l s at) 0)
-    (At (at + 3 + lengthAt s at) (withField tag l s at))
-    (Stopped (record { number = fieldRefusal tag l s at; offset = at }))
+-- the layout by the extents of the slots, in their order
+abbrev pub layoutWith : List ℕ → List Extent → Layout
+layoutWith s es =
+    let e : ℕ → Extent = λ k. getD es k (endExtent s) in
+    record { kind = headOf s .kind; degree = headOf s .degree; head = e 0; frame = e 1; coefficients = e 2; moves = e 3; point = e 4 }
 
--- The reader comes to a tag: a field with the tag is taken; where there is none, a required tag stops the reader and another one does not.
-unfoldable pub taken : List ℕ → Progress → Tag → Progress
-unfolding passed
-taken s (Stopped r) tag = Stopped r
-taken s (At at l) tag =
-    cond (standsAt tag s at) (passed tag l s at) (cond (required tag) (Stopped (noField s at)) (At at l))
+-- the reading by how far the reader has come after all slots
+unfoldable pub concluded : List ℕ → Progress → List Extent → Reading
+concluded s end es = cond (eqb (end .number) 0) (Accepted (layoutWith s es)) (Refused (record { number = end .number; offset = end .at }))
 
--- after the last tag nothing may be left: what is, is no field
-unfoldable pub finished : List ℕ → Progress → Reading
-finished s (Stopped r) = Refused r
-finished s (At at l) = cond (eqb (left s at) 0) (Accepted l) (Refused (noField s at))
+-- the reading from there on, with the extents so far
+abbrev pub onward : List Slot → List ℕ → Progress → List Extent → Reading
+onward [] s here es = concluded s (readEnd s here) es
+onward (slot ∷ rest) s here es = let next = readSlot slot (headOf s) s here in onward rest s next (es ++ (next .extent ∷ []))
 
--- the reading of any bytes: the tags in their order, and then the end
+-- the reading of any bytes: the slots in their order, and then the end
 unfoldable pub readingOf : List ℕ → Reading
-unfolding taken finished
-readingOf s = finished s (foldl (taken s) (At 0 (blank s)) tags)
+unfolding readSlot readEnd concluded
+readingOf s = onward slots s (stay 0 s 0) []
+
+-- a layout of no kind, in which every field is absent: a refused record has no other
+abbrev pub noFields : List ℕ → Layout
+noFields s = let e = endExtent s in record { kind = 0; degree = 0; head = e; frame = e; coefficients = e; moves = e; point = e }
 
 -- ---- number and values of each case
 
@@ -150,25 +147,29 @@ readingValues (Refused r) = r .offset ∷ []
 
 -- ---- a field's value: where it stands, and its bytes
 
--- the extent of the field with a tag, in an accepted record
-abbrev pub extentOf : Tag → Layout → Extent
-extentOf Kind l = l .head
-extentOf Frame l = l .frame
-extentOf Coefficients l = l .coefficients
-extentOf Moves l = l .moves
-extentOf Point l = l .point
+-- the extent of what stands in a slot, in an accepted record
+abbrev pub extentIn : Slot → Layout → Extent
+extentIn First l = l .head
+extentIn Second l = l .frame
+extentIn Third l = l .coefficients
+extentIn Fourth l = l .moves
+extentIn Fifth l = l .point
 
--- the same by the tag's number; a number that is no tag is an absent field
-abbrev pub extentAmong : List Tag → List ℕ → Layout → ℕ → Extent
+-- the same by the tag byte; a number that is no tag is an absent field
+abbrev pub isTag : Standing → Bool
+isTag (Field tag) = true
+isTag Nothing = false
+
+abbrev pub extentAmong : List Slot → List ℕ → Layout → ℕ → Extent
 extentAmong [] s l n = endExtent s
-extentAmong (tag ∷ rest) s l n = cond (eqb n (tagNumber tag)) (extentOf tag l) (extentAmong rest s l n)
+extentAmong (slot ∷ rest) s l n = cond (isTag (tagAmong (tagsIn slot) n)) (extentIn slot l) (extentAmong rest s l n)
 
 -- by the reading: in a refused record every field counts as absent
 unfoldable pub extentBy : Reading → List ℕ → ℕ → Extent
-extentBy (Accepted l) s n = extentAmong tags s l n
+extentBy (Accepted l) s n = extentAmong slots s l n
 extentBy (Refused r) s n = endExtent s
 
--- where the value of the field with a tag's number stands in any bytes
+-- where the value of the field with a tag byte stands in any bytes
 unfoldable pub fieldExtent : List ℕ → ℕ → Extent
 unfolding extentBy readingOf
 fieldExtent s n = extentBy (readingOf s) s n

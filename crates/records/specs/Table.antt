@@ -1,89 +1,109 @@
--- Document 01's table of fields ('The record'): the tags in their order, and for each its length and the values that it may have. What a kind, a frame and
--- coefficients may be is said in machine's specs, Kinds and First; here stand only the places of their bytes.
-use Prim.Native.Nat.{ℕ, suc, _*_, _%_}
+-- Document 01's table of fields ('The record'): the slots in their order, what may stand in each, and a row for each field: its tag byte, its lengths and the
+-- tests of its value with their refusals. What a kind is and which frames it accepts is said in kinds' specs; here stand only the places of their bytes.
+use Prim.Native.Nat.{ℕ, _*_, _%_}
 use mathlib.Core.Bool.{Bool, true, false, _&&_}
 use mathlib.Core.List.{List, [], _∷_}
 use lib.ListN.{length, getD}
 use lib.Dec.{eqb, leb}
-use Rattle.polar.specs.Order.{monomials}
-use Rattle.machine.specs.Kinds.{further, known}
+use Rattle.integers.specs.Test.{within, all}
+use Rattle.polar.specs.Groups.{Group, monomialsOver}
+use Rattle.kinds.specs.Kinds.{groupsOf, known}
+use Rattle.kinds.specs.Frames.{vertexCount, frameCount, framesAllowed}
+use Rattle.machine.specs.Refusals.{Test, _else_}
 use Rattle.machine.specs.Comparison.{Polynomials}
-use Rattle.machine.specs.First.{frameIn, coefficientsIn}
 use Rattle.bytes.specs.Numbers.{frameNumbers, coefficientsOf}
+use Rattle.records.specs.declared.Head.{Head}
+use Rattle.records.specs.declared.Slot.{Slot}
+use Rattle.records.specs.declared.Slot.the-variants.{First, Second, Third, Fourth, Fifth}
 use Rattle.records.specs.declared.Tag.{Tag}
 use Rattle.records.specs.declared.Tag.the-variants.{Kind, Frame, Coefficients, Moves, Point}
 
--- ---- the tags
+-- ---- the slots, in the order in which fields come: 'tags rise'
 
--- the order in which tags may come
-abbrev pub tags : List Tag
-tags = Kind ∷ Frame ∷ Coefficients ∷ Moves ∷ Point ∷ []
+abbrev pub slots : List Slot
+slots = First ∷ Second ∷ Third ∷ Fourth ∷ Fifth ∷ []
 
--- the tag byte
-abbrev pub tagNumber : Tag → ℕ
-tagNumber Kind = 1
-tagNumber Frame = 2
-tagNumber Coefficients = 3
-tagNumber Moves = 4
-tagNumber Point = 5
+-- the field that a slot is for
+abbrev pub tagOf : Slot → Tag
+tagOf First = Kind
+tagOf Second = Frame
+tagOf Third = Coefficients
+tagOf Fourth = Moves
+tagOf Fifth = Point
 
--- whether a record must have the tag: only moves and the point can be left out
-abbrev pub required : Tag → Bool
-required Kind = true
-required Frame = true
-required Coefficients = true
-required Moves = false
-required Point = false
+-- the fields that may stand in a slot, one of them in each record: as yet none stands in place of another
+abbrev pub tagsIn : Slot → List Tag
+tagsIn slot = tagOf slot ∷ []
 
--- ---- lengths
+-- 'Tags 1, 2, 3 are required, 4 and 5 may be absent'
+abbrev pub required : Slot → Bool
+required First = true
+required Second = true
+required Third = true
+required Fourth = false
+required Fifth = false
 
--- how many vertices a frame has, and how many numbers each of them
-abbrev pub vertices : ℕ → ℕ
-vertices kind = suc (further kind)
+-- ---- lengths and numbers, by what field 1 says
+
+-- the groups of vertices; the kinds that a record may have no second degree
+abbrev pub headGroups : Head → List Group
+headGroups h = groupsOf (h .kind) (h .degree) 0
 
 -- 2 bytes for each number of a frame
-abbrev pub frameLength : ℕ → ℕ
-frameLength kind = 2 * vertices kind * vertices kind
+abbrev pub frameLength : List Group → ℕ
+frameLength gs = 2 * frameCount gs
 
--- four components of 4 bytes for each monomial
-abbrev pub coefficientsLength : ℕ → ℕ → ℕ
-coefficientsLength kind degree = 16 * length (monomials (further kind) degree)
+-- four coefficients x, y, z, w for each monomial, 4 bytes for each of them
+abbrev pub coefficientCount : List Group → ℕ
+coefficientCount gs = 4 * length (monomialsOver gs)
 
--- 2 bytes for the weight of each vertex
-abbrev pub pointLength : ℕ → ℕ
-pointLength kind = 2 * vertices kind
+abbrev pub coefficientsLength : List Group → ℕ
+coefficientsLength gs = 16 * length (monomialsOver gs)
 
 -- whole moves of 8 bytes each, none up to 32 of them
 abbrev pub movesLengthAllowed : ℕ → Bool
 movesLengthAllowed n = eqb (n % 8) 0 && leb n 256
 
--- the column 'Length': whether the table allows the length n for the tag, at the kind and degree of field 1
-unfoldable pub lengthAllowed : Tag → ℕ → ℕ → ℕ → Bool
-lengthAllowed Kind kind degree n = eqb n 2
-lengthAllowed Frame kind degree n = eqb n (frameLength kind)
-lengthAllowed Coefficients kind degree n = eqb n (coefficientsLength kind degree)
-lengthAllowed Moves kind degree n = movesLengthAllowed n
-lengthAllowed Point kind degree n = eqb n (pointLength kind)
+-- 2 bytes for the weight of each vertex
+abbrev pub pointLength : List Group → ℕ
+pointLength gs = 2 * vertexCount gs
 
--- ---- values
-
--- the polynomials of a record whose part begins with field 3's value
+-- the polynomials of a part that begins with field 3's value
 abbrev pub polynomialsOf : ℕ → ℕ → List ℕ → Polynomials
 polynomialsOf kind degree part =
-    record { kind = kind; degree = degree; coefficients = coefficientsOf part (4 * length (monomials (further kind) degree)) }
+    record { kind = kind; degree = degree; second = 0; coefficients = coefficientsOf part (coefficientCount (groupsOf kind degree 0)) }
 
--- Whether the values of a field are within their limits, at the kind and degree of field 1. Moves and the point always pass: the reader does not judge them.
-unfoldable pub valuesAllowed : Tag → ℕ → ℕ → List ℕ → Bool
-valuesAllowed Kind kind degree value = known (getD value 0 0) (getD value 1 0)
-valuesAllowed Frame kind degree value = frameIn (vertices kind) (frameNumbers value)
-valuesAllowed Coefficients kind degree value = coefficientsIn (polynomialsOf kind degree value)
-valuesAllowed Moves kind degree value = true
-valuesAllowed Point kind degree value = true
+-- ---- the rows
 
--- the refusal's number where they are not: 4 for the head, 5 for the frame, 6 for the coefficients; the other two tags have none
-abbrev pub valuesNumber : Tag → ℕ
-valuesNumber Kind = 4
-valuesNumber Frame = 5
-valuesNumber Coefficients = 6
-valuesNumber Moves = 0
-valuesNumber Point = 0
+-- The tag byte; which lengths are allowed, and what is tested of a value of such a length, both by what field 1 says.
+pub record FieldRow : Type 0 where
+  pub byte : ℕ
+  pub lengthAllowed : Head → ℕ → Bool
+  pub tests : Head → List ℕ → List Test
+
+abbrev pub fieldRow : Tag → FieldRow
+-- 'kind byte (1 curve, 2 patch), degree byte'; 'kind or degree outside' is 4
+fieldRow Kind =
+    record {
+      byte = 1;
+      lengthAllowed = λ h n. eqb n 2;
+      tests = λ h value. known (getD value 0 0) (getD value 1 0) 0 else 4 ∷ [];
+    }
+-- 'r, s (, t), each as T, Z or U, V, Z, 16-bit signed'; 'frame number outside, or determinant 0' is 5
+fieldRow Frame =
+    record {
+      byte = 2;
+      lengthAllowed = λ h n. eqb n (frameLength (headGroups h));
+      tests = λ h value. framesAllowed (headGroups h) (frameNumbers value) else 5 ∷ [];
+    }
+-- 'x, y, z, w of each [monomial], 32-bit signed'; 'coefficient outside' is 6
+fieldRow Coefficients =
+    record {
+      byte = 3;
+      lengthAllowed = λ h n. eqb n (coefficientsLength (headGroups h));
+      tests = λ h value. all (within 1048576) (polynomialsOf (h .kind) (h .degree) value .coefficients) else 6 ∷ [];
+    }
+-- 'operation byte, vertex byte, three 16-bit weights', of each move; 'A record's moves and point are judged when made, not when read'
+fieldRow Moves = record { byte = 4; lengthAllowed = λ h n. movesLengthAllowed n; tests = λ h value. [] }
+-- 'weights of a point, 16-bit signed'
+fieldRow Point = record { byte = 5; lengthAllowed = λ h n. eqb n (pointLength (headGroups h)); tests = λ h value. [] }

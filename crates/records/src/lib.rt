@@ -2,35 +2,29 @@
 // gives its layout or the refusal's number and offset; `value` and `field` give a field's value, a
 // slice of the record. All of them are defined for every input.
 //
-// The definitions are those of specs/: Table (tags, lengths and which values are allowed), Reading
-// (the fields, front to back) and Causes (the table of refusals as propositions). What bytes make of
-// numbers is the crate bytes', and what is accepted of a kind, a frame and coefficients is machine's.
+// The reader goes from slot to slot, and one function takes every slot. The definitions are those of
+// specs/: Table (the slots, and a row for each field: tag, lengths, tests), Reading (one slot, and then
+// all) and Causes (the table of refusals as propositions). What bytes make of numbers is the crate
+// bytes', and what is accepted of a kind and a frame is kinds'.
 ghost use mathlib.Core.Path.{_≡_};
-ghost use mathlib.Core.Bool.{true, cond};
+ghost use mathlib.Core.Bool.{true};
+ghost use mathlib.Core.List.{[], _∷_};
 ghost use Prim.Native.Nat.{_+_, _<_, _≤_};
-ghost use lib.ListN.{length, take};
-ghost use Rattle.machine.specs.Kinds.{known};
-ghost use Rattle.records.specs.Table.{
-  tags,
-  tagNumber,
-  required,
-  movesLengthAllowed,
-  lengthAllowed,
-  valuesAllowed,
-  valuesNumber,
-};
+ghost use lib.ListN.{length};
+ghost use Rattle.machine.specs.Refusals.{_else_, firstFailed};
+ghost use Rattle.bytes.specs.Parts.{Lies, toEnd};
+ghost use Rattle.records.specs.Table.{slots, tagOf, required, movesLengthAllowed, fieldRow};
 ghost use Rattle.records.specs.Reading.{
   left,
   lengthAt,
-  standsAt,
-  headed,
-  fieldRefusal,
-  noField,
+  fieldNumber,
+  standing,
+  missingNumber,
   endExtent,
-  extentAt,
-  withField,
-  taken,
-  finished,
+  stay,
+  readStanding,
+  readSlot,
+  readEnd,
   readingOf,
   readingNumber,
   readingValues,
@@ -38,20 +32,17 @@ ghost use Rattle.records.specs.Reading.{
   fieldExtent,
   bytesOf,
 };
-ghost use Rattle.records.specs.Causes.{Told};
-ghost use Rattle.records.specs.declared.Layout.{Layout};
-ghost use Rattle.records.specs.declared.Tag.the-variants.{Moves, Point};
-ghost use Rattle.records.specs.declared.Progress.the-variants.{At, Stopped};
-ghost use Rattle.records.specs.declared.Reading.the-variants.{Refused};
+ghost use Rattle.records.specs.Causes.{Verdict};
 use bytes::byte_at;
 use bytes::coefficients_within;
 use bytes::first_part;
 use bytes::frame_numbers;
 use bytes::part_from;
-use frames::coefficient_count;
-use frames::frame_in;
-use frames::known_kind;
-use frames::vertex_count;
+use kinds::frame_allowed;
+use kinds::frame_count;
+use kinds::known_kind;
+use kinds::number_count;
+use kinds::vertex_count;
 
 // Where a field stands: the offset of the field itself, the offset of its value, and the value's
 // length. An absent field has the empty value at the record's end.
@@ -61,7 +52,7 @@ pub struct Extent {
     pub length: usize,
 }
 
-// An accepted record: kind and degree, and where the fields 1 to 5 stand.
+// An accepted record: kind and degree, and where what stands in each slot is.
 pub struct Layout {
     pub kind: u8,
     pub degree: u8,
@@ -84,7 +75,22 @@ pub enum Reading {
     Refused(Refusal),
 }
 
-// The tags 1 to 5, in their order. Callers give a tag by its number; the definitions name it.
+// What field 1 says, on which the lengths and values of the others depend.
+pub struct Head {
+    pub kind: u8,
+    pub degree: u8,
+}
+
+// The slots of a record, in their order: each may have one field, or must.
+pub enum Slot {
+    First,
+    Second,
+    Third,
+    Fourth,
+    Fifth,
+}
+
+// The fields, by their tags. Callers give a tag by its number; the definitions name it.
 pub enum Tag {
     Kind,
     Frame,
@@ -93,11 +99,18 @@ pub enum Tag {
     Point,
 }
 
-// How far the reader has come: at an offset, with the layout so far, or stopped by a refusal. The
-// definitions go from one to the next; the code has the numbers alone.
-enum Progress {
-    At(usize, Layout),
-    Stopped(Refusal),
+// What stands in a slot: a field, or nothing.
+pub enum Standing {
+    Field(Tag),
+    Nothing,
+}
+
+// How far the reader has come: the offset where it stands, and where what stood in the last slot is. A
+// number that is not 0 is a refusal's, and the offset then is the refusal's too.
+pub struct Progress {
+    pub number: u8,
+    pub at: usize,
+    pub extent: Extent,
 }
 
 // The largest absolute value of a coefficient, 2 to the 20th.
@@ -105,8 +118,9 @@ const COEFFICIENT_LIMIT: usize = 1048576;
 
 // ---- the table of fields
 
-fn tag_number(tag: Tag) -> u8
-    ensures { λ r. ⌜ r ≡ tagNumber tag ⌝ }
+// The tag byte of a field.
+fn tag_byte(tag: Tag) -> u8
+    ensures { λ r. ⌜ r ≡ fieldRow tag .byte ⌝ }
 {
     match tag {
         Tag::Kind => 1,
@@ -117,15 +131,29 @@ fn tag_number(tag: Tag) -> u8
     }
 }
 
-fn is_required(tag: Tag) -> bool
-    ensures { λ r. ⌜ r ≡ required tag ⌝ }
+// The field that the slot is for.
+fn tag_of(slot: Slot) -> Tag
+    ensures { λ r. ⌜ r ≡ tagOf slot ⌝ }
 {
-    match tag {
-        Tag::Kind => true,
-        Tag::Frame => true,
-        Tag::Coefficients => true,
-        Tag::Moves => false,
-        Tag::Point => false,
+    match slot {
+        Slot::First => Tag::Kind,
+        Slot::Second => Tag::Frame,
+        Slot::Third => Tag::Coefficients,
+        Slot::Fourth => Tag::Moves,
+        Slot::Fifth => Tag::Point,
+    }
+}
+
+// Whether a field must stand in the slot.
+fn is_required(slot: Slot) -> bool
+    ensures { λ r. ⌜ r ≡ required slot ⌝ }
+{
+    match slot {
+        Slot::First => true,
+        Slot::Second => true,
+        Slot::Third => true,
+        Slot::Fourth => false,
+        Slot::Fifth => false,
     }
 }
 
@@ -139,46 +167,43 @@ fn moves_length_allowed(n: usize) -> bool
     n <= 256
 }
 
-// Whether the table allows the length n for the tag, at the kind and degree of field 1.
+// Whether the table allows the length n for the field, at the kind and degree of field 1.
 fn length_allowed(tag: Tag, kind: u8, degree: u8, n: usize) -> bool
-    ensures { λ r. ⌜ r ≡ lengthAllowed tag kind degree n ⌝ }
+    ensures { λ r. ⌜ r ≡ fieldRow tag .lengthAllowed (record { kind = kind; degree = degree }) n ⌝ }
 {
-    let d = vertex_count(kind);
     match tag {
         Tag::Kind => n == 2,
-        Tag::Frame => n == 2 * d * d,
-        Tag::Coefficients => n == 4 * coefficient_count(kind, degree),
+        Tag::Frame => n == 2 * frame_count(kind),
+        Tag::Coefficients => n == 4 * number_count(kind, degree, 0),
         Tag::Moves => moves_length_allowed(n),
-        Tag::Point => n == 2 * d,
+        Tag::Point => n == 2 * vertex_count(kind),
     }
 }
 
-// Whether the values of a field are within their limits, where the part begins with them and the
-// length n is the table's. Moves and the point are not judged here.
-fn values_allowed(tag: Tag, kind: u8, degree: u8, part: &[u8], n: usize) -> bool
-    requires { ⌜ (headed tag kind degree ≡ true) × (lengthAllowed tag kind degree n ≡ true) ⌝ }
-    ensures { λ r. ⌜ r ≡ valuesAllowed tag kind degree (take n (now (part .entry))) ⌝ }
+// The number, or 0 where the test passes.
+fn unless(test: bool, number: u8) -> u8
+    ensures { λ r. ⌜ r ≡ firstFailed (test else number ∷ []) ⌝ }
 {
-    let value = first_part(part, n);
+    if test {
+        return 0;
+    }
+    number
+}
+
+// The number of the first test that a field's value fails, 0 where there is none; its length is one that
+// the table allows, so that it holds all its coefficients and no more. Moves and the point are not judged
+// here.
+fn value_number(tag: Tag, head: Head, value: &[u8]) -> u8
+    requires { ⌜ fieldRow tag .lengthAllowed head (length (now value)) ≡ true ⌝ }
+    ensures { λ r. ⌜ r ≡ firstFailed (fieldRow tag .tests head (now (value .entry))) ⌝ }
+{
     match tag {
-        Tag::Kind => known_kind(byte_at(value, 0), byte_at(value, 1)),
-        Tag::Frame => frame_in(kind, frame_numbers(value)),
+        Tag::Kind => unless(known_kind(byte_at(value, 0), byte_at(value, 1), 0), 4),
+        Tag::Frame => unless(frame_allowed(head.kind, frame_numbers(value)), 5),
         Tag::Coefficients => {
-            coefficients_within(part, coefficient_count(kind, degree), COEFFICIENT_LIMIT)
+            let count = value.len() / 4;
+            unless(coefficients_within(value, count, COEFFICIENT_LIMIT), 6)
         }
-        Tag::Moves => true,
-        Tag::Point => true,
-    }
-}
-
-// The refusal's number where they are not.
-fn values_number(tag: Tag) -> u8
-    ensures { λ r. ⌜ r ≡ valuesNumber tag ⌝ }
-{
-    match tag {
-        Tag::Kind => 4,
-        Tag::Frame => 5,
-        Tag::Coefficients => 6,
         Tag::Moves => 0,
         Tag::Point => 0,
     }
@@ -207,20 +232,46 @@ fn length_at(input: &[u8], at: usize) -> usize
     256 * high + low
 }
 
-// Whether three bytes are left, the first of which is the tag.
-fn stands_at(tag: Tag, input: &[u8], at: usize) -> bool
-    ensures { λ r. ⌜ r ≡ standsAt tag (now (input .entry)) at ⌝ }
+// The number that the field at `at`, n bytes long, is refused with; 0 where it is not. The tests go by
+// the document's order: the length, then whether the value is whole, then the value.
+fn field_number(tag: Tag, head: Head, input: &[u8], at: usize, n: usize) -> u8
+    requires { ⌜ (at + 3 ≤ length (now input)) × (n ≡ lengthAt (now input) at) ⌝ }
+    ensures { λ r. ⌜ r ≡ fieldNumber tag head (now (input .entry)) at ⌝ }
 {
-    if bytes_left(input, at) < 3 {
-        return false;
+    if !length_allowed(tag, head.kind, head.degree, n) {
+        return 3;
     }
-    input[at] == tag_number(tag)
+    let start = at + 3;
+    if input.len() - start < n {
+        return 1;
+    }
+    value_number(tag, head, first_part(part_from(input, start), n))
 }
 
-// The refusal's number where no tag that may come next stands: 1 where one or two bytes are left, else 2.
-fn no_field_number(input: &[u8], at: usize) -> u8
-    ensures { λ r. ⌜ r ≡ noField (now (input .entry)) at .number ⌝ }
+// ---- one slot
+
+// What stands in the slot: three bytes are left, the first of which is a tag of the slot.
+fn stands(slot: Slot, input: &[u8], at: usize) -> Standing
+    ensures { λ r. ⌜ r ≡ standing slot (now (input .entry)) at ⌝ }
 {
+    if bytes_left(input, at) < 3 {
+        return Standing::Nothing;
+    }
+    let tag = tag_of(slot);
+    if input[at] == tag_byte(tag) {
+        return Standing::Field(tag);
+    }
+    Standing::Nothing
+}
+
+// The refusal's number where no tag that may come next stands and a field is due: 1 where one or two
+// bytes are left, else 2. It is 0 where none is due.
+fn missing_number(due: bool, input: &[u8], at: usize) -> u8
+    ensures { λ r. ⌜ r ≡ missingNumber due (now (input .entry)) at ⌝ }
+{
+    if !due {
+        return 0;
+    }
     let n = bytes_left(input, at);
     if n == 0 {
         return 2;
@@ -230,29 +281,6 @@ fn no_field_number(input: &[u8], at: usize) -> u8
     }
     2
 }
-
-// The number that the field at `at`, whose tag is right, is refused with; 0 where it is not. The tests
-// go by the document's order: the length, then whether the value is whole, then its numbers. Of the
-// layout so far only kind and degree matter.
-fn field_refusal(tag: Tag, kind: u8, degree: u8, input: &[u8], at: usize) -> u8
-    requires { ⌜ (at + 3 ≤ length (now input)) × (headed tag kind degree ≡ true) ⌝ }
-    ensures { λ r. ⌜ ((l : Layout) → l .kind ≡ kind → l .degree ≡ degree → r ≡ fieldRefusal tag l (now (input .entry)) at) ⌝ }
-{
-    let n = length_at(input, at);
-    if !length_allowed(tag, kind, degree, n) {
-        return 3;
-    }
-    let start = at + 3;
-    if input.len() - start < n {
-        return 1;
-    }
-    if values_allowed(tag, kind, degree, part_from(input, start), n) {
-        return 0;
-    }
-    values_number(tag)
-}
-
-// ---- the layout
 
 // The extent of an absent field.
 fn end_extent(input: &[u8]) -> Extent
@@ -265,142 +293,105 @@ fn end_extent(input: &[u8]) -> Extent
     }
 }
 
-// The extent of the field at `at`.
-fn extent_at(input: &[u8], at: usize) -> Extent
+// Still at the offset, with a refusal's number or 0.
+fn stay_at(number: u8, input: &[u8], at: usize) -> Progress
+    ensures { λ r. ⌜ r ≡ stay number (now (input .entry)) at ⌝ }
+{
+    Progress {
+        number,
+        at,
+        extent: end_extent(input),
+    }
+}
+
+// Takes the field at `at`, or refuses it.
+fn read_field(tag: Tag, slot: Slot, head: Head, input: &[u8], at: usize) -> Progress
     requires { ⌜ at + 3 ≤ length (now input) ⌝ }
-    ensures { λ r. ⌜ r ≡ extentAt (now (input .entry)) at ⌝ }
+    ensures { λ r. ⌜ r ≡ readStanding (Standing.Field tag) slot head (now (input .entry)) at ⌝ }
 {
-    Extent {
-        field: at,
-        start: at + 3,
-        length: length_at(input, at),
+    let n = length_at(input, at);
+    let number = field_number(tag, head, input, at, n);
+    if number != 0 {
+        return stay_at(number, input, at);
+    }
+    let body = at + 3;
+    let next = body + n;
+    Progress {
+        number: 0,
+        at: next,
+        extent: Extent {
+            field: at,
+            start: body,
+            length: n,
+        },
     }
 }
 
-// The extent of the field with the tag, which may be absent, where the reader comes to it at `at`.
-fn extent_if_there(tag: Tag, input: &[u8], at: usize) -> Extent
-    ensures { λ r. ⌜ r ≡ cond (standsAt tag (now (input .entry)) at) (extentAt (now (input .entry)) at) (endExtent (now (input .entry))) ⌝ }
+// Comes to a slot. A refusal is passed on.
+fn read_slot(slot: Slot, head: Head, input: &[u8], before: Progress) -> Progress
+    ensures { λ r. ⌜ r ≡ readSlot slot head (now (input .entry)) before ⌝ }
 {
-    if stands_at(tag, input, at) {
-        return extent_at(input, at);
+    if before.number != 0 {
+        return before;
     }
-    end_extent(input)
-}
-
-// ---- the fields, front to back
-
-// The number that the reader stops with where it comes to a tag at `at`; 0 where it goes on. It takes
-// the field with the tag; where there is none, it stops at a required tag and goes on at another.
-fn tag_refusal(tag: Tag, kind: u8, degree: u8, input: &[u8], at: usize) -> u8
-    requires { ⌜ headed tag kind degree ≡ true ⌝ }
-    ensures stops { λ r. ⌜ ((l : Layout) → l .kind ≡ kind → l .degree ≡ degree → (r ≡ 0 → ⊥) → taken (now (input .entry)) (At at l) tag ≡ Stopped (record { number = r; offset = at })) ⌝ }
-    ensures takes { λ r. ⌜ ((l : Layout) → l .kind ≡ kind → l .degree ≡ degree → r ≡ 0 → standsAt tag (now (input .entry)) at ≡ true → taken (now (input .entry)) (At at l) tag ≡ At (at + 3 + lengthAt (now (input .entry)) at) (withField tag l (now (input .entry)) at)) ⌝ }
-    ensures there { λ r. ⌜ (r ≡ 0 → required tag ≡ true → standsAt tag (now (input .entry)) at ≡ true) ⌝ }
-{
-    if stands_at(tag, input, at) {
-        return field_refusal(tag, kind, degree, input, at);
-    }
-    if is_required(tag) {
-        return no_field_number(input, at);
-    }
-    0
-}
-
-// Where the field at `at` ends.
-fn field_end(input: &[u8], at: usize) -> usize
-    requires { ⌜ at + 3 ≤ length (now input) ⌝ }
-    ensures { λ r. ⌜ r ≡ at + 3 + lengthAt (now (input .entry)) at ⌝ }
-{
-    at + 3 + length_at(input, at)
-}
-
-// Where the reader goes on after a tag that may be absent: past the field with the tag, or where it is.
-fn offset_after(tag: Tag, input: &[u8], at: usize) -> usize
-    ensures { λ r. ⌜ r ≡ cond (standsAt tag (now (input .entry)) at) (at + 3 + lengthAt (now (input .entry)) at) at ⌝ }
-{
-    if stands_at(tag, input, at) {
-        return field_end(input, at);
-    }
-    at
-}
-
-// A refusal as a reading.
-fn refused(number: u8, offset: usize) -> Reading
-    ensures { λ r. ⌜ r ≡ Refused (record { number = number; offset = offset }) ⌝ }
-{
-    Reading::Refused(Refusal { number, offset })
-}
-
-// The layout of a record whose fields begin at these offsets, or would begin there.
-fn layout_at(
-    kind: u8,
-    degree: u8,
-    input: &[u8],
-    frame: usize,
-    coefficients: usize,
-    moves: usize,
-    point: usize,
-) -> Layout
-    requires { ⌜ (3 ≤ length (now input)) × (frame + 3 ≤ length (now input)) × (coefficients + 3 ≤ length (now input)) ⌝ }
-    ensures { λ r. ⌜ r ≡ record { kind = kind; degree = degree; head = extentAt (now (input .entry)) 0; frame = extentAt (now (input .entry)) frame; coefficients = extentAt (now (input .entry)) coefficients; moves = cond (standsAt Moves (now (input .entry)) moves) (extentAt (now (input .entry)) moves) (endExtent (now (input .entry))); point = cond (standsAt Point (now (input .entry)) point) (extentAt (now (input .entry)) point) (endExtent (now (input .entry))) } ⌝ }
-{
-    Layout {
-        kind,
-        degree,
-        head: extent_at(input, 0),
-        frame: extent_at(input, frame),
-        coefficients: extent_at(input, coefficients),
-        moves: extent_if_there(Tag::Moves, input, moves),
-        point: extent_if_there(Tag::Point, input, point),
+    let at = before.at;
+    match stands(slot, input, at) {
+        Standing::Field(tag) => read_field(tag, slot, head, input, at),
+        Standing::Nothing => stay_at(missing_number(is_required(slot), input, at), input, at),
     }
 }
 
-// Reads on after field 3, which begins at `coefficients`: moves and the point may be absent, and
-// nothing may be left after them.
-fn read_on(kind: u8, degree: u8, input: &[u8], frame: usize, coefficients: usize) -> Reading
-    requires { ⌜ (known kind degree ≡ true) × (3 ≤ length (now input)) × (frame + 3 ≤ length (now input)) × (coefficients + 3 ≤ length (now input)) ⌝ }
-    ensures { λ r. ⌜ r ≡ finished (now (input .entry)) (taken (now (input .entry)) (taken (now (input .entry)) (At (coefficients + 3 + lengthAt (now (input .entry)) coefficients) (record { kind = kind; degree = degree; head = extentAt (now (input .entry)) 0; frame = extentAt (now (input .entry)) frame; coefficients = extentAt (now (input .entry)) coefficients; moves = endExtent (now (input .entry)); point = endExtent (now (input .entry)) })) Moves) Point) ⌝ }
+// Comes to the end: nothing may be left. A refusal is passed on.
+fn read_end(input: &[u8], last: Progress) -> Progress
+    ensures { λ r. ⌜ r ≡ readEnd (now (input .entry)) last ⌝ }
 {
-    let moves = field_end(input, coefficients);
-    let fourth = tag_refusal(Tag::Moves, kind, degree, input, moves);
-    if fourth != 0 {
-        return refused(fourth, moves);
+    if last.number != 0 {
+        return last;
     }
-    let point = offset_after(Tag::Moves, input, moves);
-    let fifth = tag_refusal(Tag::Point, kind, degree, input, point);
-    if fifth != 0 {
-        return refused(fifth, point);
-    }
-    let end = offset_after(Tag::Point, input, point);
-    if bytes_left(input, end) != 0 {
-        return refused(no_field_number(input, end), end);
-    }
-    Reading::Accepted(layout_at(kind, degree, input, frame, coefficients, moves, point))
+    let at = last.at;
+    stay_at(
+        missing_number(0 < bytes_left(input, at), input, at),
+        input,
+        at,
+    )
 }
 
-// Reads a record: the tags are taken in their order, and so the fields front to back. Number and
+// ---- all slots
+
+// Reads a record: the slots are taken in their order, and so the fields front to back. Number and
 // values are those of the table: 0 with kind and degree, or a row's number with the offset.
 pub fn read(input: &[u8]) -> Reading
     ensures reading { λ r. ⌜ r ≡ readingOf (now (input .entry)) ⌝ }
-    ensures told { λ r. ⌜ Told (now (input .entry)) (readingNumber r) (readingValues r) ⌝ }
+    ensures verdict { λ r. ⌜ Verdict (now (input .entry)) (readingNumber r) (readingValues r) ⌝ }
 {
-    let first = tag_refusal(Tag::Kind, 0, 0, input, 0);
-    if first != 0 {
-        return refused(first, 0);
-    }
     let kind = byte_at(input, 3);
     let degree = byte_at(input, 4);
-    let frame = field_end(input, 0);
-    let second = tag_refusal(Tag::Frame, kind, degree, input, frame);
-    if second != 0 {
-        return refused(second, frame);
+    let said = Head { kind, degree };
+    let first = read_slot(Slot::First, said, input, stay_at(0, input, 0));
+    let second = read_slot(Slot::Second, said, input, first);
+    let third = read_slot(Slot::Third, said, input, second);
+    let fourth = read_slot(Slot::Fourth, said, input, third);
+    let fifth = read_slot(Slot::Fifth, said, input, fourth);
+    let end = read_end(input, fifth);
+    let number = end.number;
+    if number != 0 {
+        let offset = end.at;
+        return Reading::Refused(Refusal { number, offset });
     }
-    let coefficients = field_end(input, frame);
-    let third = tag_refusal(Tag::Coefficients, kind, degree, input, coefficients);
-    if third != 0 {
-        return refused(third, coefficients);
-    }
-    read_on(kind, degree, input, frame, coefficients)
+    let head = first.extent;
+    let frame = second.extent;
+    let coefficients = third.extent;
+    let moves = fourth.extent;
+    let point = fifth.extent;
+    Reading::Accepted(Layout {
+        kind,
+        degree,
+        head,
+        frame,
+        coefficients,
+        moves,
+        point,
+    })
 }
 
 // ---- one field's value
@@ -408,7 +399,7 @@ pub fn read(input: &[u8]) -> Reading
 // Where the field with the tag stands in an accepted record; a number that is no tag is an absent
 // field.
 fn extent_of(layout: Layout, input: &[u8], tag: u8) -> Extent
-    ensures { λ r. ⌜ r ≡ extentAmong tags (now (input .entry)) layout tag ⌝ }
+    ensures { λ r. ⌜ r ≡ extentAmong slots (now (input .entry)) layout tag ⌝ }
 {
     if tag == 1 {
         return layout.head;
@@ -431,7 +422,8 @@ fn extent_of(layout: Layout, input: &[u8], tag: u8) -> Extent
 // Where the field with the tag stands: nothing, after the last byte, where the record has no such
 // field or is refused, or where the number is no tag.
 pub fn field_extent(input: &[u8], tag: u8) -> Extent
-    ensures { λ r. ⌜ r ≡ fieldExtent (now (input .entry)) tag ⌝ }
+    ensures extent { λ r. ⌜ r ≡ fieldExtent (now (input .entry)) tag ⌝ }
+    ensures inside { λ r. ⌜ r .start + r .length ≤ length (now (input .entry)) ⌝ }
 {
     let Reading::Accepted(found) = read(input) else {
         return end_extent(input);
@@ -439,18 +431,22 @@ pub fn field_extent(input: &[u8], tag: u8) -> Extent
     extent_of(found, input, tag)
 }
 
-// The part of the record that an extent names.
+// The part of the record that an extent names: no copy, but the bytes from the extent's start on, where
+// they lie in the record. An extent past the end gives the empty part at the end.
 pub fn value(input: &[u8], extent: Extent) -> &[u8]
-    ensures { λ r. ⌜ now r ≡ bytesOf extent (now (input .entry)) ⌝ }
+    ensures bytes { λ r. ⌜ now r ≡ bytesOf extent (now (input .entry)) ⌝ }
+    ensures place { λ r. ⌜ Lies (r .ptr) (input .entry .ptr) (toEnd (now (input .entry)) (extent .start)) ⌝ }
 {
     let start = extent.start;
     let length = extent.length;
     first_part(part_from(input, start), length)
 }
 
-// The value of a field, a slice of the record: its bounds are those of the extent.
+// The value of a field, a slice of the record: it begins at the extent's start, where it lies in the
+// record, and is as long as the extent says.
 pub fn field(input: &[u8], tag: u8) -> &[u8]
-    ensures { λ r. ⌜ now r ≡ bytesOf (fieldExtent (now (input .entry)) tag) (now (input .entry)) ⌝ }
+    ensures bytes { λ r. ⌜ now r ≡ bytesOf (fieldExtent (now (input .entry)) tag) (now (input .entry)) ⌝ }
+    ensures place { λ r. ⌜ Lies (r .ptr) (input .entry .ptr) (fieldExtent (now (input .entry)) tag .start) ⌝ }
 {
     value(input, field_extent(input, tag))
 }

@@ -1,6 +1,6 @@
 -- Base ten and base sixteen. A number below ten is its digit, and another is its tenth's digits and its last one (`decimal-small`, `decimal-large`), and
 -- the tenth of a number below a power of ten is below the power before. A pattern of 64 bits takes 16 digits in base sixteen, so `io` spells those of the definition.
-use Prim.Native.Nat.{ℕ, zero, suc, _+_, _-_, _*_, _/_, _%_, _^_, _≤_, _<_}
+use Prim.Native.Nat.{ℕ, zero, suc, _-_, _*_, _/_, _%_, _^_, _≤_, _<_}
 use native.Mathlib.Nat.{pow-suc, pow-le-pow-right}
 use native.Mathlib.Omega.{arith}
 use borrow.Author.Tests.{lt-ltb, le-ltb, ltb-true, ltb-false}

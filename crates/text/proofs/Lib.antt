@@ -2,8 +2,9 @@ pub mod Decimal
 pub mod Over
 pub mod Samples
 pub mod Then
-pub mod Grouped
+pub mod InParts
 pub mod NetRows
-pub mod Made
+pub mod Standing
+pub mod Calls
 pub mod Room
 pub mod Whole

@@ -8,67 +8,81 @@ use lib.Dec.{eqb, leb}
 use lib.IntN.{ℤ}
 use lib.ListN.{length, take, drop, length-take, length-append, length-map}
 use lib.Seq.{take-append-seam, length-take-le}
-use borrow.Author.Tests.{eq-eqb, leb-true, le-leb, lt-leb}
+use borrow.Author.Tests.{leb-true, le-leb, lt-leb}
 use Rattle.integers.specs.Sum.{upto}
 use Rattle.integers.proofs.Sums.{length-upto}
+use Rattle.integers.proofs.All.{and-parts, and-true}
 use Rattle.polar.specs.Order.{joined}
-use Rattle.machine.specs.Comparison.{Polynomials, Frame, netOver}
-use Rattle.machine.specs.Nets.{handed}
-use Rattle.machine.specs.Lists.{netAnswers, frameAfter}
-use Rattle.machine.specs.First.{firstRefusal}
-use Rattle.machine.specs.declared.Net.{Net}
+use Rattle.kinds.specs.Frames.{Frames}
+use Rattle.machine.specs.Refusals.{firstFailed}
+use Rattle.machine.specs.Steps.{after, answers}
+use Rattle.machine.specs.Nets.{handedTests, stepOf}
+use Rattle.machine.specs.Comparison.{Polynomials, machineStep, netOver}
+use Rattle.machine.specs.Lent.{netAt, put, wide, unlessRefused}
 use Rattle.machine.specs.declared.Call.{Call}
-use Rattle.machine.proofs.All.{and-parts}
-use Rattle.machine.proofs.Over.{Reached, reached-handed}
-use Rattle.machine.proofs.Demand3.{nets-agree, answers-agree, reached-after, start-reached}
 use Rattle.machine.specs.declared.Call.the-variants as call
+use Rattle.machine.proofs.Refusals.{none-failed}
+use Rattle.machine.proofs.Over.{Reached}
+use Rattle.machine.proofs.Demand3.{along, start-reached}
+use Rattle.machine.proofs.Lent.{read-back, put-long}
+use Rattle.machine.proofs.Carried.{reached-sound}
 use Rattle.bytes.specs.Moves.{weightsOf, callAt}
-use Rattle.records.specs.Reading.{bytesOf, readingOf, extentBy, fieldExtent}
+use Rattle.records.specs.Reading.{bytesOf, readingOf, endExtent}
 use Rattle.records.specs.declared.Reading.{Reading}
 use Rattle.records.specs.declared.Reading.the-variants as reading
 use Rattle.records.proofs.Accepted.{accepted-sound}
-use Rattle.opening.specs.Opening.{polynomialsIn, numbersIn, frameIn, firstNetIn, movesIn, pointIn, refusalIn, unopened, openedOf, openedIn, entriesIn}
+use Rattle.opening.specs.Opening.{layoutBy, layoutIn, polynomialsIn, numbersIn, framesFrom, firstNetFrom, movesExtent, movesOf, movesIn, pointExtent, pointOf, pointIn, refusalIn, openedIn, placesIn}
 use Rattle.opening.specs.declared.Opened.{Opened}
-use Rattle.opening.proofs.Steps.{accepted-numbers}
+use Rattle.opening.proofs.Records.{accepted-numbers}
 use Rattle.text.specs.Words.{over, Wrote}
 use Rattle.text.specs.Text.{refusedLine, headLine, moveLines, netLines, pointLine, acceptedText, textBy, textOf, fits, writtenOf, bufferOf}
-use Rattle.text.specs.Rows.{netOf, callsOf, pointsOf, Sturdy, netText}
+use Rattle.text.specs.Parts.{Stands, netText}
 use Rattle.text.specs.Within.{Within}
 use Rattle.text.specs.declared.Written.the-variants.{Bytes, Refused}
 use Rattle.text.proofs.Room.{accepted-room}
 
--- ---- the two machines tell the same text
+-- ---- the two machines give the same text
 
-machine-text : (f : Polynomials) (frame : Frame) → Reached f frame → (moves points : List Call) → netText (netOver f frame) moves points ≡ acceptedText f frame moves points
+machine-text : (f : Polynomials) (frames : Frames) → Reached f frames → (moves points : List Call) → netText (netOver f frames) moves points ≡ acceptedText f frames moves points
 unfolding netText acceptedText netOver
-machine-text f frame at moves points =
-    let nets = nets-agree f frame at moves in
-    let later = ap (λ n. netAnswers n points) nets ∙ answers-agree f (frameAfter f frame moves) (reached-after f frame at moves) points in
-    λ i. headLine (f .kind) (f .degree) ++ (moveLines 1 (answers-agree f frame at moves i) ++ (netLines (nets i) ++ joined pointLine (later i)))
+machine-text f frames at moves points =
+    let one = along f frames at moves in
+    let later = ap (λ n. answers stepOf n points) (one .nets) ∙ along f (after (machineStep f) frames moves) (one .reached) points .answered in
+    λ i. headLine (f .kind) (f .degree) (f .second) ++ (moveLines 1 (one .answered i) ++ (netLines (one .nets i) ++ joined pointLine (later i)))
+
+-- the net over frames that are reached is none that is refused as handed
+reached-handed : (f : Polynomials) (frames : Frames) → Reached f frames → firstFailed (handedTests (netOver f frames)) ≡ 0
+unfolding handedTests netOver
+reached-handed f frames at = none-failed (handedTests (netOver f frames)) refl .1 (and-true (at .right) (and-true (at .fits) refl))
 
 -- ---- how many moves and points a record has
 
-moves-short : (s : List ℕ) → fieldExtent s 4 .length ≤ 256
-unfolding fieldExtent extentBy
+moves-short : (s : List ℕ) → layoutIn s .moves .length ≤ 256
+unfolding layoutIn
 moves-short s = by (readingOf s) refl
   where
-    by : (r : Reading) → readingOf s ≡ r → extentBy r s 4 .length ≤ 256
+    by : (r : Reading) → readingOf s ≡ r → layoutBy r s .moves .length ≤ 256
     by (reading.Accepted l) e =
         leb-true (l .moves .length) 256 (and-parts (eqb (l .moves .length % 8) 0) (leb (l .moves .length) 256) (accepted-sound s l e .movesLong) .1)
     by (reading.Refused r) e = omega arith
 
+-- a refused record has none
+extent-short : (k : ℕ) (s : List ℕ) → unlessRefused k (layoutIn s .moves) (endExtent s) .length ≤ 256
+extent-short zero s = moves-short s
+extent-short (suc k) s = omega arith
+
 moves-few : (s : List ℕ) → length (movesIn s) ≤ 32
-unfolding movesIn
+unfolding movesIn movesExtent
 moves-few s =
-    let short = moves-short s in
-    let value = bytesOf (fieldExtent s 4) s in
-    let cut = length-take (fieldExtent s 4 .length) (drop (fieldExtent s 4 .start) s) in
+    let short = extent-short (refusalIn s .number) s in
+    let value = bytesOf (movesExtent s) s in
+    let cut = length-take (movesExtent s .length) (drop (movesExtent s .start) s) in
     let many = length-map (upto (length value / 8)) (callAt value) ∙ length-upto (length value / 8) in
     omega (arith, short, cut, many)
 
-points-few : (s : List ℕ) → length (pointIn s) ≤ 1
+point-few : (s : List ℕ) → length (pointIn s) ≤ 1
 unfolding pointIn
-points-few s = by (eqb (length (bytesOf (fieldExtent s 5) s)) 0) (call.Point (weightsOf (bytesOf (fieldExtent s 5) s)))
+point-few s = by (eqb (length (bytesOf (pointExtent s) s)) 0) (call.Point (weightsOf (bytesOf (pointExtent s) s)))
   where
     by : (b : Bool) (c : Call) → length (cond b [] (c ∷ [])) ≤ 1
     by true c = omega arith
@@ -77,58 +91,76 @@ points-few s = by (eqb (length (bytesOf (fieldExtent s 5) s)) 0) (call.Point (we
 -- ---- an accepted record
 
 module _ (s : List ℕ) (ok : refusalIn s .number ≡ 0) where
-  none : firstRefusal (polynomialsIn s) (numbersIn s) ≡ 0
-  none = accepted-numbers s ok
+  at-start : Reached (polynomialsIn s) (framesFrom s)
+  at-start = start-reached (polynomialsIn s) (numbersIn s) (accepted-numbers s ok)
 
-  at-start : Reached (polynomialsIn s) (frameIn s)
-  at-start = start-reached (polynomialsIn s) (numbersIn s) none
+  -- its first net put into places takes calls
+  first-stands : (lent : List ℤ) → length lent ≡ 193 → wide lent ≡ true → (netAt (put (firstNetFrom s) lent) ≡ firstNetFrom s) × Stands (put (firstNetFrom s) lent)
+  first-stands lent long enough =
+      let sound = reached-sound (polynomialsIn s) (framesFrom s) at-start in
+      let back = read-back (firstNetFrom s) lent enough sound in (
+        back,
+        record {
+          long = put-long (firstNetFrom s) lent enough sound ∙ long;
+          handed =
+              λ calls.
+              ap (λ n. firstFailed (handedTests (after stepOf n calls))) back
+              ∙ ap (λ n. firstFailed (handedTests n)) (along (polynomialsIn s) (framesFrom s) at-start calls .nets)
+              ∙ reached-handed (polynomialsIn s) (after (machineStep (polynomialsIn s)) (framesFrom s) calls) (along (polynomialsIn s) (framesFrom s) at-start calls .reached);
+        },
+      )
 
-  sturdy-first : Sturdy (firstNetIn s)
-  sturdy-first calls =
-      ap handed (nets-agree (polynomialsIn s) (frameIn s) at-start calls)
-      ∙ reached-handed (polynomialsIn s) (frameAfter (polynomialsIn s) (frameIn s) calls) (reached-after (polynomialsIn s) (frameIn s) at-start calls)
-
-  text-of : netText (firstNetIn s) (movesIn s) (pointIn s) ≡ textOf s
+  text-of : netText (firstNetFrom s) (movesIn s) (pointIn s) ≡ textOf s
   unfolding textOf
-  text-of = machine-text (polynomialsIn s) (frameIn s) at-start (movesIn s) (pointIn s) ∙ sym (ap (λ k. textBy k s) ok)
+  text-of = machine-text (polynomialsIn s) (framesFrom s) at-start (movesIn s) (pointIn s) ∙ sym (ap (λ k. textBy k s) ok)
 
   text-room : length (textOf s) ≤ 4096
   unfolding textOf
   text-room =
       subst (λ k. length (textBy k s) ≤ 4096) (sym ok)
-      (accepted-room (polynomialsIn s) (frameIn s) at-start (movesIn s) (pointIn s) (moves-few s) (points-few s))
+      (accepted-room (polynomialsIn s) (framesFrom s) at-start (movesIn s) (pointIn s) (moves-few s) (point-few s))
 
--- ---- a record as the code has opened it, in places of a net's number
+-- ---- a record as the code has opened it, in 193 places
 
-module _ (s : List ℕ) (lent : List ℤ) {entries : List ℤ} {o : Opened} (long : length lent ≡ 180) (is : (o ≡ openedIn s lent) × (entries ≡ entriesIn s lent)) where
-  opened-is : o ≡ openedOf s
+module _ (s : List ℕ) (lent : List ℤ) {net : List ℤ} {o : Opened} (long : length lent ≡ 193) (is : (o ≡ openedIn s lent) × (net ≡ placesIn s lent)) where
+  enough : wide lent ≡ true
+  enough = le-leb 193 (length lent) (omega (arith, long))
+
+  opened-is : o ≡ record { refusal = refusalIn s; moves = movesExtent s; point = pointExtent s }
   unfolding openedIn
-  opened-is = is .0 ∙ ap (λ b. cond b (openedOf s) (unopened s (record { number = 11; offset = 0 }))) (eq-eqb (length lent) 180 long)
+  opened-is =
+      is .0
+      ∙ ap
+      (λ b.
+      cond b (record { refusal = refusalIn s; moves = movesExtent s; point = pointExtent s })
+      (record { refusal = record { number = 11; offset = 0 }; moves = endExtent s; point = endExtent s }))
+      enough
 
   number-is : o .refusal .number ≡ refusalIn s .number
-  unfolding openedOf
   number-is = ap (λ x. x .refusal .number) opened-is
 
   module _ (ok : o .refusal .number ≡ 0) where
-    net-is : netOf (o .kind) (o .degree) entries ≡ firstNetIn s
-    unfolding openedOf entriesIn polynomialsIn netOver
-    net-is =
-        let made : entries ≡ firstNetIn s .entries = is .1 ∙ ap (λ k. cond (eqb k 0) (firstNetIn s .entries) lent) (sym (ap (λ x. x .refusal .number) (is .0)) ∙ ok) in
-        λ i. netOf (opened-is i .kind) (opened-is i .degree) (made i)
+    accepted : refusalIn s .number ≡ 0
+    accepted = sym number-is ∙ ok
 
-    pub opened-sturdy : Sturdy (netOf (o .kind) (o .degree) entries)
-    opened-sturdy = subst (λ (n : Net). Sturdy n) (sym net-is) (sturdy-first s (sym number-is ∙ ok))
+    places-are : net ≡ put (firstNetFrom s) lent
+    unfolding placesIn
+    places-are = is .1 ∙ ap (λ k. unlessRefused k (put (firstNetFrom s) lent) lent) (sym (ap (λ x. x .refusal .number) (is .0)) ∙ ok)
 
-    pub opened-text : netText (netOf (o .kind) (o .degree) entries) (callsOf (bytesOf (o .moves) s)) (pointsOf (bytesOf (o .point) s)) ≡ textOf s
-    unfolding openedOf movesIn pointIn
+    pub opened-stands : Stands net
+    opened-stands = subst Stands (sym places-are) (first-stands s accepted lent long enough .1)
+
+    pub opened-text : netText (netAt net) (movesOf (bytesOf (o .moves) s)) (pointOf (bytesOf (o .point) s)) ≡ textOf s
+    unfolding movesIn pointIn
     opened-text =
-        (λ i. netText (net-is i) (callsOf (bytesOf (opened-is i .moves) s)) (pointsOf (bytesOf (opened-is i .point) s))) ∙ text-of s (sym number-is ∙ ok)
+        let first : netAt net ≡ firstNetFrom s = ap netAt places-are ∙ first-stands s accepted lent long enough .0 in
+        (λ i. netText (first i) (movesOf (bytesOf (opened-is i .moves) s)) (pointOf (bytesOf (opened-is i .point) s))) ∙ text-of s accepted
 
-    pub opened-room : length (netText (netOf (o .kind) (o .degree) entries) (callsOf (bytesOf (o .moves) s)) (pointsOf (bytesOf (o .point) s))) ≤ 4096
-    opened-room = subst (λ t. length t ≤ 4096) (sym opened-text) (text-room s (sym number-is ∙ ok))
+    pub opened-room : length (textOf s) ≤ 4096
+    opened-room = text-room s accepted
 
   pub refused-text : (o .refusal .number ≡ 0 → ⊥) → refusedLine (o .refusal .number) (o .refusal .offset) ≡ textOf s
-  unfolding textOf openedOf
+  unfolding textOf
   refused-text some = ap (λ (x : Opened). refusedLine (x .refusal .number) (x .refusal .offset)) opened-is ∙ by (refusalIn s .number) (λ z. some (number-is ∙ z))
     where
       by : (n : ℕ) → (n ≡ 0 → ⊥) → refusedLine n (refusalIn s .offset) ≡ textBy n s

@@ -1,4 +1,4 @@
 pub mod Words
 pub mod Text
-pub mod Rows
+pub mod Parts
 pub mod Within

@@ -1,4 +1,4 @@
--- The text of netprint (document 01, 'The program netprint'), line by line, from what the comparison machine answers and from the net over the frame that it reaches.
+-- The text of netprint (document 01, 'The program netprint'), line by line, from what the comparison machine answers and from the net over the frames that it reaches.
 use Prim.Native.Nat.{ℕ, zero, suc}
 use Prim.Native.Char.{code}
 use Prim.Native.String.{String, [] as none, _∷_ as _then_}
@@ -8,20 +8,19 @@ use lib.Dec.{eqb, leb}
 use lib.IntN.{ℤ}
 use lib.Ieee.{Float, binary64, toBits}
 use lib.ListN.{length, take, drop}
-use Rattle.polar.specs.Order.{joined, counts}
+use Rattle.polar.specs.Order.{joined}
+use Rattle.polar.specs.Groups.{countsOver}
 use Rattle.projection.specs.Projection.{refusal}
 use Rattle.projection.specs.declared.Projection.{Projection}
 use Rattle.projection.specs.declared.Projection.the-variants.{Finite, Direction, Nowhere, OutOfRange}
-use Rattle.machine.specs.Kinds.{further}
-use Rattle.machine.specs.Answers.{refusalNumber}
-use Rattle.machine.specs.Comparison.{Polynomials, Frame, netOver}
-use Rattle.machine.specs.Lists.{frameAfter, machineAnswers}
-use Rattle.machine.specs.declared.Net.{Net}
+use Rattle.kinds.specs.Kinds.{groupsOf}
+use Rattle.kinds.specs.Frames.{Frames}
+use Rattle.kinds.specs.Scales.{scaleOf}
+use Rattle.machine.specs.Steps.{Answer, Taken, Found, Refused as NotTaken, refusalNumber, after, answers}
+use Rattle.machine.specs.Nets.{Net, netGroups}
+use Rattle.machine.specs.Comparison.{Polynomials, machineStep, netOver}
 use Rattle.machine.specs.declared.Call.{Call}
-use Rattle.machine.specs.declared.Answer.{Answer}
-use Rattle.machine.specs.declared.Answer.the-variants as answer
-use Rattle.scales.specs.Scales.{scaleOf}
-use Rattle.opening.specs.Opening.{polynomialsIn, frameIn, movesIn, pointIn, refusalIn}
+use Rattle.opening.specs.Opening.{polynomialsIn, framesFrom, movesIn, pointIn, refusalIn}
 use Rattle.text.specs.Words.{decimal, signedDecimal, hexBits, line}
 use Rattle.text.specs.declared.Written.{Written}
 use Rattle.text.specs.declared.Written.the-variants.{Bytes, Refused}
@@ -36,13 +35,21 @@ word (c then s) = code c ∷ word s
 unfoldable pub refusedLine : ℕ → ℕ → List ℕ
 refusedLine number offset = line (word "refused" ∷ decimal number ∷ word "at" ∷ decimal offset ∷ [])
 
--- ---- the first line: kind word, degree, scale
+-- ---- what the text says by the kind. To add a kind, add it here and to src/kind.rt; the rest of the text goes by the groups of the kind.
 
+-- 'kind word (`curve` or `patch`)'
 abbrev pub kindWord : ℕ → List ℕ
 kindWord kind = cond (eqb kind 1) (word "curve") (word "patch")
 
-unfoldable pub headLine : ℕ → ℕ → List ℕ
-headLine kind degree = line (kindWord kind ∷ decimal degree ∷ decimal (scaleOf kind degree) ∷ [])
+-- 'the entry's j (or i j k)': of a curve's entry the copies of s, of a patch's the copies of r, s and t. An entry's counts are a list for each group.
+abbrev pub indices : ℕ → List (List ℕ) → List ℕ
+indices kind es = joined (λ e. cond (eqb kind 1) (drop 1 e) e) es
+
+-- ---- the first line: kind word, the degree of each group, scale
+
+unfoldable pub headLine : ℕ → ℕ → ℕ → List ℕ
+headLine kind degree second =
+    line (kindWord kind ∷ (map (λ g. decimal (g .degree)) (groupsOf kind degree second) ++ (decimal (scaleOf kind degree second) ∷ [])))
 
 -- ---- the moves: a line for each refused one, the moves being counted from k
 
@@ -52,24 +59,20 @@ moveLine k (suc number) = line (word "move" ∷ decimal k ∷ word "refused" ∷
 
 unfoldable pub moveLines : ℕ → List Answer → List ℕ
 moveLines k [] = []
-moveLines k (a ∷ answers) = moveLine k (refusalNumber a) ++ moveLines (suc k) answers
+moveLines k (a ∷ rest) = moveLine k (refusalNumber a) ++ moveLines (suc k) rest
 
 -- ---- the net: a line for each entry, its place and its four numbers
 
--- of a curve's entry the copies of s, of a patch's the copies of r, s and t
-abbrev pub indices : ℕ → List ℕ → List ℕ
-indices kind e = cond (eqb kind 1) (drop 1 e) e
-
-unfoldable pub entryLine : ℕ → List ℕ → List ℤ → List ℕ
-entryLine kind e numbers = line (map decimal (indices kind e) ++ map signedDecimal numbers)
+unfoldable pub entryLine : ℕ → List (List ℕ) → List ℤ → List ℕ
+entryLine kind es numbers = line (map decimal (indices kind es) ++ map signedDecimal numbers)
 
 -- the entries with their numbers, four to an entry
-unfoldable pub entryLines : ℕ → List (List ℕ) → List ℤ → List ℕ
+unfoldable pub entryLines : ℕ → List (List (List ℕ)) → List ℤ → List ℕ
 entryLines kind [] numbers = []
-entryLines kind (e ∷ es) numbers = entryLine kind e (take 4 numbers) ++ entryLines kind es (drop 4 numbers)
+entryLines kind (es ∷ ess) numbers = entryLine kind es (take 4 numbers) ++ entryLines kind ess (drop 4 numbers)
 
 unfoldable pub netLines : Net → List ℕ
-netLines net = entryLines (net .kind) (counts (further (net .kind)) (net .degree)) (net .entries)
+netLines net = entryLines (net .kind) (countsOver (netGroups net)) (net .entries)
 
 -- ---- the point
 
@@ -87,24 +90,24 @@ projectionLine Nowhere = line (word "nowhere" ∷ [])
 projectionLine OutOfRange = pointRefusedLine (refusal OutOfRange)
 
 unfoldable pub pointLine : Answer → List ℕ
-pointLine answer.Taken = []
-pointLine (answer.Point p at) = projectionLine at
-pointLine (answer.Refused number) = pointRefusedLine number
+pointLine Taken = []
+pointLine (Found x y z w at) = projectionLine at
+pointLine (NotTaken number) = pointRefusedLine number
 
--- ---- the whole text of an accepted record: f are its polynomials, `frame` its frame, `moves` its moves, and `points` its point, or nothing where it has none
+-- ---- the whole text of an accepted record: f are its polynomials, `frames` its frames, `moves` its moves, and `points` its point, or nothing where it has none
 
-unfoldable pub acceptedText : Polynomials → Frame → List Call → List Call → List ℕ
-acceptedText f frame moves points =
-    let reached = frameAfter f frame moves in
-    headLine (f .kind) (f .degree)
-    ++ (moveLines 1 (machineAnswers f frame moves)
-    ++ (netLines (netOver f reached) ++ joined pointLine (machineAnswers f reached points)))
+unfoldable pub acceptedText : Polynomials → Frames → List Call → List Call → List ℕ
+acceptedText f frames moves points =
+    let reached = after (machineStep f) frames moves in
+    headLine (f .kind) (f .degree) (f .second)
+    ++ (moveLines 1 (answers (machineStep f) frames moves)
+    ++ (netLines (netOver f reached) ++ joined pointLine (answers (machineStep f) reached points)))
 
 -- ---- the text of any bytes
 
 -- by the number of the record's refusal: a refused record has one line
 abbrev pub textBy : ℕ → List ℕ → List ℕ
-textBy zero s = acceptedText (polynomialsIn s) (frameIn s) (movesIn s) (pointIn s)
+textBy zero s = acceptedText (polynomialsIn s) (framesFrom s) (movesIn s) (pointIn s)
 textBy (suc k) s = refusedLine (suc k) (refusalIn s .offset)
 
 unfoldable pub textOf : List ℕ → List ℕ

@@ -1,4 +1,5 @@
 // The text of netprint: from the bytes of a record, whatever they are, into a lent buffer.
+mod kind;
 mod lines;
 mod moves;
 mod net;
@@ -7,16 +8,20 @@ mod words;
 ghost use mathlib.Core.Path.{_≡_};
 ghost use Prim.Native.Nat.{_≤_};
 ghost use lib.ListN.{length};
+ghost use Rattle.machine.specs.Lent.{netAt};
+ghost use Rattle.opening.specs.Opening.{movesOf, pointOf};
 ghost use Rattle.text.specs.Words.{Wrote};
 ghost use Rattle.text.specs.Within.{Within};
-ghost use Rattle.text.specs.Rows.{netOf, callsOf, pointsOf, Sturdy, netText};
+ghost use Rattle.text.specs.Parts.{Stands, netText};
 ghost use Rattle.text.specs.Text.{refusedLine, textOf, writtenOf, bufferOf};
 use crate::lines::write_head;
 use crate::lines::write_refused;
 use crate::moves::write_moves;
 use crate::moves::write_point;
+use crate::net::head_byte;
 use crate::net::write_net;
 use crate::words::put;
+use nets::NET;
 use opening::open;
 use records::Refusal;
 use records::value;
@@ -40,23 +45,16 @@ fn write_refusal(out: &mut [u8], refusal: Refusal) -> usize
     write_refused(out, 0, refusal.number, refusal.offset)
 }
 
-// Makes the text of an accepted record, whose first net stands in the lent places: the head, the moves
+// Makes the text of an accepted record, whose first net stands in the lent places: the first line, the moves
 // that are refused, the net that the moves leave, and the point.
-fn write_accepted(
-    out: &mut [u8],
-    entries: &mut [i64],
-    kind: u8,
-    degree: u8,
-    moves: &[u8],
-    point: &[u8],
-) -> usize
-    requires { ⌜ (length (now entries) ≡ 180) × Sturdy (netOf kind degree (now entries)) × (length (netText (netOf kind degree (now entries)) (callsOf (now moves)) (pointsOf (now point))) ≤ length (now out)) ⌝ }
-    ensures { λ r. ⌜ Wrote (now (out .entry)) 0 (netText (netOf kind degree (now (entries .entry))) (callsOf (now (moves .entry))) (pointsOf (now (point .entry)))) (now (out .exit)) r ⌝ }
+fn write_accepted(out: &mut [u8], net: &mut [i64], moves: &[u8], point: &[u8]) -> usize
+    requires { ⌜ Stands (now net) × (length (netText (netAt (now net)) (movesOf (now moves)) (pointOf (now point))) ≤ length (now out)) ⌝ }
+    ensures { λ r. ⌜ Wrote (now (out .entry)) 0 (netText (netAt (now (net .entry))) (movesOf (now (moves .entry))) (pointOf (now (point .entry)))) (now (out .exit)) r ⌝ }
 {
-    let after_head = write_head(out, 0, kind, degree);
-    let after_moves = write_moves(out, after_head, entries, kind, degree, moves);
-    let after_net = write_net(out, after_moves, kind, degree, entries);
-    write_point(out, after_net, entries, kind, degree, point)
+    let after_head = write_head(out, 0, head_byte(net, 0), head_byte(net, 1));
+    let after_moves = write_moves(out, after_head, net, moves);
+    let after_net = write_net(out, after_moves, net);
+    write_point(out, after_net, net, point)
 }
 
 // Makes the text in a buffer that every text fits into.
@@ -64,15 +62,15 @@ fn make_text(out: &mut [u8], input: &[u8]) -> usize
     requires { ⌜ 4096 ≤ length (now out) ⌝ }
     ensures { λ r. ⌜ Wrote (now (out .entry)) 0 (textOf (now (input .entry))) (now (out .exit)) r ⌝ }
 {
-    let mut entries = [0i64; 180];
-    let opened = open(input, &mut entries);
+    let mut net = [0i64; NET];
+    let opened = open(input, &mut net);
     let refusal = opened.refusal;
     if refusal.number != 0 {
         return write_refusal(out, refusal);
     }
     let moves = value(input, opened.moves);
     let point = value(input, opened.point);
-    write_accepted(out, &mut entries, opened.kind, opened.degree, moves, point)
+    write_accepted(out, &mut net, moves, point)
 }
 
 // Writes the text of a record into a buffer that may be too short for it: the text is made beside it

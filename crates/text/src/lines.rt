@@ -1,64 +1,43 @@
-// The lines of the text that hold no net: a refused record, the kind with its degree and scale, a
-// refused move, and a point.
+// The lines of the text that hold no net: a refused record, the first line, a refused move, and a point.
+ghost use mathlib.Core.Path.{_≡_};
+ghost use mathlib.Core.Bool.{true};
 ghost use Prim.Native.Nat.{_+_, _≤_};
-ghost use mathlib.Core.List.{[], _∷_, _++_};
+ghost use mathlib.Core.List.{_∷_};
 ghost use lib.ListN.{length};
-ghost use lib.Ieee.{binary64, toBits};
-ghost use Rattle.scales.specs.Scales.{scaleOf};
-ghost use Rattle.text.specs.Words.{Wrote, decimal, signedDecimal, hexBits, line};
+ghost use Rattle.kinds.specs.Kinds.{known};
+ghost use Rattle.kinds.specs.Scales.{scaleOf};
+ghost use Rattle.text.specs.Words.{Wrote, decimal};
+ghost use Rattle.text.specs.Parts.{numbersText};
 ghost use Rattle.text.specs.Text.{
-  kindWord,
   refusedLine,
   headLine,
   moveLine,
   pointRefusedLine,
   projectionLine,
 };
+use crate::kind::put_kind;
+use crate::words::next_bits;
 use crate::words::put;
-use crate::words::put_bits;
-use crate::words::put_decimal;
+use crate::words::put_labelled;
 use crate::words::put_signed;
+use kinds::scale;
 use projection::Coords;
 use projection::PrimitiveVector;
 use projection::Projection;
-use scales::scale;
 
-// ---- numbers after a word or a space
-
-// A label and a number in base ten.
-pub(crate) fn put_labelled(out: &mut [u8], at: usize, label: &[u8], n: u64) -> usize
-    requires { ⌜ at + length (now label ++ decimal n) ≤ length (now out) ⌝ }
-    ensures { λ r. ⌜ Wrote (now (out .entry)) at (now (label .entry) ++ decimal n) (now (out .exit)) r ⌝ }
+// Numbers, each after a space, and the end of the line.
+pub(crate) fn end_with(out: &mut [u8], at: usize, numbers: &[i64]) -> usize
+    requires { ⌜ at + length (numbersText (now numbers)) ≤ length (now out) ⌝ }
+    ensures { λ r. ⌜ Wrote (now (out .entry)) at (numbersText (now (numbers .entry))) (now (out .exit)) r ⌝ }
 {
-    let after_label = put(out, at, label);
-    put_decimal(out, after_label, n)
-}
-
-pub(crate) fn next_signed(out: &mut [u8], at: usize, v: i64) -> usize
-    requires { ⌜ at + length (32 ∷ signedDecimal v) ≤ length (now out) ⌝ }
-    ensures { λ r. ⌜ Wrote (now (out .entry)) at (32 ∷ signedDecimal v) (now (out .exit)) r ⌝ }
-{
-    let after_space = put(out, at, b" ");
-    put_signed(out, after_space, v)
-}
-
-pub(crate) fn next_bits(out: &mut [u8], at: usize, x: f64) -> usize
-    requires { ⌜ at + length (32 ∷ hexBits (toBits binary64 x)) ≤ length (now out) ⌝ }
-    ensures { λ r. ⌜ Wrote (now (out .entry)) at (32 ∷ hexBits (toBits binary64 x)) (now (out .exit)) r ⌝ }
-{
-    let after_space = put(out, at, b" ");
-    put_bits(out, after_space, x)
-}
-
-// Three numbers and the end of the line.
-pub(crate) fn end_with_three(out: &mut [u8], at: usize, x: i64, y: i64, z: i64) -> usize
-    requires { ⌜ at + length (32 ∷ line (signedDecimal x ∷ signedDecimal y ∷ signedDecimal z ∷ [])) ≤ length (now out) ⌝ }
-    ensures { λ r. ⌜ Wrote (now (out .entry)) at (32 ∷ line (signedDecimal x ∷ signedDecimal y ∷ signedDecimal z ∷ [])) (now (out .exit)) r ⌝ }
-{
-    let after_x = next_signed(out, at, x);
-    let after_y = next_signed(out, after_x, y);
-    let after_z = next_signed(out, after_y, z);
-    put(out, after_z, b"\n")
+    let mut next = at;
+    let mut i = 0;
+    while i < numbers.len() {
+        let after_space = put(&mut *out, next, b" ");
+        next = put_signed(&mut *out, after_space, numbers[i]);
+        i += 1;
+    }
+    put(out, next, b"\n")
 }
 
 // ---- a refused record
@@ -74,26 +53,17 @@ pub(crate) fn write_refused(out: &mut [u8], at: usize, number: u8, offset: usize
 
 // ---- the first line
 
-pub(crate) fn put_kind(out: &mut [u8], at: usize, kind: u8) -> usize
-    requires { ⌜ at + length (kindWord kind) ≤ length (now out) ⌝ }
-    ensures { λ r. ⌜ Wrote (now (out .entry)) at (kindWord kind) (now (out .exit)) r ⌝ }
-{
-    if kind == 1 {
-        return put(out, at, b"curve");
-    }
-    put(out, at, b"patch")
-}
-
 pub(crate) fn next_scale(out: &mut [u8], at: usize, kind: u8, degree: u8) -> usize
-    requires { ⌜ at + length (32 ∷ decimal (scaleOf kind degree)) ≤ length (now out) ⌝ }
-    ensures { λ r. ⌜ Wrote (now (out .entry)) at (32 ∷ decimal (scaleOf kind degree)) (now (out .exit)) r ⌝ }
+    requires { ⌜ at + length (32 ∷ decimal (scaleOf kind degree 0)) ≤ length (now out) ⌝ }
+    ensures { λ r. ⌜ Wrote (now (out .entry)) at (32 ∷ decimal (scaleOf kind degree 0)) (now (out .exit)) r ⌝ }
 {
-    put_labelled(out, at, b" ", scale(kind, degree as usize))
+    put_labelled(out, at, b" ", scale(kind, degree, 0))
 }
 
+// The first line of a kind with one degree.
 pub(crate) fn write_head(out: &mut [u8], at: usize, kind: u8, degree: u8) -> usize
-    requires { ⌜ at + length (headLine kind degree) ≤ length (now out) ⌝ }
-    ensures { λ r. ⌜ Wrote (now (out .entry)) at (headLine kind degree) (now (out .exit)) r ⌝ }
+    requires { ⌜ (known kind degree 0 ≡ true) × (at + length (headLine kind degree 0) ≤ length (now out)) ⌝ }
+    ensures { λ r. ⌜ Wrote (now (out .entry)) at (headLine kind degree 0) (now (out .exit)) r ⌝ }
 {
     let after_kind = put_kind(out, at, kind);
     let after_degree = put_labelled(out, after_kind, b" ", degree as u64);
@@ -142,7 +112,7 @@ pub(crate) fn write_direction(out: &mut [u8], at: usize, d: PrimitiveVector) -> 
     ensures { λ r. ⌜ Wrote (now (out .entry)) at (projectionLine (Projection.Direction d)) (now (out .exit)) r ⌝ }
 {
     let after_word = put(out, at, b"far");
-    end_with_three(out, after_word, d.x, d.y, d.z)
+    end_with(out, after_word, &[d.x, d.y, d.z])
 }
 
 // A found point by its projection. A point out of range is none that a call finds.

@@ -1,16 +1,13 @@
-// The moves and the point of a record: made in their order, with the lines that they leave. The net's
-// entries stand in lent places, and a move changes them there.
+// The moves and the point of a record: made in their order, with the lines that they leave. The net stands
+// in lent places, and a move changes it there.
 ghost use mathlib.Core.Path.{_≡_};
+ghost use mathlib.Core.List.{[], _∷_};
 ghost use Prim.Native.Nat.{_+_, _≤_};
 ghost use lib.ListN.{length};
-ghost use Rattle.polar.specs.Order.{joined};
-ghost use Rattle.machine.specs.Answers.{refusalNumber};
-ghost use Rattle.machine.specs.Nets.{handed, stepOf};
-ghost use Rattle.machine.specs.Lists.{netAfter, netAnswers};
-ghost use Rattle.bytes.specs.Moves.{callOf, moveAt};
+ghost use Rattle.bytes.specs.Moves.{callAt};
+ghost use Rattle.opening.specs.Opening.{movesOf};
 ghost use Rattle.text.specs.Words.{Wrote};
-ghost use Rattle.text.specs.Text.{moveLine, moveLines, pointLine};
-ghost use Rattle.text.specs.Rows.{netOf, callsOf, pointsOf, Sturdy};
+ghost use Rattle.text.specs.Parts.{Stands, Made, moveText, movesText, pointText};
 use crate::lines::write_move;
 use crate::lines::write_point_refused;
 use crate::lines::write_projection;
@@ -26,15 +23,13 @@ use projection::project;
 pub(crate) fn write_made(
     out: &mut [u8],
     at: usize,
-    entries: &mut [i64],
-    kind: u8,
-    degree: u8,
+    net: &mut [i64],
     value: &[u8],
     k: usize,
 ) -> usize
-    requires { ⌜ (length (now entries) ≡ 180) × (handed (netOf kind degree (now entries)) ≡ 0) × (k + 1 ≤ length (now value)) × (at + length (moveLine (k + 1) (refusalNumber (stepOf (netOf kind degree (now entries)) (callOf (moveAt (now value) k)) .answer))) ≤ length (now out)) ⌝ }
-    ensures line { λ r. ⌜ Wrote (now (out .entry)) at (moveLine (k + 1) (refusalNumber (stepOf (netOf kind degree (now (entries .entry))) (callOf (moveAt (now (value .entry)) k)) .answer))) (now (out .exit)) r ⌝ }
-    ensures entries { λ _. ⌜ now (entries .exit) ≡ stepOf (netOf kind degree (now (entries .entry))) (callOf (moveAt (now (value .entry)) k)) .net .entries ⌝ }
+    requires { ⌜ Stands (now net) × (k + 1 ≤ length (now value)) × (at + length (moveText (now net) (now value) k) ≤ length (now out)) ⌝ }
+    ensures line { λ r. ⌜ Wrote (now (out .entry)) at (moveText (now (net .entry)) (now (value .entry)) k) (now (out .exit)) r ⌝ }
+    ensures net { λ _. ⌜ Made (callAt (now (value .entry)) k ∷ []) (now (net .entry)) (now (net .exit)) ⌝ }
 {
     let Move::Proper {
         operation,
@@ -44,50 +39,36 @@ pub(crate) fn write_made(
     else {
         return write_move(out, at, k + 1, 8);
     };
-    let number = take_move(entries, kind, degree, operation, vertex, weights);
+    let number = take_move(net, operation, vertex, weights);
     write_move(out, at, k + 1, number)
 }
 
 // Makes the moves of a record's value, one after the other.
-pub(crate) fn write_moves(
-    out: &mut [u8],
-    at: usize,
-    entries: &mut [i64],
-    kind: u8,
-    degree: u8,
-    value: &[u8],
-) -> usize
-    requires { ⌜ (length (now entries) ≡ 180) × Sturdy (netOf kind degree (now entries)) × (at + length (moveLines 1 (netAnswers (netOf kind degree (now entries)) (callsOf (now value)))) ≤ length (now out)) ⌝ }
-    ensures lines { λ r. ⌜ Wrote (now (out .entry)) at (moveLines 1 (netAnswers (netOf kind degree (now (entries .entry))) (callsOf (now (value .entry))))) (now (out .exit)) r ⌝ }
-    ensures entries { λ _. ⌜ now (entries .exit) ≡ netAfter (netOf kind degree (now (entries .entry))) (callsOf (now (value .entry))) .entries ⌝ }
+pub(crate) fn write_moves(out: &mut [u8], at: usize, net: &mut [i64], value: &[u8]) -> usize
+    requires { ⌜ Stands (now net) × (at + length (movesText (now net) (now value)) ≤ length (now out)) ⌝ }
+    ensures lines { λ r. ⌜ Wrote (now (out .entry)) at (movesText (now (net .entry)) (now (value .entry))) (now (out .exit)) r ⌝ }
+    ensures net { λ _. ⌜ Made (movesOf (now (value .entry))) (now (net .entry)) (now (net .exit)) ⌝ }
 {
     let count = value.len() / 8;
     let mut next = at;
     let mut k = 0;
     while k < count {
-        next = write_made(&mut *out, next, &mut *entries, kind, degree, value, k);
+        next = write_made(&mut *out, next, &mut *net, value, k);
         k += 1;
     }
     next
 }
 
 // Finds the point of a record's value, if there is one, and writes where it is or why it is refused.
-pub(crate) fn write_point(
-    out: &mut [u8],
-    at: usize,
-    entries: &[i64],
-    kind: u8,
-    degree: u8,
-    value: &[u8],
-) -> usize
-    requires { ⌜ (length (now entries) ≡ 180) × (at + length (joined pointLine (netAnswers (netOf kind degree (now entries)) (pointsOf (now value)))) ≤ length (now out)) ⌝ }
-    ensures { λ r. ⌜ Wrote (now (out .entry)) at (joined pointLine (netAnswers (netOf kind degree (now (entries .entry))) (pointsOf (now (value .entry))))) (now (out .exit)) r ⌝ }
+pub(crate) fn write_point(out: &mut [u8], at: usize, net: &[i64], value: &[u8]) -> usize
+    requires { ⌜ Stands (now net) × (at + length (pointText (now net) (now value)) ≤ length (now out)) ⌝ }
+    ensures { λ r. ⌜ Wrote (now (out .entry)) at (pointText (now (net .entry)) (now (value .entry))) (now (out .exit)) r ⌝ }
 {
     if value.len() == 0 {
         return at;
     }
     let mut found = [0i64; 4];
-    let number = find_point(entries, kind, degree, point_weights(value), &mut found);
+    let number = find_point(net, point_weights(value), &mut found);
     if number != 0 {
         return write_point_refused(out, at, number);
     }

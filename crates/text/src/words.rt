@@ -3,6 +3,7 @@
 // caller's to show: whether a whole text fits is known before its first byte is written.
 ghost use mathlib.Core.Path.{_≡_};
 ghost use Prim.Native.Nat.{_+_, _≤_, _<_};
+ghost use mathlib.Core.List.{_∷_, _++_};
 ghost use lib.ListN.{length};
 ghost use lib.Ieee.{binary64, toBits};
 ghost use Rattle.text.specs.Words.{Wrote, digit, decimal, signedDecimal, hexBits};
@@ -81,4 +82,24 @@ pub(crate) fn put_bits(out: &mut [u8], at: usize, x: f64) -> usize
     let mut digits = [0u8; 16];
     let k = io::hex(bits(x), 16, &mut digits);
     put(out, at, &digits[..k])
+}
+
+// ---- numbers after a word or a space
+
+// A label and a number in base ten.
+pub(crate) fn put_labelled(out: &mut [u8], at: usize, label: &[u8], n: u64) -> usize
+    requires { ⌜ at + length (now label ++ decimal n) ≤ length (now out) ⌝ }
+    ensures { λ r. ⌜ Wrote (now (out .entry)) at (now (label .entry) ++ decimal n) (now (out .exit)) r ⌝ }
+{
+    let after_label = put(out, at, label);
+    put_decimal(out, after_label, n)
+}
+
+// A space and a bit pattern.
+pub(crate) fn next_bits(out: &mut [u8], at: usize, x: f64) -> usize
+    requires { ⌜ at + length (32 ∷ hexBits (toBits binary64 x)) ≤ length (now out) ⌝ }
+    ensures { λ r. ⌜ Wrote (now (out .entry)) at (32 ∷ hexBits (toBits binary64 x)) (now (out .exit)) r ⌝ }
+{
+    let after_space = put(out, at, b" ");
+    put_bits(out, after_space, x)
 }

@@ -1,12 +1,14 @@
 //! The static library against the independent implementation: `compare [LISTS SEED]`.
 //!
 //! Every lent buffer goes back to the comparison as the library left it, so a refused call that wrote
-//! something is found, and so is a place behind the net or the text that was touched.
+//! something is found, and so is a place of a net that was touched and is not in use. Behind each buffer
+//! stand further places that belong to nobody, and here it is asked whether they were touched.
 
 use independent::calls::Weights;
 use independent::compare::compare_calls;
-use independent::handed::{Net, NUMBERS};
-use independent::library::{Library, Widths};
+use independent::first::Given;
+use independent::handed::Net;
+use independent::library::Library;
 use independent::projection::Projection;
 use independent::record::Refusal;
 use std::process::ExitCode;
@@ -27,93 +29,69 @@ extern "C" {
     fn gadwemosh_text(input: *const u8, input_length: usize, out: *mut u8, out_length: usize, length: *mut u64) -> u8;
 }
 
-const PLACES: usize = NUMBERS + 2;
+/// A lent buffer with places behind it.
+struct Lent<T> {
+    places: Vec<T>,
+    length: usize,
+    behind: [T; 2],
+}
 
-/// A net in lent places, with one more behind it that no call may touch.
-struct Lent([i64; PLACES + 1]);
-
-const BEHIND: i64 = 0x5a5a_5a5a_5a5a;
-
-impl Lent {
-    fn of(net: &Net) -> Lent {
-        let mut places = [BEHIND; PLACES + 1];
-        places[0] = net.kind;
-        places[1] = net.degree;
-        places[2..PLACES].copy_from_slice(&net.entries);
-        Lent(places)
+impl<T: Copy + PartialEq> Lent<T> {
+    fn of(own: &[T], behind: [T; 2]) -> Lent<T> {
+        Lent { places: [own, &behind].concat(), length: own.len(), behind }
     }
 
-    fn back(&self, net: &mut Net) {
-        assert_eq!(self.0[PLACES], BEHIND, "the place behind the net was written");
-        net.kind = self.0[0];
-        net.degree = self.0[1];
-        net.entries.copy_from_slice(&self.0[2..PLACES]);
+    fn back(self, own: &mut [T]) {
+        assert!(self.places[self.length..] == self.behind, "the places behind a buffer were written");
+        own.copy_from_slice(&self.places[..self.length]);
     }
 }
 
-/// The numbers of a record that the reader accepts, by the places of its fields: kind, degree, frame and
-/// coefficients.
-fn polynomials(record: &[u8]) -> (u8, u8, [i64; 9], [i64; NUMBERS]) {
-    let (kind, degree) = (record[3], record[4]);
-    let vertices = kind as usize + 1;
-    let (mut frame, mut coefficients) = ([0; 9], [0; NUMBERS]);
-    let end = 8 + 2 * vertices * vertices;
-    for (number, bytes) in frame.iter_mut().zip(record[8..end].chunks_exact(2)) {
-        *number = i16::from_be_bytes([bytes[0], bytes[1]]) as i64;
-    }
-    let length = u16::from_be_bytes([record[end + 1], record[end + 2]]) as usize;
-    for (number, bytes) in coefficients.iter_mut().zip(record[end + 3..end + 3 + length].chunks_exact(4)) {
-        *number = i32::from_be_bytes([bytes[0], bytes[1], bytes[2], bytes[3]]) as i64;
-    }
-    (kind, degree, frame, coefficients)
-}
+const BEHIND: [i64; 2] = [0x5a5a_5a5a_5a5a, -0x5a5a_5a5a_5a5b];
 
-/// The first net without the record: the same answer and the same places as opening it gives.
-fn first_alone(record: &[u8], before: &Net, number: u8, opened: &Lent) {
-    let (kind, degree, frame, coefficients) = polynomials(record);
-    let mut lent = Lent::of(before);
-    let alone = unsafe {
-        gadwemosh_first(kind, degree, frame.as_ptr(), 9, coefficients.as_ptr(), NUMBERS, lent.0.as_mut_ptr(), lent.0.len())
-    };
-    assert_eq!(alone, number, "a first net without its record is refused otherwise");
-    assert_eq!(lent.0, opened.0, "a first net without its record is another");
+fn answer(number: u8) -> Result<(), u8> {
+    if number == 0 { Ok(()) } else { Err(number) }
 }
 
 struct Static;
 
 impl Library for Static {
-    fn widths(&self) -> Widths {
-        Widths { kind_bits: 64, weight_bits: 64, keeps_unused_places: false }
+    fn read(&mut self, record: &[u8], net: &mut Net) -> Result<(), Refusal> {
+        let mut lent = Lent::of(&net.0, BEHIND);
+        let mut offset = u64::MAX;
+        let number =
+            unsafe { gadwemosh_open(record.as_ptr(), record.len(), lent.places.as_mut_ptr(), lent.length, &mut offset) };
+        lent.back(&mut net.0);
+        assert!(number != 0 || offset == 0, "an accepted record has an offset");
+        answer(number).map_err(|number| Refusal { number, offset: offset as usize })
     }
 
-    fn read(&mut self, record: &[u8], net: &mut Net) -> Result<(), Refusal> {
-        let mut lent = Lent::of(net);
-        let mut offset = 0;
-        let number = unsafe { gadwemosh_open(record.as_ptr(), record.len(), lent.0.as_mut_ptr(), lent.0.len(), &mut offset) };
-        if number == 0 || number == 7 {
-            first_alone(record, net, number, &lent);
-        }
-        lent.back(net);
-        if number == 0 { Ok(()) } else { Err(Refusal { number, offset: offset as usize }) }
+    fn first(&mut self, given: &Given, net: &mut Net) -> Result<(), u8> {
+        let Given { kind, degree, frame, coefficients } = given;
+        let mut lent = Lent::of(&net.0, BEHIND);
+        let number = unsafe {
+            gadwemosh_first(
+                *kind, *degree, frame.as_ptr(), frame.len(), coefficients.as_ptr(), coefficients.len(),
+                lent.places.as_mut_ptr(), lent.length,
+            )
+        };
+        lent.back(&mut net.0);
+        answer(number)
     }
 
     fn take(&mut self, net: &mut Net, operation: u8, vertex: u8, [r, s, t]: Weights) -> Result<(), u8> {
-        let mut lent = Lent::of(net);
-        let number = unsafe { gadwemosh_move(lent.0.as_mut_ptr(), lent.0.len(), operation, vertex, r, s, t) };
-        lent.back(net);
-        if number == 0 { Ok(()) } else { Err(number) }
+        let mut lent = Lent::of(&net.0, BEHIND);
+        let number = unsafe { gadwemosh_move(lent.places.as_mut_ptr(), lent.length, operation, vertex, r, s, t) };
+        lent.back(&mut net.0);
+        answer(number)
     }
 
-    fn find(&mut self, net: &Net, [r, s, t]: Weights) -> Result<[i64; 4], u8> {
-        let lent = Lent::of(net);
-        let mut found = [BEHIND; 5];
-        let number = unsafe { gadwemosh_point(lent.0.as_ptr(), lent.0.len(), r, s, t, found.as_mut_ptr(), found.len()) };
-        assert_eq!(found[4], BEHIND, "the place behind the point was written");
-        if number != 0 {
-            assert_eq!(found, [BEHIND; 5], "a refused point was written");
-            return Err(number);
-        }
-        Ok([found[0], found[1], found[2], found[3]])
+    fn find(&mut self, net: &Net, [r, s, t]: Weights, found: &mut [i64]) -> Result<(), u8> {
+        let mut lent = Lent::of(found, BEHIND);
+        let number =
+            unsafe { gadwemosh_point(net.0.as_ptr(), net.0.len(), r, s, t, lent.places.as_mut_ptr(), lent.length) };
+        lent.back(found);
+        answer(number)
     }
 
     fn project(&mut self, [x, y, z, w]: [i64; 4]) -> Result<Projection, u8> {
@@ -131,10 +109,13 @@ impl Library for Static {
     }
 
     fn text(&mut self, record: &[u8], buffer: &mut [u8]) -> Result<usize, u8> {
-        let mut length = 0;
+        let mut lent = Lent::of(buffer, *b"->");
+        let mut length = u64::MAX;
         let number =
-            unsafe { gadwemosh_text(record.as_ptr(), record.len(), buffer.as_mut_ptr(), buffer.len(), &mut length) };
-        if number == 0 { Ok(length as usize) } else { Err(number) }
+            unsafe { gadwemosh_text(record.as_ptr(), record.len(), lent.places.as_mut_ptr(), lent.length, &mut length) };
+        lent.back(buffer);
+        assert!(number == 0 || length == 0, "a refused text has a length");
+        answer(number).map(|()| length as usize)
     }
 }
 

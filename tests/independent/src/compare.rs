@@ -3,26 +3,28 @@
 
 use crate::calls::{Answer, Call};
 use crate::counts::Counts;
-use crate::generate::{any_record, encode, everywhere, four_numbers, handed, made, Caller, Mood};
+use crate::generate::{any_first, any_record, any_run, encode, everywhere, four_numbers, handed, made, Caller, Mood};
 use crate::handed::Net;
-use crate::library::{answer, Library, Widths};
+use crate::library::{answer, Library};
 use crate::machine::Machine;
 use crate::projection::project;
 use crate::random::Random;
-use crate::record::{self, read_with_net, Record};
+use crate::record::{self, read_with_net, Record, Refusal};
 use crate::shape::Shape;
 use crate::text::text;
 
 /// A full sweep of damages, at every byte, once in so many lists.
 const SWEEP_ONCE_IN: usize = 400;
 
+/// Bits of a weight.
+const WEIGHT_BITS: u32 = 64;
+
 /// Runs so many lists. The first disagreement ends it, with what leads to it.
 pub fn compare_calls(library: &mut dyn Library, lists: usize, seed: u64) -> Result<Counts, String> {
     let mut counts = Counts::default();
     for number in 0..lists {
         let random = Random::new(seed.wrapping_mul(0x1000_0000_01b3).wrapping_add(number as u64));
-        let widths = library.widths();
-        let mut run = Run { library, widths, counts: &mut counts, random };
+        let mut run = Run { library, counts: &mut counts, random };
         run.one_list(number).map_err(|what| format!("seed {seed}, list {number}: {what}"))?;
     }
     Ok(counts)
@@ -30,7 +32,6 @@ pub fn compare_calls(library: &mut dyn Library, lists: usize, seed: u64) -> Resu
 
 struct Run<'a> {
     library: &'a mut dyn Library,
-    widths: Widths,
     counts: &'a mut Counts,
     random: Random,
 }
@@ -54,11 +55,11 @@ impl Run<'_> {
         let made = made(&mut self.random, shape, mood);
         let bytes = encode(&made.record);
         let context = |what: String, calls: &[Call]| format!("{what}\nrecord {}\ncalls {calls:?}", hex(&bytes));
-        let mut net = handed(&mut self.random, self.widths);
+        let mut net = handed(&mut self.random);
         self.check_read(&bytes, &mut net)?;
         self.check_text(&bytes)?;
         let mut machine = Machine::new(&made.record);
-        let mut caller = Caller::new(&made, mood, self.widths.weight_bits);
+        let mut caller = Caller::new(&made, mood, WEIGHT_BITS);
         let mut calls = Vec::new();
         for _ in 0..mood.length(&mut self.random) {
             let call = caller.next(&mut self.random, machine.frame());
@@ -77,11 +78,13 @@ impl Run<'_> {
 
     /// Calls on a net of any numbers.
     fn handed_list(&mut self) -> Result<(), String> {
-        let mut net = handed(&mut self.random, self.widths);
+        let mut net = any_run(&mut self.random);
+        self.counts.run(&net);
         let start = net.clone();
-        let kind = net.shape().map_or(crate::shape::Kind::Patch, |shape| shape.kind);
+        let shape = if net.is_short() { None } else { net.shape() };
+        let kind = shape.map_or(crate::shape::Kind::Patch, |shape| shape.kind);
         let mood = self.random.pick(&[Mood::Plain, Mood::Units, Mood::Wide, Mood::Broken]);
-        let mut caller = Caller::blind(kind, mood, self.widths.weight_bits);
+        let mut caller = Caller::blind(kind, mood, WEIGHT_BITS);
         let mut calls = Vec::new();
         for _ in 0..self.random.below(25) {
             let call = caller.next(&mut self.random, &[]);
@@ -93,13 +96,15 @@ impl Run<'_> {
         Ok(())
     }
 
-    /// Records of every sort, texts into short buffers, quadruples to project.
+    /// Records of every sort, first nets without one, texts into short buffers,
+    /// quadruples to project.
     fn loose_ends(&mut self) -> Result<(), String> {
         for _ in 0..6 {
             let bytes = any_record(&mut self.random);
-            let mut net = handed(&mut self.random, self.widths);
+            let mut net = any_run(&mut self.random);
             self.check_read(&bytes, &mut net)?;
             self.check_text(&bytes)?;
+            self.check_first()?;
         }
         (0..20).try_for_each(|_| self.check_projection())
     }
@@ -112,40 +117,50 @@ impl Run<'_> {
         let moved = Call::Move { operation: 1, vertex: 1, weights: [1, -1, 0] };
         made.record.moves = vec![moved, Call::Move { operation: 2, vertex: 2, weights: [0; 3] }];
         made.record.point = Some([1, 2, 0]);
+        let lent = handed(&mut self.random);
         for bytes in everywhere(&encode(&made.record)) {
-            let mut net = Net::empty();
-            self.check_read(&bytes, &mut net)?;
+            self.check_read(&bytes, &mut lent.clone())?;
         }
         Ok(())
     }
 
-    /// The answer and the net left, against the model's, and the answer against the
-    /// machine's where there is one.
+    /// The answer and every place left, of the net's and of those lent for a point, against
+    /// the model's, and the answer against the machine's where there is one.
     fn check_call(&mut self, net: &mut Net, call: &Call, expected: Option<Answer>) -> Result<Answer, String> {
         let before = net.clone();
         let mut model = net.clone();
         let modelled = model.answer(call);
-        let given = answer(self.library, net, call);
-        self.counts.answer(&given);
-        let expected = expected.unwrap_or(modelled);
+        let mut expected = expected.unwrap_or(modelled);
         if modelled != expected {
             return Err(format!("the handed net answers {modelled:?}, the machine {expected:?}"));
         }
+        let mut found = vec![self.random.next() as i64; self.random.pick(&[4, 4, 4, 4, 5, 9, 3, 0])];
+        let mut wanted = found.clone();
+        match (*call, expected) {
+            (Call::Point { .. }, _) if found.len() < 4 => expected = Answer::Refused(11),
+            (_, Answer::Point { x, y, z, w, .. }) => wanted[..4].copy_from_slice(&[x, y, z, w]),
+            _ => {}
+        }
+        let given = answer(self.library, net, call, &mut found);
+        self.counts.answer(&given);
         if given != expected {
             return Err(format!("the library answers {given:?}, expected {expected:?}, on {before:?}"));
         }
         if *net != model {
             return Err(format!("{call:?} leaves {net:?}, expected {model:?}"));
         }
-        if let (Answer::Taken, Some(shape)) = (given, net.shape()) {
-            self.counts.limit(&net.entries[..4 * shape.places()]);
+        if found != wanted {
+            return Err(format!("{call:?} leaves {found:?} for the point, expected {wanted:?}"));
+        }
+        if given == Answer::Taken {
+            self.counts.limit(net.shape().map_or(&[], |shape| net.numbers(shape)));
         }
         Ok(given)
     }
 
     fn check_read(&mut self, bytes: &[u8], net: &mut Net) -> Result<(), String> {
         let mut expected_net = net.clone();
-        let expected = read_with_net(bytes);
+        let expected = if net.is_short() { Err(Refusal { number: 11, offset: 0 }) } else { read_with_net(bytes) };
         if let Ok((record, first)) = &expected {
             expected_net.write(record.shape, first);
         }
@@ -155,13 +170,27 @@ impl Run<'_> {
         if given != expected.map(|_| ()) {
             return Err(format!("read {given:?}, expected {expected:?}\nrecord {}", hex(bytes)));
         }
-        if let (Ok(shape), false) = (expected, self.widths.keeps_unused_places) {
-            expected_net.entries[4 * shape.places()..].copy_from_slice(&net.entries[4 * shape.places()..]);
-        }
         if *net != expected_net {
             return Err(format!("read {net:?}, expected {expected_net:?}\nrecord {}", hex(bytes)));
         }
         self.check_fields(bytes)
+    }
+
+    /// A first net without a record.
+    fn check_first(&mut self) -> Result<(), String> {
+        let numbers = any_first(&mut self.random);
+        let mut net = any_run(&mut self.random);
+        let mut expected_net = net.clone();
+        let expected = numbers.make(&mut expected_net);
+        let given = self.library.first(&numbers, &mut net);
+        self.counts.first(&expected);
+        if given != expected {
+            return Err(format!("first net {given:?}, expected {expected:?}\n{numbers:?}"));
+        }
+        if net != expected_net {
+            return Err(format!("first net {net:?}, expected {expected_net:?}\n{numbers:?}"));
+        }
+        Ok(())
     }
 
     fn check_fields(&mut self, bytes: &[u8]) -> Result<(), String> {

@@ -1,6 +1,7 @@
 //! How often every refusal and every kind of projection occurred.
 
 use crate::calls::Answer;
+use crate::handed::{Net, PLACES};
 use crate::projection::Projection;
 use crate::record::Refusal;
 use crate::shape::{Shape, RANGE};
@@ -25,6 +26,12 @@ pub struct Counts {
     pub at_the_limit: u64,
     /// The shapes of accepted records, by kind and degree.
     shapes: [[u64; 11]; 3],
+    /// Handed nets in runs with too few places, with just enough, and with more.
+    pub runs: [u64; 3],
+    /// Handed nets at fault in their second degree alone.
+    pub second_degrees: u64,
+    /// At place N, the first nets without a record refused N, and at 0 those made.
+    pub firsts: [u64; 12],
 }
 
 impl Counts {
@@ -42,6 +49,21 @@ impl Counts {
     pub fn answer(&mut self, answer: &Answer) {
         self.calls += 1;
         self.inner_answer(answer);
+    }
+
+    pub fn run(&mut self, net: &Net) {
+        self.runs[net.0.len().clamp(PLACES - 1, PLACES + 1) - (PLACES - 1)] += 1;
+        if let (false, [kind, degree, second, ..]) = (net.is_short(), &net.0[..]) {
+            self.second_degrees += u64::from(*second != 0 && Shape::named(*kind, *degree).is_some());
+        }
+    }
+
+    pub fn first(&mut self, answer: &Result<(), u8>) {
+        self.calls += 1;
+        self.firsts[usize::from(answer.err().unwrap_or(0))] += 1;
+        if let Err(number) = answer {
+            self.refused(*number);
+        }
     }
 
     pub fn projection(&mut self, projection: &Result<Projection, u8>) {
@@ -104,7 +126,8 @@ impl Counts {
         }
     }
 
-    /// What never occurred, of the refusals up to `last`, the projections and the shapes.
+    /// What never occurred, of the refusals up to `last`, the projections and the shapes;
+    /// where `last` is 11, of what is lent too.
     pub fn missing(&self, last: usize) -> Vec<String> {
         let refusals = (1..=last).filter(|&n| self.refusals[n] == 0).map(|n| format!("refusal {n}"));
         let words = [("finite", self.finite), ("direction", self.direction), ("nowhere", self.nowhere), ("taken", self.taken)];
@@ -112,7 +135,17 @@ impl Counts {
         let unseen = |shape: &Shape| self.shapes[usize::from(shape.kind.number())][shape.degree] == 0;
         let name = |shape: Shape| format!("{} of degree {}", shape.kind.word(), shape.degree);
         let shapes = Shape::all().into_iter().filter(unseen).map(name);
-        refusals.chain(projections).chain(shapes).collect()
+        let lent = if last < 11 { Vec::new() } else { self.missing_of_what_is_lent() };
+        refusals.chain(projections).chain(shapes).chain(lent).collect()
+    }
+
+    fn missing_of_what_is_lent(&self) -> Vec<String> {
+        let firsts = [0, 4, 5, 6, 7, 11].map(|n: usize| (format!("first net with {n}"), self.firsts[n]));
+        let words = ["a run too short", "a run just long enough", "a longer run"];
+        let runs = words.into_iter().map(str::to_string).zip(self.runs);
+        let second = [("a second degree".to_string(), self.second_degrees)];
+        let all = firsts.into_iter().chain(runs).chain(second);
+        all.filter(|word| word.1 == 0).map(|word| word.0).collect()
     }
 
     /// One line with every count.
@@ -126,6 +159,11 @@ impl Counts {
         if self.lists > 0 {
             let (lists, large, bits) = (self.lists, self.large_frames, self.largest_frame_bits);
             line += &format!("; lists {lists}, frames past 2^48 after {large} of them, largest {bits} bits");
+            let ([short, exact, longer], second, firsts) = (self.runs, self.second_degrees, self.firsts);
+            line += &format!("; handed runs short {short} exact {exact} longer {longer}, second degree alone at fault {second}");
+            line += &format!("; first nets {}", firsts[0]);
+            let refused = (1..12).filter(|&n| firsts[n] != 0).map(|n| format!(" {n}:{}", firsts[n]));
+            line += &format!(" refused{}", refused.collect::<String>());
         }
         line
     }

@@ -6,52 +6,65 @@ use crate::calls::{place_of, refused_before_size, Answer, Call, Weights, FLIP};
 use crate::projection::project;
 use crate::shape::{in_range, Kind, Shape};
 
-/// The entries of a patch of degree 8, four components each.
-pub const PLACES: usize = 45;
-pub const NUMBERS: usize = 4 * PLACES;
+/// So many places a net has at least; fewer are refused, 11, and further ones are its
+/// owner's.
+pub const PLACES: usize = 193;
 
-/// A net as 64-bit numbers. Entry e has its components at 4e to 4e + 3; the places
-/// past the entries of its kind and degree are unused and hold anything.
+/// Where the entries begin, after kind, degree, second degree and nine places that
+/// nothing uses.
+pub const ENTRIES: usize = 12;
+
+/// A net in a run of 64-bit numbers: kind, degree and second degree (0 for a curve or
+/// patch) at 0, 1 and 2, the components of entry e at 12 + 4e and the three places
+/// after it. All other places hold anything.
 #[derive(Clone, Debug, PartialEq, Eq)]
-pub struct Net {
-    pub kind: i64,
-    pub degree: i64,
-    pub entries: [i64; NUMBERS],
-}
+pub struct Net(pub Vec<i64>);
 
 type Entries = Vec<[i64; 4]>;
 
 impl Net {
     pub fn empty() -> Net {
-        Net { kind: 0, degree: 0, entries: [0; NUMBERS] }
+        Net(vec![0; PLACES])
     }
 
-    /// Writes kind, degree and entries; the unused places keep their values.
+    pub fn is_short(&self) -> bool {
+        self.0.len() < PLACES
+    }
+
+    /// Writes kind, degrees and entries; the unused places keep their values.
     pub fn write(&mut self, shape: Shape, entries: &[[i64; 4]]) {
-        self.kind = i64::from(shape.kind.number());
-        self.degree = shape.degree as i64;
-        for (place, number) in self.entries.iter_mut().zip(entries.iter().flatten()) {
+        self.0[..3].copy_from_slice(&[i64::from(shape.kind.number()), shape.degree as i64, 0]);
+        for (place, number) in self.0[ENTRIES..].iter_mut().zip(entries.iter().flatten()) {
             *place = *number;
         }
     }
 
     pub fn shape(&self) -> Option<Shape> {
-        Shape::named(self.kind, self.degree)
+        let named = Shape::named(self.0[0], self.0[1]);
+        named.filter(|_| self.0[2] == 0)
     }
 
-    /// The entries that this shape uses.
+    /// The numbers of the entries that this shape uses.
+    pub fn numbers(&self, shape: Shape) -> &[i64] {
+        &self.0[ENTRIES..ENTRIES + 4 * shape.places()]
+    }
+
+    /// The same, entry by entry.
     pub fn used(&self, shape: Shape) -> Entries {
         let entry = |four: &[i64]| [four[0], four[1], four[2], four[3]];
-        self.entries.chunks(4).take(shape.places()).map(entry).collect()
+        self.numbers(shape).chunks(4).map(entry).collect()
     }
 
-    /// The net itself is judged first (4, then 10), whatever the call; then the call
-    /// (8, 9, 10). A refused call leaves the net, and so does a point.
+    /// The room is judged first (11), then the net itself (4, then 10), whatever the
+    /// call; then the call (8, 9, 10). A refused call leaves the net, and so does a point.
     pub fn answer(&mut self, call: &Call) -> Answer {
         self.try_answer(call).unwrap_or_else(Answer::Refused)
     }
 
     fn try_answer(&mut self, call: &Call) -> Result<Answer, u8> {
+        if self.is_short() {
+            return Err(11);
+        }
         let shape = self.shape().ok_or(4)?;
         let entries = self.used(shape);
         if !all_in_range(&entries) {
@@ -154,6 +167,31 @@ mod tests {
             for (index, copies) in shape.copies().into_iter().enumerate() {
                 assert_eq!(place(shape.kind, copies), index);
             }
+        }
+    }
+
+    #[test]
+    fn only_numbers_in_use_are_read_and_written() {
+        let shape = Shape { kind: Kind::Curve, degree: 1 };
+        let mut net = Net((0..200).map(|place| i64::MIN + place).collect());
+        let before = net.clone();
+        net.write(shape, &[[1, 2, 3, 4], [5, 6, 7, 8]]);
+        assert_eq!(net.0[..3], [1, 1, 0]);
+        assert_eq!(net.0[3..12], before.0[3..12]);
+        assert_eq!(net.0[12..20], [1, 2, 3, 4, 5, 6, 7, 8]);
+        assert_eq!(net.0[20..], before.0[20..]);
+        let flip = Call::Move { operation: FLIP, vertex: 1, weights: [0; 3] };
+        assert_eq!(net.answer(&flip), Answer::Taken);
+        assert_eq!(net.0[12..21], [-1, -2, -3, -4, 5, 6, 7, 8, before.0[20]]);
+    }
+
+    #[test]
+    fn room_goes_before_the_head() {
+        let flip = Call::Move { operation: FLIP, vertex: 1, weights: [0; 3] };
+        for (length, kind, second, number) in [(192, 0, 0, 11), (0, 0, 0, 11), (193, 0, 0, 4), (193, 1, 1, 4), (194, 1, -1, 4)] {
+            let mut run = vec![kind, 1, second];
+            run.resize(length, 0);
+            assert_eq!(Net(run).answer(&flip), Answer::Refused(number));
         }
     }
 }

@@ -11,6 +11,7 @@ pub mod compare;
 pub mod compare_text;
 pub mod counts;
 pub mod exact;
+pub mod first;
 pub mod generate;
 pub mod handed;
 pub mod library;

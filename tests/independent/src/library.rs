@@ -1,40 +1,31 @@
 //! What a library under comparison offers, and this package's own model of it.
 
 use crate::calls::{Answer, Call, Weights};
+use crate::first::Given;
 use crate::handed::Net;
 use crate::projection::{project, Projection};
 use crate::record::{self, Refusal};
 use crate::text::text_into;
 
-/// What the library's types can carry, so that only such numbers are handed over.
-#[derive(Clone, Copy, Debug)]
-pub struct Widths {
-    /// Bits of a net's kind and degree: 8 stands for an unsigned byte, anything
-    /// else for a signed number of that many bits.
-    pub kind_bits: u32,
-    /// Bits of a signed weight: 16, 32 or 64.
-    pub weight_bits: u32,
-    /// Whether reading a record leaves the unused places of the lent net; otherwise
-    /// they are not compared after reading.
-    pub keeps_unused_places: bool,
-}
-
+/// Every buffer is handed over with the length it has; a number that is returned is
+/// the refusal's, and what is refused writes nothing.
 pub trait Library {
-    fn widths(&self) -> Widths;
-
-    /// Reads a record and writes its first net, or writes nothing.
+    /// Reads a record and writes its first net.
     fn read(&mut self, record: &[u8], net: &mut Net) -> Result<(), Refusal>;
 
-    /// Takes a move, or leaves the net.
+    /// Makes a first net without a record.
+    fn first(&mut self, given: &Given, net: &mut Net) -> Result<(), u8>;
+
+    /// Takes a move.
     fn take(&mut self, net: &mut Net, operation: u8, vertex: u8, weights: Weights) -> Result<(), u8>;
 
-    /// Finds a point.
-    fn find(&mut self, net: &Net, weights: Weights) -> Result<[i64; 4], u8>;
+    /// Finds a point and writes it into the first four places.
+    fn find(&mut self, net: &Net, weights: Weights, found: &mut [i64]) -> Result<(), u8>;
 
     /// Projects four numbers.
     fn project(&mut self, point: [i64; 4]) -> Result<Projection, u8>;
 
-    /// Writes netprint's text; its length, or 11 and the buffer as it was.
+    /// Writes netprint's text; its length.
     fn text(&mut self, record: &[u8], buffer: &mut [u8]) -> Result<usize, u8>;
 
     /// Where a field's value lies, as offset and length, if the library says so.
@@ -47,14 +38,17 @@ pub trait Library {
 pub struct Model;
 
 impl Library for Model {
-    fn widths(&self) -> Widths {
-        Widths { kind_bits: 64, weight_bits: 64, keeps_unused_places: true }
-    }
-
     fn read(&mut self, bytes: &[u8], net: &mut Net) -> Result<(), Refusal> {
+        if net.is_short() {
+            return Err(Refusal { number: 11, offset: 0 });
+        }
         let (record, first) = record::read_with_net(bytes)?;
         net.write(record.shape, &first);
         Ok(())
+    }
+
+    fn first(&mut self, given: &Given, net: &mut Net) -> Result<(), u8> {
+        given.make(net)
     }
 
     fn take(&mut self, net: &mut Net, operation: u8, vertex: u8, weights: Weights) -> Result<(), u8> {
@@ -64,12 +58,14 @@ impl Library for Model {
         }
     }
 
-    fn find(&mut self, net: &Net, weights: Weights) -> Result<[i64; 4], u8> {
+    fn find(&mut self, net: &Net, weights: Weights, found: &mut [i64]) -> Result<(), u8> {
+        let room = found.first_chunk_mut::<4>().ok_or(11)?;
         match net.clone().answer(&Call::Point { weights }) {
-            Answer::Point { x, y, z, w, .. } => Ok([x, y, z, w]),
-            Answer::Refused(number) => Err(number),
+            Answer::Point { x, y, z, w, .. } => *room = [x, y, z, w],
+            Answer::Refused(number) => return Err(number),
             Answer::Taken => unreachable!("a point is found or refused"),
         }
+        Ok(())
     }
 
     fn project(&mut self, point: [i64; 4]) -> Result<Projection, u8> {
@@ -85,23 +81,20 @@ impl Library for Model {
     }
 }
 
-/// The whole answer to a call, the projection of a found point included.
-pub fn answer(library: &mut dyn Library, net: &mut Net, call: &Call) -> Answer {
-    match *call {
-        Call::Move { operation, vertex, weights } => match library.take(net, operation, vertex, weights) {
-            Ok(()) => Answer::Taken,
-            Err(number) => Answer::Refused(number),
-        },
-        Call::Point { weights } => match found(library, net, weights) {
-            Ok(answer) => answer,
-            Err(number) => Answer::Refused(number),
-        },
-    }
+/// The whole answer to a call, the projection of a found point included. A move does
+/// not use the places for a point.
+pub fn answer(library: &mut dyn Library, net: &mut Net, call: &Call, found: &mut [i64]) -> Answer {
+    let answered = match *call {
+        Call::Move { operation, vertex, weights } => library.take(net, operation, vertex, weights).map(|()| Answer::Taken),
+        Call::Point { weights } => library.find(net, weights, found).and_then(|()| projected(library, found)),
+    };
+    answered.unwrap_or_else(Answer::Refused)
 }
 
-fn found(library: &mut dyn Library, net: &Net, weights: Weights) -> Result<Answer, u8> {
-    let point = library.find(net, weights)?;
-    let projection = library.project(point)?;
-    let [x, y, z, w] = point;
-    Ok(Answer::Point { x, y, z, w, projection })
+/// A library that found a point without room for it has not answered it.
+fn projected(library: &mut dyn Library, found: &[i64]) -> Result<Answer, u8> {
+    let Some(&[x, y, z, w]) = found.first_chunk::<4>() else {
+        return Ok(Answer::Taken);
+    };
+    Ok(Answer::Point { x, y, z, w, projection: library.project([x, y, z, w])? })
 }

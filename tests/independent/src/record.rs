@@ -141,8 +141,8 @@ impl Found {
                 let shape = Shape::named(i64::from(value[0]), i64::from(value[1]));
                 self.shape = Some(shape.ok_or(4)?);
             }
-            (2, Some(shape)) => self.frame = Some(frame(shape, value).ok_or(5)?),
-            (3, Some(_)) => self.coefficients = Some((at, coefficients(value).ok_or(6)?)),
+            (2, Some(shape)) => self.frame = Some(frame(shape, &short_numbers(value)).ok_or(5)?),
+            (3, Some(_)) => self.coefficients = Some((at, coefficients(&long_numbers(value)).ok_or(6)?)),
             (4, _) => self.moves = value.chunks(8).map(one_move).collect(),
             (_, _) => self.point = Some(weights(value)),
         }
@@ -168,8 +168,12 @@ fn short_numbers(value: &[u8]) -> Vec<i64> {
     value.chunks(2).map(|two| i64::from(i16::from_be_bytes([two[0], two[1]]))).collect()
 }
 
-fn frame(shape: Shape, value: &[u8]) -> Option<Vec<[i64; 3]>> {
-    let numbers = short_numbers(value);
+fn long_numbers(value: &[u8]) -> Vec<i64> {
+    value.chunks(4).map(|four| i64::from(i32::from_be_bytes([four[0], four[1], four[2], four[3]]))).collect()
+}
+
+/// The vertices, if every number is within its limits and they are a frame.
+pub fn frame(shape: Shape, numbers: &[i64]) -> Option<Vec<[i64; 3]>> {
     let limits = -LARGEST_FRAME_NUMBER..=LARGEST_FRAME_NUMBER;
     if !numbers.iter().all(|number| limits.contains(number)) {
         return None;
@@ -197,9 +201,8 @@ pub fn determinant(frame: &[[i64; 3]]) -> i64 {
     }
 }
 
-fn coefficients(value: &[u8]) -> Option<Vec<[i64; 4]>> {
-    let number = |four: &[u8]| i64::from(i32::from_be_bytes([four[0], four[1], four[2], four[3]]));
-    let numbers: Vec<i64> = value.chunks(4).map(number).collect();
+/// Four numbers to a monomial, if every one is within its limits.
+pub fn coefficients(numbers: &[i64]) -> Option<Vec<[i64; 4]>> {
     let limits = -LARGEST_COEFFICIENT..=LARGEST_COEFFICIENT;
     let inside = numbers.iter().all(|number| limits.contains(number));
     inside.then(|| numbers.chunks(4).map(|four| [four[0], four[1], four[2], four[3]]).collect())

@@ -3,8 +3,9 @@
 
 use independent::calls::Weights;
 use independent::compare::compare_calls;
-use independent::handed::Net;
-use independent::library::{Library, Model, Widths};
+use independent::first::Given;
+use independent::handed::{Net, ENTRIES, PLACES};
+use independent::library::{Library, Model};
 use independent::projection::Projection;
 use independent::record::Refusal;
 use independent::shape::{in_range, Shape, RANGE};
@@ -22,7 +23,22 @@ enum Fault {
     SaysTenTooSoon,
     NineBeforeEight,
     StoresHalf,
-    WritesUnusedPlaces,
+    WritesPastTheEntries,
+    WritesTheFramesPlaces,
+    WritesTheLargestsPlace,
+    WritesPastTheNet,
+    SecondDegreeNotLookedAt,
+    SecondDegreeKept,
+    KindByItsLowByte,
+    LooksPastTheEntries,
+    TakesShortRuns,
+    RefusesLongerRuns,
+    PointWithoutRoom,
+    PointPastItsPlaces,
+    FirstNetLooksAtUnusedCoefficients,
+    FirstNetLooksAtUnusedFrameNumbers,
+    FirstNetZeroesTheRest,
+    FirstNetWithoutRoom,
     NegativeZero,
     DirectionNotTurned,
     DirectionNotReduced,
@@ -45,6 +61,43 @@ impl Spoiled {
     fn is(&self, fault: Fault) -> bool {
         self.fault == fault
     }
+
+    /// A place that no call writes, where the fault is to write one.
+    fn written_place(&self, net: &Net) -> Option<usize> {
+        let place = match self.fault {
+            Fault::WritesPastTheEntries => 191,
+            Fault::WritesTheFramesPlaces => 11,
+            Fault::WritesTheLargestsPlace => 192,
+            Fault::WritesPastTheNet => PLACES,
+            _ => return None,
+        };
+        (place < net.0.len() && !(place == 191 && net.0[..2] == [2, 8])).then_some(place)
+    }
+
+    fn write_elsewhere(&self, net: &mut Net) {
+        if let Some(place) = self.written_place(net) {
+            net.0[place] = 0;
+        }
+    }
+
+    /// The net as a library would see it that judges the head otherwise.
+    fn misread(&self, net: &Net) -> Option<Net> {
+        let mut read = net.clone();
+        match self.fault {
+            Fault::SecondDegreeNotLookedAt if !net.is_short() => read.0[2] = 0,
+            Fault::KindByItsLowByte if !net.is_short() => read.0[0] &= 255,
+            Fault::TakesShortRuns if net.0.len() == PLACES - 1 => read.0.push(0),
+            Fault::RefusesLongerRuns if net.0.len() > PLACES => read.0.clear(),
+            Fault::LooksPastTheEntries if !net.is_short() && net.shape().is_some_and(|s| s.places() < 45) => {
+                let past = net.0[ENTRIES + 4 * net.shape().unwrap().places()];
+                if !in_range(past) {
+                    read.0[ENTRIES] = past;
+                }
+            }
+            _ => return None,
+        }
+        Some(read)
+    }
 }
 
 /// A replace that keeps only the new net, with its own limit and no other test.
@@ -64,7 +117,7 @@ fn blossom(net: &Net, shape: Shape, copies: [usize; 3], at: usize, weights: Weig
 fn expand(net: &Net, shape: Shape, copies: [usize; 3], left: usize, weights: Weights) -> [i128; 4] {
     if left == 0 {
         let place = shape.copies().iter().position(|c| *c == copies).unwrap();
-        return [0, 1, 2, 3].map(|c| i128::from(net.entries[4 * place + c]));
+        return [0, 1, 2, 3].map(|c| i128::from(net.numbers(shape)[4 * place + c]));
     }
     let mut sum = [0; 4];
     for vertex in (0..shape.vertices()).filter(|&v| weights[v] != 0) {
@@ -90,15 +143,13 @@ fn narrow(values: &[[i128; 4]]) -> Vec<[i64; 4]> {
 }
 
 impl Library for Spoiled {
-    fn widths(&self) -> Widths {
-        self.model.widths()
-    }
-
     fn read(&mut self, record: &[u8], net: &mut Net) -> Result<(), Refusal> {
+        let before = net.0.get(2).copied().unwrap_or(0);
         let answer = self.model.read(record, net);
         match (self.fault, answer) {
-            (Fault::RefusedRecordMakesANet, Err(_)) => net.kind = 0,
-            (Fault::WritesUnusedPlaces, Ok(())) => net.entries[179] = 0,
+            (Fault::RefusedRecordMakesANet, Err(_)) => net.0.iter_mut().take(1).for_each(|kind| *kind = 0),
+            (Fault::SecondDegreeKept, Ok(())) => net.0[2] = before,
+            (_, Ok(())) => self.write_elsewhere(net),
             (Fault::OffsetOfTheValue, Err(refusal)) if refusal.number == 6 => {
                 return Err(Refusal { number: 6, offset: refusal.offset + 3 });
             }
@@ -107,14 +158,44 @@ impl Library for Spoiled {
         answer
     }
 
+    fn first(&mut self, given: &Given, net: &mut Net) -> Result<(), u8> {
+        let answer = self.model.first(given, net);
+        match self.fault {
+            Fault::FirstNetLooksAtUnusedCoefficients if answer.is_ok() => {
+                let outside = given.coefficients[..180].iter().any(|a| a.unsigned_abs() > 1 << 20);
+                return if outside { Err(6) } else { Ok(()) };
+            }
+            Fault::FirstNetLooksAtUnusedFrameNumbers if answer.is_ok() => {
+                let outside = given.frame[..9].iter().any(|a| a.unsigned_abs() > 4);
+                return if outside { Err(5) } else { Ok(()) };
+            }
+            Fault::FirstNetZeroesTheRest if answer.is_ok() => {
+                let used = ENTRIES + 4 * net.shape().unwrap().places();
+                net.0[used..192].fill(0);
+            }
+            Fault::FirstNetWithoutRoom if answer == Err(11) && !net.is_short() => return Err(6),
+            _ if answer.is_ok() => self.write_elsewhere(net),
+            _ => {}
+        }
+        answer
+    }
+
     fn take(&mut self, net: &mut Net, operation: u8, vertex: u8, weights: Weights) -> Result<(), u8> {
         let before = net.clone();
+        if let Some(mut read) = self.misread(net) {
+            let answer = self.model.take(&mut read, operation, vertex, weights);
+            if answer.is_ok() {
+                let end = net.0.len();
+                net.0[ENTRIES..].copy_from_slice(&read.0[ENTRIES..end]);
+            }
+            return answer;
+        }
         let answer = self.model.take(net, operation, vertex, weights);
-        let shape = before.shape();
+        let shape = if before.is_short() { None } else { before.shape() };
         match self.fault {
             Fault::FlipDoesNothing if operation == 2 => *net = before,
             Fault::ReplaceDoesNothing if operation == 1 => *net = before,
-            Fault::SecondNetReversed if operation == 2 && answer.is_ok() && net.kind == 1 => {
+            Fault::SecondNetReversed if operation == 2 && answer.is_ok() && net.0[0] == 1 => {
                 let mut entries = net.used(net.shape().unwrap());
                 entries.reverse();
                 net.write(net.shape().unwrap(), &entries);
@@ -136,7 +217,7 @@ impl Library for Spoiled {
                     }
                 }
             }
-            Fault::SaysTenTooSoon if answer.is_ok() && net.entries[..4].iter().any(|c| c.abs() > 1 << 40) => {
+            Fault::SaysTenTooSoon if answer.is_ok() && net.0[ENTRIES..ENTRIES + 4].iter().any(|c| c.abs() > 1 << 40) => {
                 *net = before;
                 return Err(10);
             }
@@ -145,26 +226,35 @@ impl Library for Spoiled {
                     return Err(9);
                 }
             }
-            Fault::StoresHalf if answer == Err(10) && operation == 1 => net.entries[0] = net.entries[0].wrapping_add(1),
-            Fault::WritesUnusedPlaces if answer.is_ok() => net.entries[179] = 0,
+            Fault::StoresHalf if answer == Err(10) && operation == 1 => net.0[ENTRIES] = net.0[ENTRIES].wrapping_add(1),
             Fault::TakesHandedNetsOutOfRange if operation == 2 && answer == Err(10) => return Ok(()),
-            Fault::ThirdWeightOfACurve if operation == 1 && net.kind == 1 && answer == Err(8) => {
+            Fault::ThirdWeightOfACurve if operation == 1 && answer == Err(8) && net.0[0] == 1 => {
                 return self.model.take(net, operation, vertex, [weights[0], weights[1], 0]);
             }
+            _ if answer.is_ok() => self.write_elsewhere(net),
             _ => {}
         }
         answer
     }
 
-    fn find(&mut self, net: &Net, weights: Weights) -> Result<[i64; 4], u8> {
-        let answer = self.model.find(net, weights);
-        if self.is(Fault::LooksOnlyAtThePointFound) && answer == Err(10) {
-            if let Some(shape) = net.shape().filter(|s| usable(net, *s)) {
-                let value = expand(net, shape, [0; 3], shape.degree, weights);
-                if within(&[value], RANGE) {
-                    return Ok(value.map(|c| c as i64));
+    fn find(&mut self, net: &Net, weights: Weights, found: &mut [i64]) -> Result<(), u8> {
+        if let Some(read) = self.misread(net) {
+            return self.model.find(&read, weights, found);
+        }
+        let answer = self.model.find(net, weights, found);
+        match self.fault {
+            Fault::LooksOnlyAtThePointFound if answer == Err(10) => {
+                if let Some(shape) = net.shape().filter(|s| usable(net, *s)) {
+                    let value = expand(net, shape, [0; 3], shape.degree, weights);
+                    if within(&[value], RANGE) {
+                        found[..4].copy_from_slice(&value.map(|c| c as i64));
+                        return Ok(());
+                    }
                 }
             }
+            Fault::PointWithoutRoom if answer == Err(11) && !net.is_short() && net.shape().is_none() => return Err(4),
+            Fault::PointPastItsPlaces if answer.is_ok() => found[4..].fill(0),
+            _ => {}
         }
         answer
     }
@@ -209,7 +299,10 @@ fn every_fault_is_found() {
     let faults = [
         FlipDoesNothing, ReplaceDoesNothing, SecondNetReversed, RefusesBeforeTheLimit, RefusesAfterTheLimit,
         LooksOnlyAtTheNewNet, LooksOnlyAtThePointFound, SaysTenTooSoon, NineBeforeEight, StoresHalf,
-        WritesUnusedPlaces, NegativeZero, DirectionNotTurned, DirectionNotReduced, NowhereForDirections,
+        WritesPastTheEntries, WritesTheFramesPlaces, WritesTheLargestsPlace, WritesPastTheNet, SecondDegreeNotLookedAt,
+        SecondDegreeKept, KindByItsLowByte, LooksPastTheEntries, TakesShortRuns, RefusesLongerRuns, PointWithoutRoom,
+        PointPastItsPlaces, FirstNetLooksAtUnusedCoefficients, FirstNetLooksAtUnusedFrameNumbers, FirstNetZeroesTheRest,
+        FirstNetWithoutRoom, NegativeZero, DirectionNotTurned, DirectionNotReduced, NowhereForDirections,
         ProjectsAnything, WritesShortBuffers, WritesPastTheText, RefusedRecordMakesANet, OffsetOfTheValue,
         TakesHandedNetsOutOfRange, ThirdWeightOfACurve,
     ];

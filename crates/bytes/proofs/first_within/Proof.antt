@@ -6,7 +6,7 @@ use native.Mathlib.Omega.{arith}
 use borrow.Author.Needs.{needs}
 use borrow.Author.Tests.{not-true, not-false}
 use denote.Ref.{now}
-use Rattle.machine.specs.Kinds.{within}
+use Rattle.integers.specs.Test.{within}
 use Rattle.bytes.specs.Numbers.{numberAt}
 use Rattle.bytes.proofs.Numbers.{number-there, one-further, each-passes, one-fails}
 use Rattle.bytes.proofs.first_within.Statement.{statement}
@@ -21,24 +21,15 @@ abbrev μ-loop : tie.MeasureT-loop
 loop-holds : tie.Need-loop-holds Inv-loop μ-loop
 loop-holds c = (omega arith, λ k h. absurd (omega arith))
 
-mul-four-bytes : tie.Need-mul-four-bytes Inv-loop μ-loop
-mul-four-bytes c = search needs
-
-four-bytes-requires : tie.Need-four-bytes-requires Inv-loop μ-loop
-four-bytes-requires c κs = search needs
-
-is-within-requires : tie.Need-is-within-requires Inv-loop μ-loop
-is-within-requires c κs = search needs
-
 -- what the test says of number i
-tested : (c : tie.After-is-within Inv-loop μ-loop) → let a = c .before .before .before .before .before .args in
-    within (a .limit) (numberAt 4 (now (a .part)) (c .before .before .before .loop .i)) ≡ c .is-within .result
+tested : (c : tie.After-stands-within Inv-loop μ-loop) → let a = c .before .before .before .before .before .args in
+    within (a .limit) (numberAt 4 (now (a .part)) (c .before .before .before .loop .i)) ≡ c .stands-within .result
 tested c =
     let start = c .before .before .before .before .before in
     let a = start .args in
     let i = c .before .before .before .loop .i in
     ap (within (a .limit)) (number-there 4 (now (a .part)) i (c .before .four-bytes .result) (omega arith) (omega arith) (c .before .four-bytes .ensures .0))
-    ∙ sym (c .is-within .ensures)
+    ∙ sym (c .stands-within .ensures)
 
 returns : tie.Need-returns Inv-loop μ-loop
 returns c =
@@ -51,19 +42,13 @@ returns c =
     (numberAt 4 (now (a .part)))
     i
     (omega arith)
-    (tested (c .before) ∙ not-true (c .before .is-within .result) (c .if1 .taken)))
-
-add-i : tie.Need-add-i Inv-loop μ-loop
-add-i c = search needs
-
-loop-less : tie.Need-loop-less Inv-loop μ-loop
-loop-less c = search needs
+    (tested (c .before) ∙ not-true (c .before .stands-within .result) (c .if1 .taken)))
 
 loop-again : tie.Need-loop-again Inv-loop μ-loop
 loop-again c =
     let a = c .before .before .before .before .before .before .args in
     let loop = c .before .before .before .before .loop in
-    (omega arith, one-further (λ k. within (a .limit) (numberAt 4 (now (a .part)) k) ≡ true) (loop .i) (loop .inv .1) (tested (c .before) ∙ not-false (c .before .is-within .result) (c .if1 .left)))
+    (omega arith, one-further (λ k. within (a .limit) (numberAt 4 (now (a .part)) k) ≡ true) (loop .i) (loop .inv .1) (tested (c .before) ∙ not-false (c .before .stands-within .result) (c .if1 .left)))
 
 returns-2 : tie.Need-returns-2 Inv-loop μ-loop
 returns-2 c =
@@ -78,11 +63,11 @@ first-within-spec =
     Inv-loop
     μ-loop
     loop-holds
-    mul-four-bytes
-    four-bytes-requires
-    is-within-requires
+    (λ c. search needs)
+    (λ c κs. search needs)
+    (λ c κs. search needs)
     returns
-    add-i
-    loop-less
+    (λ c. search needs)
+    (λ c. search needs)
     loop-again
     returns-2)

@@ -4,41 +4,14 @@ use mathlib.Core.Path.{_≡_, _∙_}
 use Prim.Native.Nat.{_^_, _<_}
 use lib.IntN.{ℤ}
 use lib.Signed.{mag}
-use Rattle.bytes.proofs.Bits.{readBack, read-back}
+use Rattle.integers.proofs.Signed.{seen, back-fits}
 use Rattle.bytes.specs.Numbers.{numbersTo, frameNumbers}
 use borrow.Author.Needs.{needs}
 use Rattle.bytes.proofs.frame_numbers.Statement.{statement}
 use Rattle.bytes.proofs.frame_numbers.Tie as tie
 
-short-at-requires : tie.Need-short-at-requires
-short-at-requires c κs = search needs
-
-short-at-requires-2 : tie.Need-short-at-requires-2
-short-at-requires-2 c κs = search needs
-
-short-at-requires-3 : tie.Need-short-at-requires-3
-short-at-requires-3 c κs = search needs
-
-short-at-requires-4 : tie.Need-short-at-requires-4
-short-at-requires-4 c κs = search needs
-
-short-at-requires-5 : tie.Need-short-at-requires-5
-short-at-requires-5 c κs = search needs
-
-short-at-requires-6 : tie.Need-short-at-requires-6
-short-at-requires-6 c κs = search needs
-
-short-at-requires-7 : tie.Need-short-at-requires-7
-short-at-requires-7 c κs = search needs
-
-short-at-requires-8 : tie.Need-short-at-requires-8
-short-at-requires-8 c κs = search needs
-
-short-at-requires-9 : tie.Need-short-at-requires-9
-short-at-requires-9 c κs = search needs
-
-read : {z w : ℤ} → mag z < 2 ^ 63 → z ≡ w → readBack z ≡ w
-read {z} small is = read-back z small ∙ is
+read : {z w : ℤ} → mag z < 2 ^ 63 → z ≡ w → seen z ≡ w
+read small is = back-fits (record { sfits = small }) ∙ is
 
 returns : tie.Need-returns
 unfolding frameNumbers numbersTo
@@ -57,13 +30,13 @@ pub frame-numbers-spec : {M : Type 1} → statement M
 frame-numbers-spec =
     tie.close
     (tie.spec
-    short-at-requires
-    short-at-requires-2
-    short-at-requires-3
-    short-at-requires-4
-    short-at-requires-5
-    short-at-requires-6
-    short-at-requires-7
-    short-at-requires-8
-    short-at-requires-9
+    (λ c κs. search needs)
+    (λ c κs. search needs)
+    (λ c κs. search needs)
+    (λ c κs. search needs)
+    (λ c κs. search needs)
+    (λ c κs. search needs)
+    (λ c κs. search needs)
+    (λ c κs. search needs)
+    (λ c κs. search needs)
     returns)

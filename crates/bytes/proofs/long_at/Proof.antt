@@ -1,32 +1,27 @@
--- `long_at` meets its contract: the test of `signed` is that of two's complement in four bytes.
+-- `long_at` meets its contract: where the part has the bytes, the test of `signed` is that of two's complement in four bytes.
 use mathlib.Core.Path.{sym, _∙_}
 use native.Mathlib.Omega.{arith}
 use denote.Ref.{now}
-use Rattle.bytes.proofs.Bits.{read-back}
-use Rattle.bytes.proofs.Numbers.{number-there}
+use Rattle.integers.proofs.Signed.{back-fits}
+use Rattle.bytes.proofs.Numbers.{number-there, number-lacking}
 use Rattle.bytes.specs.Numbers.{twosComplement}
 use borrow.Author.Needs.{needs}
 use Rattle.bytes.proofs.long_at.Statement.{statement}
 use Rattle.bytes.proofs.long_at.Tie as tie
 
-mul-four-bytes : tie.Need-mul-four-bytes
-mul-four-bytes c = search needs
-
-four-bytes-requires : tie.Need-four-bytes-requires
-four-bytes-requires c κs = search needs
-
-signed-requires : tie.Need-signed-requires
-signed-requires c κs = search needs
-
 returns : tie.Need-returns
+returns c = let a = c .before .before .args in sym (number-lacking 4 (now (a .part)) (a .k) (c .if1 .taken))
+
+returns-2 : tie.Need-returns-2
 unfolding twosComplement
-returns c =
-    let start = c .before .before .before in
-    let a = start .args in
+returns-2 c =
+    let there = c .before .before in
+    let a = there .before .before .args in
     let v = c .before .four-bytes .result in
-    read-back (c .signed .result) (c .signed .ok)
+    back-fits (record { sfits = c .signed .ok })
     ∙ c .signed .ensures
-    ∙ sym (number-there 4 (now (a .part)) (a .k) v (omega arith) (start .pre) (c .before .four-bytes .ensures .0))
+    ∙ sym (number-there 4 (now (a .part)) (a .k) v (omega arith) (there .if1 .left) (c .before .four-bytes .ensures .0))
 
 pub long-at-spec : {M : Type 1} → statement M
-long-at-spec = tie.close (tie.spec mul-four-bytes four-bytes-requires signed-requires returns)
+long-at-spec =
+    tie.close (tie.spec returns (λ c. search needs) (λ c κs. search needs) (λ c κs. search needs) returns-2)

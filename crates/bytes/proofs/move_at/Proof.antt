@@ -51,7 +51,7 @@ decoded c =
     (c .before .before .before .before .move-bytes .ensures)
     (c .before .before .before .byte-at .ensures)
     (c .before .before .byte-at2 .ensures)
-    (c .before .part-from .ensures)
+    (c .before .part-from .ensures .0)
     (c .point-weights .ensures)
 
 -- the case that the test found

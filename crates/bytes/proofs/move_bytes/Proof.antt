@@ -9,32 +9,8 @@ use borrow.Author.Needs.{needs}
 use Rattle.bytes.proofs.move_bytes.Statement.{statement}
 use Rattle.bytes.proofs.move_bytes.Tie as tie
 
-sub-result : tie.Need-sub-result
-sub-result c = search needs
-
-part-result-start : tie.Need-part-result-start
-part-result-start c = search needs
-
-part-result-end : tie.Need-part-result-end
-part-result-end c = search needs
-
 returns : tie.Need-returns
 returns c = let a = c .before .before .args in sym (item-lacking 8 (now (a .part)) (a .k) (c .before .if1 .taken))
-
-mul-start : tie.Need-mul-start
-mul-start c = search needs
-
-add-result : tie.Need-add-result
-add-result c = search needs
-
-sub-result-2 : tie.Need-sub-result-2
-sub-result-2 c = search needs
-
-part-result-start-2 : tie.Need-part-result-start-2
-part-result-start-2 c = search needs
-
-part-result-end-2 : tie.Need-part-result-end-2
-part-result-end-2 c = search needs
 
 returns-2 : tie.Need-returns-2
 returns-2 c =
@@ -46,13 +22,13 @@ pub move-bytes-spec : {M : Type 1} → statement M
 move-bytes-spec =
     tie.close
     (tie.spec
-    sub-result
-    part-result-start
-    part-result-end
+    (λ c. search needs)
+    (λ c. search needs)
+    (λ c. search needs)
     returns
-    mul-start
-    add-result
-    sub-result-2
-    part-result-start-2
-    part-result-end-2
+    (λ c. search needs)
+    (λ c. search needs)
+    (λ c. search needs)
+    (λ c. search needs)
+    (λ c. search needs)
     returns-2)

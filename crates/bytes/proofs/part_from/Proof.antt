@@ -1,5 +1,9 @@
 -- `part_from` meets its contract: the part from a start to the length is all that is left, and past the length nothing is.
+use mathlib.Core.Path.{refl}
+use native.Mathlib.Omega.{arith}
 use borrow.Author.Needs.{needs}
+use borrow.Author.Tests.{lt-ltb, le-ltb}
+use lib.ListN.{length}
 use denote.Ref.{now}
 use Rattle.bytes.proofs.Numbers.{from-start, past-end}
 use Rattle.bytes.proofs.part_from.Statement.{statement}
@@ -15,7 +19,10 @@ part-result-end : tie.Need-part-result-end
 part-result-end c = search needs
 
 returns : tie.Need-returns
-returns c = let a = c .before .before .args in past-end (now (a .part)) (a .start) (c .before .if1 .taken)
+returns c =
+    let a = c .before .before .args in
+    let past = c .before .if1 .taken in
+    (past-end (now (a .part)) (a .start) past, record { block = refl; offset = rw (lt-ltb (length (now (a .part))) (a .start) past) (omega arith) })
 
 sub-result-2 : tie.Need-sub-result-2
 sub-result-2 c = search needs
@@ -27,7 +34,10 @@ part-result-end-2 : tie.Need-part-result-end-2
 part-result-end-2 c = search needs
 
 returns-2 : tie.Need-returns-2
-returns-2 c = let a = c .before .before .args in from-start (now (a .part)) (a .start) (c .before .if1 .left)
+returns-2 c =
+    let a = c .before .before .args in
+    let inside = c .before .if1 .left in
+    (from-start (now (a .part)) (a .start) inside, record { block = refl; offset = rw (le-ltb (length (now (a .part))) (a .start) inside) (omega arith) })
 
 pub part-from-spec : {M : Type 1} → statement M
 part-from-spec =

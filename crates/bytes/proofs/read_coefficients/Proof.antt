@@ -1,63 +1,44 @@
--- `read_coefficients` meets its contract: the numbers come first, and zeros from where there are none.
-use mathlib.Core.Bool.{Bool, true, false}
-use mathlib.Core.List.{List}
-use mathlib.Core.Path.{_≡_, refl, sym, _∙_, ap}
-use Prim.Native.Nat.{ℕ, _≤_, _<_}
+-- `read_coefficients` meets its contract: after i turns each place below i holds its number, and the places are as many as before.
+use mathlib.Core.Path.{_≡_, refl, _∙_, ap}
+use Prim.Native.Nat.{ℕ, _-_, _≤_, _<_}
 use native.Mathlib.Omega.{arith}
-use borrow.Author.Tests.{ltb-true, ltb-false}
-use lib.Dec.{ltb}
-use lib.IntN.{ℤ, pos}
-use lib.ListN.{length, getD}
-use denote.Ref.{now}
-use Rattle.bytes.proofs.Numbers.{below-count, numbersTo-by}
-use Rattle.bytes.specs.Numbers.{numberAt, numberBelow, numbersTo}
 use borrow.Author.Needs.{needs}
+use lib.IntN.{pos}
+use lib.ListN.{length, getD, length-set}
+use denote.Ref.{now}
+use Rattle.integers.proofs.Signed.{seen, back-fits}
+use Rattle.bytes.proofs.Numbers.{one-more, numbersTo-by}
+use Rattle.bytes.specs.Numbers.{numberAt, numbersTo}
 use Rattle.bytes.proofs.read_coefficients.Statement.{statement}
 use Rattle.bytes.proofs.read_coefficients.Tie as tie
 
-number-count-requires : tie.Need-number-count-requires
-number-count-requires c κs = search needs
+abbrev Inv-loop : tie.InvT-loop
+Inv-loop part out₀ i₀ out i = (i ≤ length out) × (length out ≡ length out₀) × ((k : ℕ) → k < i → getD out k (pos 0) ≡ numberAt 4 part k)
 
-put-numbers-requires : tie.Need-put-numbers-requires
-put-numbers-requires c κs = search needs
+abbrev μ-loop : tie.MeasureT-loop
+μ-loop part out₀ i₀ out i = length out - i
 
-put-zeros-requires : tie.Need-put-zeros-requires
-put-zeros-requires c κs = search needs
+loop-holds : tie.Need-loop-holds Inv-loop μ-loop
+loop-holds c = (omega arith, refl, λ k h. absurd (omega arith))
 
-same-length : tie.Need-same-length
-same-length c = search needs
+loop-less : tie.Need-loop-less Inv-loop μ-loop
+loop-less c = simp length-set (omega arith)
 
--- the places: what was put in, kept where zeros come after it, and the zeros
-places : (part : List ℕ) (count n : ℕ) (old mid out : List ℤ) → length mid ≡ length old → length out ≡ length mid → n ≤ count
-    → ((k : ℕ) → k < n → getD mid k (pos 0) ≡ numberAt 4 part k)
-    → ((k : ℕ) → k < n → getD out k (pos 0) ≡ getD mid k (pos 0))
-    → ((k : ℕ) → n ≤ k → k < length mid → getD out k (pos 0) ≡ pos 0)
-    → ((k : ℕ) → n ≤ k → k < length old → numberBelow 4 part count k ≡ pos 0)
-    → out ≡ numbersTo (length old) (numberBelow 4 part count)
-places part count n old mid out first second low put kept zeros rest =
-    numbersTo-by out f (λ k h. by-case k h (ltb k n) refl) ∙ ap (λ (m : ℕ). numbersTo m f) (second ∙ first)
-  where
-    f : ℕ → ℤ
-    f = numberBelow 4 part count
+loop-again : tie.Need-loop-again Inv-loop μ-loop
+loop-again c =
+    let loop = c .before .before .loop in
+    let part = now (c .before .before .before .before .args .part) in
+    let v = c .long-at .result in
+    let is = back-fits (record { sfits = c .long-at .ok }) ∙ c .long-at .ensures in
+    (simp length-set (omega arith), simp length-set (loop .inv .1), one-more (loop .out) (λ k x. x ≡ numberAt 4 part k) (loop .i) (seen v) (omega arith) (loop .inv .2) is)
 
-    by-case : (k : ℕ) → k < length out → (t : Bool) → ltb k n ≡ t → getD out k (pos 0) ≡ f k
-    by-case k h true e =
-        let below = ltb-true k n e in
-        kept k below ∙ put k below ∙ sym (below-count 4 part count k (omega arith))
-    by-case k h false e =
-        let past = ltb-false k n e in
-        zeros k past (omega arith) ∙ sym (rest k past (omega arith))
-
-returns : tie.Need-returns
+returns : tie.Need-returns Inv-loop μ-loop
 returns c =
-    let start = c .before .before .before .before .before .before .before .before in
-    let count = c .before .before .before .before .before .before .number-count in
-    let put = c .before .before .before .before .put-numbers .ensures in
-    let cleared = c .before .put-zeros .ensures in
-    let numbers = c .before .before .before .before .put-numbers .last .0 in
-    places (now (start .args .part)) (start .args .count) (count .result) (now (start .args .out)) numbers (c .before .put-zeros .last .0) (put .0) (cleared .0) (count .ensures .0 .0) (put .1) (cleared .1 .0) (cleared .1 .1) (count .ensures .1)
+    let loop = c .before .loop in
+    let f = numberAt 4 (now (c .before .before .before .args .part)) in
+    numbersTo-by (loop .out) f (λ k h. loop .inv .2 k (omega arith)) ∙ ap (λ (n : ℕ). numbersTo n f) (loop .inv .1)
 
 pub read-coefficients-spec : {M : Type 1} → statement M
 read-coefficients-spec =
     tie.close
-    (tie.spec number-count-requires put-numbers-requires put-zeros-requires same-length returns)
+    (tie.spec Inv-loop μ-loop loop-holds (λ c κs. search needs) (λ c. search needs) (λ c. search needs) (λ c. search needs) loop-less loop-again (λ c. search needs) returns)

@@ -8,9 +8,6 @@ use borrow.Author.Needs.{needs}
 use Rattle.bytes.proofs.two_bytes.Statement.{statement}
 use Rattle.bytes.proofs.two_bytes.Tie as tie
 
-shared-slice-read-wide : tie.Need-shared-slice-read-wide
-shared-slice-read-wide c = search needs
-
 wide-requires : tie.Need-wide-requires
 wide-requires c κs = search needs
 
@@ -23,15 +20,6 @@ first c =
 
 mul-result : tie.Need-mul-result
 mul-result c = let b = first c in omega arith
-
-add-wide : tie.Need-add-wide
-add-wide c = search needs
-
-shared-slice-read-wide-2 : tie.Need-shared-slice-read-wide-2
-shared-slice-read-wide-2 c = search needs
-
-wide-requires-2 : tie.Need-wide-requires-2
-wide-requires-2 c κs = search needs
 
 second : (c : tie.After-wide2) → c .wide2 .result < 256
 second c =
@@ -54,11 +42,11 @@ pub two-bytes-spec : {M : Type 1} → statement M
 two-bytes-spec =
     tie.close
     (tie.spec
-    shared-slice-read-wide
+    (λ c. search needs)
     wide-requires
     mul-result
-    add-wide
-    shared-slice-read-wide-2
-    wide-requires-2
+    (λ c. search needs)
+    (λ c. search needs)
+    (λ c κs. search needs)
     add-result
     returns)

@@ -3,7 +3,8 @@ use mathlib.Core.Path.{sym, ap, _∙_, subst}
 use mir.Syntax.{w64}
 use mir.Val.{SFits}
 use Rattle.integers.proofs.Signed.{back-fits}
-use Rattle.integers.proofs.Absolute.{seen, next-fits, mag-fits, negated}
+use Rattle.integers.proofs.Absolute.{next-fits, mag-fits, negated}
+use Rattle.integers.proofs.Signed.{seen}
 use Rattle.integers.proofs.below_magnitude.Statement.{statement}
 use Rattle.integers.proofs.below_magnitude.Tie as tie
 

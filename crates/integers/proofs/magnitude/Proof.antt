@@ -1,6 +1,6 @@
 -- `magnitude` meets its contract, by the sign.
 use borrow.Author.Needs.{needs}
-use Prim.Native.Nat.{ℕ, _+_}
+use Prim.Native.Nat.{_+_}
 use native.Mathlib.Omega.{arith}
 use mathlib.Core.Path.{_≡_, sym, ap, _∙_, subst}
 use lib.Dec.{T}
@@ -9,12 +9,10 @@ use lib.Signed.{mag, nonNeg}
 use mir.Syntax.{w64}
 use mir.Val.{Fits}
 use Rattle.integers.proofs.Signed.{back-fits}
-use Rattle.integers.proofs.Absolute.{seen, mag-fits, size-below, not-below}
+use Rattle.integers.proofs.Absolute.{mag-fits, size-below, not-below}
+use Rattle.integers.proofs.Signed.{seen}
 use Rattle.integers.proofs.magnitude.Statement.{statement}
 use Rattle.integers.proofs.magnitude.Tie as tie
-use Rattle.integers.proofs.magnitude.Reads as reads
-use Rattle.integers.proofs.magnitude.Lts as lts
-use Rattle.integers.proofs.below_magnitude.Reads as below-magnitude-reads
 
 below-magnitude-requires : tie.Need-below-magnitude-requires
 below-magnitude-requires c κs = c .if1 .taken
@@ -42,10 +40,7 @@ returns c =
 cast-result-2 : tie.Need-cast-result-2
 cast-result-2 c = not-below (c .before .args .v) (c .before .fits .v) (c .if1 .left)
 
-returns-2 : tie.Need-returns-2
-returns-2 c = search needs
-
 pub magnitude-spec : {M : Type 1} → statement M
 magnitude-spec =
     tie.close
-    (tie.spec below-magnitude-requires cast-result add-result returns cast-result-2 returns-2)
+    (tie.spec below-magnitude-requires cast-result add-result returns cast-result-2 (λ c. search needs))

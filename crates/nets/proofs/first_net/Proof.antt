@@ -1,86 +1,124 @@
 -- `first_net` meets its contract: the tests are the definition's, in its order, and only the last answer follows a write.
 use borrow.Author.Needs.{needs}
 use borrow.Author.Tests.{not-true, not-false}
-use mathlib.Core.Path.{_≡_, refl, sym, _∙_}
-use lib.ListN.{length}
+use Prim.Native.Nat.{_≤_}
+use native.Mathlib.Omega.{arith}
+use mathlib.Core.Path.{_≡_, refl, sym, ap, _∙_, subst}
+use mathlib.Core.Bool.{Bool}
+use mathlib.Core.List.{_++_}
+use lib.ListN.{length, take, drop, length-drop}
+use lib.Seq.{length-take-le}
+use Rattle.kinds.proofs.Counts.{entries-fit}
+use Rattle.machine.specs.Refusals.{firstFailed}
 use Rattle.machine.specs.Comparison.{Polynomials}
-use Rattle.nets.specs.FirstNet.{judgedFirst}
-use Rattle.nets.proofs.FirstRows.{copied-whole}
-use Rattle.nets.proofs.FirstSteps.{coefficients-short, entries-short, judged-refused, net-refused, net-accepted}
+use Rattle.machine.specs.Nets.{netInRange}
+use Rattle.machine.specs.First.{firstNet}
+use Rattle.machine.specs.Lent.{putAt, polynomialsFrom}
+use Rattle.nets.specs.Calls.{beforeFirst}
+use Rattle.nets.proofs.FirstSteps.{first-known, frame-short, coefficients-short, places-short, judged-refused, net-refused, net-accepted}
 use Rattle.nets.proofs.first_net.Statement.{statement}
 use Rattle.nets.proofs.first_net.Tie as tie
-use Rattle.nets.proofs.first_net.Reads as reads
-use Rattle.nets.proofs.first_net.Lts as lts
-use Rattle.nets.proofs.rows.copy.Reads as copy-reads
-use Rattle.nets.proofs.first.judge_first.Reads as judge-first-reads
-use Rattle.nets.proofs.first.make_first.Reads as make-first-reads
 
 abbrev polynomials : tie.Start → Polynomials
-polynomials s = record { kind = s .args .kind; degree = s .args .degree; coefficients = s .args .coefficients .now }
+polynomials s = polynomialsFrom (s .args .kind) (s .args .degree) (s .args .second) (s .args .coefficients .now)
 
 -- what has been tested so far
-is-long : (c : tie.Else1) → length (c .before .args .coefficients .now) ≡ 180
-is-long c = c .if1 .left
+framed : (c : tie.Else1) → 9 ≤ length (c .before .args .frame .now)
+framed c = omega (arith, c .if1 .left)
 
-is-room : (c : tie.Else2) → length (c .before .before .args .entries .now) ≡ 180
-is-room c = c .if2 .left
+long : (c : tie.Else2) → 180 ≤ length (c .before .before .args .coefficients .now)
+long c = omega (arith, c .if2 .left)
 
-is-judged : (c : tie.Else3) → judgedFirst (polynomials (c .before .before .before .before)) (c .before .before .before .before .args .t4) ≡ 0
-is-judged c = sym (c .before .judge-first .ensures) ∙ c .if3 .left
+room : (c : tie.Else3) → 193 ≤ length (c .before .before .before .args .net .now)
+room c = omega (arith, c .if3 .left)
+
+-- the number judged is that of the first nine numbers
+judged : (c : tie.After-judge-first)
+    → let s = c .before .before .before .before .before in c .judge-first .result ≡ firstFailed (beforeFirst (polynomials s) (take 9 (s .args .frame .now)))
+judged c =
+    let s = c .before .before .before .before .before in
+    c .judge-first .ensures ∙ ap (λ l. firstFailed (beforeFirst (polynomials s) l)) (c .before .first-nine .ensures)
+
+none : (c : tie.Else4) → let s = c .before .before .before .before .before .before in firstFailed (beforeFirst (polynomials s) (take 9 (s .args .frame .now))) ≡ 0
+none c = sym (judged (c .before)) ∙ c .if4 .left
 
 returns : tie.Need-returns
 returns c =
-    let s = c .before in
-    coefficients-short (polynomials s) (s .args .t4) (s .args .entries .now) (c .if1 .taken)
+    let a = c .before .args in
+    frame-short (a .kind) (a .degree) (a .second) (a .frame .now) (a .coefficients .now) (a .net .now) (omega (arith, c .if1 .taken))
 
 returns-2 : tie.Need-returns-2
 returns-2 c =
-    let s = c .before .before in
-    entries-short (polynomials s) (s .args .t4) (s .args .entries .now) (is-long (c .before)) (c .if2 .taken)
-
-judge-first-requires : tie.Need-judge-first-requires
-judge-first-requires c κs = search needs
+    let a = c .before .before .args in
+    coefficients-short (a .kind) (a .degree) (a .second) (a .frame .now) (a .coefficients .now) (a .net .now) (framed (c .before)) (omega (arith, c .if2 .taken))
 
 returns-3 : tie.Need-returns-3
 returns-3 c =
-    let s = c .before .before .before .before in
-    let j = c .before .judge-first in
-    judged-refused (polynomials s) (s .args .t4) (s .args .entries .now) (is-long (c .before .before .before)) (is-room (c .before .before)) (j .result) (j .ensures) (c .if3 .taken)
-
-slice-aggregate-make-first : tie.Need-slice-aggregate-make-first
-slice-aggregate-make-first c = search needs
-
-slice-aggregate-make-first-2 : tie.Need-slice-aggregate-make-first-2
-slice-aggregate-make-first-2 c = search needs
-
-make-first-requires : tie.Need-make-first-requires
-make-first-requires c κs =
-    let long : length (c .before .before .before .before .before .before .args .t4) ≡ 9 = search needs in
-    (is-judged (c .before .before), refl, long, is-long (c .before .before .before .before .before))
+    let a = c .before .before .before .args in
+    places-short (a .kind) (a .degree) (a .second) (a .frame .now) (a .coefficients .now) (a .net .now) (framed (c .before .before)) (long (c .before)) (omega (arith, c .if3 .taken))
 
 returns-4 : tie.Need-returns-4
 returns-4 c =
-    let e = c .before .before .before .before .before in
-    let s = e .before .before .before .before in
-    let made = c .before .before .make-first in
-    net-refused (polynomials s) (s .args .t4) (s .args .entries .now) (is-long (e .before .before .before)) (is-room (e .before .before)) (is-judged e) (sym (made .ensures .1) ∙ not-true (made .result) (c .if4 .taken))
+    let e = c .before .before .before in
+    let a = e .before .before .before .args in
+    judged-refused (a .kind) (a .degree) (a .second) (a .frame .now) (a .coefficients .now) (a .net .now) (framed (e .before .before)) (long (e .before)) (room e)
+    (c .before .judge-first .result) (judged (c .before)) (c .if4 .taken)
 
-slice-aggregate-copy : tie.Need-slice-aggregate-copy
-slice-aggregate-copy c = search needs
+make-first-requires : tie.Need-make-first-requires
+make-first-requires c κs =
+    let e = c .before .before in
+    let nine = e .before .before .first-nine in
+    let framing = e .before .before .before in (
+      ap (λ l. firstFailed (beforeFirst (polynomials (framing .before .before .before)) l)) (nine .ensures) ∙ none e,
+      refl,
+      ap length (nine .ensures) ∙ length-take-le 9 (framing .before .before .before .args .frame .now) (framed (framing .before .before)),
+      long (framing .before),
+    )
 
-copy-requires : tie.Need-copy-requires
-copy-requires c κs = search needs
-
-same-length : tie.Need-same-length
-same-length c = search needs
+-- the answer of the making, and what is made, speak of the first nine numbers
+ranged : (c : tie.After-make-first) {b : Bool} → c .make-first .result ≡ b
+    → let s = c .before .before .before .before .before .before .before .before .before in netInRange (firstNet (polynomials s) (take 9 (s .args .frame .now))) ≡ b
+ranged c e =
+    let s = c .before .before .before .before .before .before .before .before .before in
+    ap (λ l. netInRange (firstNet (polynomials s) l)) (sym (c .before .before .before .before .before .first-nine .ensures)) ∙ sym (c .make-first .ensures .1) ∙ e
 
 returns-5 : tie.Need-returns-5
 returns-5 c =
-    let e = c .before .before .before .before .before .before .before .before .before in
-    let s = e .before .before .before .before in
-    let made = c .before .before .before .before .before .before .make-first in
-    net-accepted (polynomials s) (s .args .t4) (s .args .entries .now) (is-long (e .before .before .before)) (is-room (e .before .before)) (is-judged e) (sym (made .ensures .1) ∙ not-false (made .result) (c .before .before .before .before .if4 .left)) (c .before .copy .last .0)
-    (c .before .copy .ensures ∙ copied-whole (s .args .entries .now) (made .last .0) 180 (is-room (e .before .before)) (made .kept .0) ∙ made .ensures .0)
+    let e = c .before .before .before .before .before in
+    let f = e .before .before .before in
+    let a = f .before .before .before .args in
+    net-refused (a .kind) (a .degree) (a .second) (a .frame .now) (a .coefficients .now) (a .net .now) (framed (f .before .before)) (long (f .before)) (room f) (none e)
+    (ranged (c .before .before) (not-true (c .before .before .make-first .result) (c .if5 .taken)))
+
+copy-requires : tie.Need-copy-requires
+copy-requires c κs =
+    let made = c .before .before .before .before .before .before .before .before in
+    let e = made .before .before .before in
+    let s = e .before .before .before .before .before .before in
+    let head = c .before .before .before .before .put-head in
+    let few = entries-fit (s .args .kind) (s .args .degree) (s .args .second) (first-known (polynomials s) (take 9 (s .args .frame .now)) (none e)) in
+    let count = c .number-count .ensures .entries in
+    let fits = room (e .before .before .before) in (
+      subst (λ k. c .number-count .result ≤ k)
+          (sym (length-take-le 180 (drop 12 (head .last .0)) (subst (λ k. 180 ≤ k) (sym (length-drop 12 (head .last .0))) (omega (arith, fits, head .kept .0)))))
+          (omega (arith, few, count)),
+      omega (arith, few, count, made .make-first .kept .0),
+    )
+
+returns-6 : tie.Need-returns-6
+returns-6 c =
+    let made = c .before .before .before .before .before .before .before .before .before .before in
+    let e = made .before .before .before in
+    let f = e .before .before .before in
+    let a = f .before .before .before .args in
+    let head = c .before .before .before .before .before .before .put-head in
+    let count = c .before .before .number-count in
+    net-accepted (a .kind) (a .degree) (a .second) (a .frame .now) (a .coefficients .now) (a .net .now) (framed (f .before .before)) (long (f .before)) (room f) (none e)
+    (ranged made (not-false (made .make-first .result) (c .before .before .before .before .before .before .before .before .if5 .left)))
+    (made .make-first .last .0) _ (head .last .0) _ (count .result)
+    (made .make-first .ensures .0 ∙ ap (λ l. putAt 0 (firstNet (polynomials (f .before .before .before)) l .entries) _) (e .before .before .first-nine .ensures))
+    (head .ensures) (head .kept .0) (count .ensures .entries)
+    (ap (λ l. take 12 (head .last .0) ++ (l ++ drop 180 (drop 12 (head .last .0)))) (c .before .copy .ensures))
 
 pub first-net-spec : {M : Type 1} → statement M
 first-net-spec =
@@ -88,13 +126,20 @@ first-net-spec =
     (tie.spec
     returns
     returns-2
-    judge-first-requires
     returns-3
-    slice-aggregate-make-first
-    slice-aggregate-make-first-2
-    make-first-requires
+    (λ c κs. search needs)
+    (λ c κs. search needs)
     returns-4
-    slice-aggregate-copy
+    (λ c. search needs)
+    (λ c. search needs)
+    make-first-requires
+    returns-5
+    (λ c κs. search needs)
+    (λ c. search needs)
+    (λ c. search needs)
+    (λ c. search needs)
+    (λ c. search needs)
+    (λ c κs. search needs)
     copy-requires
-    same-length
-    returns-5)
+    (λ c. search needs)
+    returns-6)

@@ -1,24 +1,45 @@
--- `take_move` meets its contract: places of another number are refused, and the rest is judged and made.
-use mathlib.Core.Path.{subst}
-use Rattle.machine.specs.declared.Net.{Net}
-use Rattle.machine.specs.declared.Call.the-variants as call
-use Rattle.nets.specs.Judged.{Stepped}
-use Rattle.nets.proofs.Steps.{lent-short, lent-whole, weights-back}
+-- `take_move` meets its contract: too few places are refused, and the rest is judged and made in the part that holds the entries.
 use borrow.Author.Needs.{needs}
+use mathlib.Core.Path.{ap, _∙_}
+use mathlib.Core.List.{[]}
+use lib.IntN.{pos}
+use lib.ListN.{getD}
+use Rattle.machine.specs.Lent.{byteOf}
+use Rattle.machine.specs.declared.Call.the-variants.{Move}
+use Rattle.nets.proofs.Row.{element}
+use Rattle.nets.proofs.InPlaces.{places-short, move-made}
 use Rattle.nets.proofs.take_move.Statement.{statement}
 use Rattle.nets.proofs.take_move.Tie as tie
-use Rattle.nets.proofs.take_move.Reads as reads
-use Rattle.nets.proofs.take_move.Lts as lts
-use Rattle.nets.proofs.calls.judge_and_move.Reads as judge-and-move-reads
-
--- the net that was handed in
-abbrev net : tie.Start → Net
-net s = record { kind = s .args .kind; degree = s .args .degree; entries = s .args .entries .now }
 
 returns : tie.Need-returns
-returns c =
-    let s = c .before in
-    lent-short (net s) (call.Move (s .args .operation) (s .args .vertex) (s .args .weights)) (c .if1 .taken)
+returns c = let a = c .before .args in places-short (Move (a .operation) (a .vertex) (a .weights)) (a .net .now) [] (c .if1 .taken)
+
+slice-copy-out-byte-of : tie.Need-slice-copy-out-byte-of
+slice-copy-out-byte-of c = search needs
+
+byte-of-requires : tie.Need-byte-of-requires
+byte-of-requires c κs = search needs
+
+slice-copy-out-byte-of-2 : tie.Need-slice-copy-out-byte-of-2
+slice-copy-out-byte-of-2 c = search needs
+
+byte-of-requires-2 : tie.Need-byte-of-requires-2
+byte-of-requires-2 c κs = search needs
+
+slice-copy-out-byte-of-3 : tie.Need-slice-copy-out-byte-of-3
+slice-copy-out-byte-of-3 c = search needs
+
+byte-of-requires-3 : tie.Need-byte-of-requires-3
+byte-of-requires-3 c κs = search needs
+
+sub-judge-and-move : tie.Need-sub-judge-and-move
+sub-judge-and-move c = search needs
+
+part-judge-and-move-start : tie.Need-part-judge-and-move-start
+part-judge-and-move-start c = search needs
+
+part-judge-and-move-end : tie.Need-part-judge-and-move-end
+part-judge-and-move-end c = search needs
 
 judge-and-move-requires : tie.Need-judge-and-move-requires
 judge-and-move-requires c κs = search needs
@@ -28,10 +49,32 @@ same-length c = search needs
 
 returns-2 : tie.Need-returns-2
 returns-2 c =
-    let s = c .before .before .before .before .before .before .before in
-    let t = c .before .before .before .before .struct-told .given in
-    lent-whole (net s) (call.Move (s .args .operation) (s .args .vertex) (s .args .weights)) (c .before .judge-and-move .result) (c .before .judge-and-move .last .0) (c .before .before .before .before .before .before .if1 .left)
-    (subst (λ w. Stepped (net s) (call.Move (s .args .operation) (s .args .vertex) w) (c .before .judge-and-move .result) (c .before .judge-and-move .last .0)) (weights-back (s .args .weights) (t .0 .1) (t .1 .0 .1) (t .1 .1 .0 .1)) (c .before .judge-and-move .ensures))
+    let m = c .before in
+    let third = m .before .before in
+    let second = third .before .before in
+    let first = second .before .before in
+    let e = first .before .before in
+    let a = e .before .args in
+    move-made (a .net .now) (e .if1 .left) (first .byte-of .result) (second .byte-of2 .result) (third .byte-of3 .result)
+    (first .byte-of .ensures ∙ ap byteOf (element (getD (a .net .now) 0 (pos 0)) (first .before .byte-of-arg .given)))
+    (second .byte-of2 .ensures ∙ ap byteOf (element (getD (a .net .now) 1 (pos 0)) (second .before .byte-of-arg2 .given)))
+    (third .byte-of3 .ensures ∙ ap byteOf (element (getD (a .net .now) 2 (pos 0)) (third .before .byte-of-arg3 .given)))
+    (a .operation) (a .vertex) (a .weights) (m .judge-and-move .result) (m .judge-and-move .last .0) (m .judge-and-move .ensures)
 
 pub take-move-spec : {M : Type 1} → statement M
-take-move-spec = tie.close (tie.spec returns judge-and-move-requires same-length returns-2)
+take-move-spec =
+    tie.close
+    (tie.spec
+    returns
+    slice-copy-out-byte-of
+    byte-of-requires
+    slice-copy-out-byte-of-2
+    byte-of-requires-2
+    slice-copy-out-byte-of-3
+    byte-of-requires-3
+    sub-judge-and-move
+    part-judge-and-move-start
+    part-judge-and-move-end
+    judge-and-move-requires
+    same-length
+    returns-2)

@@ -1,101 +1,67 @@
--- `make_first` meets its contract: the part that begins with field 3's value has the coefficients, and field 2's value the frame.
-use mathlib.Core.Path.{_≡_, ap, ap₂, _∙_, subst, refl}
-use mathlib.Core.Bool.{cond}
-use lib.Dec.{eqb}
-use lib.IntN.{ℤ}
-use lib.ListN.{length}
-use mathlib.Core.List.{List}
-use Rattle.machine.specs.Comparison.{Polynomials}
-use Rattle.machine.specs.First.{firstNet, firstRefusal}
-use Rattle.bytes.specs.Numbers.{frameNumbers, numbersTo, numberBelow, coefficientsOf}
-use Rattle.opening.specs.Opening.{polynomialsAt, numbersAt}
-use Rattle.nets.proofs.Judging.{known-sized}
-use Rattle.nets.proofs.Scaled.{monomials-room}
+-- `make_first` meets its contract: field 2's value has the frame, and the part that begins with field 3's value the coefficients, which are read into the first places of an
+-- array of zeros.
 use native.Mathlib.Omega.{arith}
-use Rattle.opening.proofs.Steps.{first-whole}
+use Prim.Native.Nat.{_-_, _≤_}
+use mathlib.Core.Path.{sym, ap, _∙_}
+use mathlib.Core.List.{_++_}
+use lib.IntN.{pos}
+use lib.ListN.{drop, replicate}
+use borrow.Rule.Slice.PartMut.{same-len-mid}
+use Rattle.bytes.specs.Numbers.{frameNumbers}
+use Rattle.kinds.proofs.Counts.{entries-fit}
+use Rattle.opening.proofs.FirstNet.{filled, first-made}
 use borrow.Author.Needs.{needs}
 use Rattle.opening.proofs.make_first.Statement.{statement}
 use Rattle.opening.proofs.make_first.Tie as tie
-use Rattle.opening.proofs.make_first.Reads as reads
-use Rattle.opening.proofs.make_first.Lts as lts
-use Rattle.bytes.proofs.frame_numbers.Reads as frame-numbers-reads
-use Rattle.bytes.proofs.part_from.Reads as part-from-reads
-use Rattle.opening.proofs.read_into.Reads as read-into-reads
-use Rattle.frames.proofs.coefficient_count.Reads as coefficient-count-reads
-use Rattle.nets.proofs.first_net.Reads as first-net-reads
-use Rattle.records.proofs.value.Reads as value-reads
 
-value-requires : tie.Need-value-requires
-value-requires c κs = search needs
+-- the coefficients have room
+room : (c : tie.After-number-count) → c .number-count .result ≤ 180
+room c =
+    let s = c .before .before .before .before in
+    omega (arith, c .number-count .ensures .entries, entries-fit (s .args .layout .kind) (s .args .layout .degree) 0 (s .pre .1))
 
-frame-numbers-requires : tie.Need-frame-numbers-requires
-frame-numbers-requires c κs = search needs
+part-coefficients-end : tie.Need-part-coefficients-end
+part-coefficients-end c = room (c .before)
 
-coefficient-count-requires : tie.Need-coefficient-count-requires
-coefficient-count-requires c κs = search needs
-
-part-from-requires : tie.Need-part-from-requires
-part-from-requires c κs = search needs
-
-slice-aggregate-read-into : tie.Need-slice-aggregate-read-into
-slice-aggregate-read-into c = search needs
-
-read-into-requires : tie.Need-read-into-requires
-read-into-requires c κs =
-    let s = c .before .before .before .before .before .before in
-    let room = monomials-room (s .args .layout .kind) (s .args .layout .degree) (known-sized (s .args .layout .kind) (s .args .layout .degree) (s .pre .1) .0) in
-    (omega (arith, room, c .before .before .coefficient-count .ensures), refl)
-
-slice-aggregate-first-net : tie.Need-slice-aggregate-first-net
-slice-aggregate-first-net c = search needs
-
-first-net-requires : tie.Need-first-net-requires
-first-net-requires c κs = search needs
-
-same-length : tie.Need-same-length
-same-length c = search needs
-
--- the coefficients are those of the layout
-coefficients-are : (c : tie.After-read-into)
-    → let s = c .before .before .before .before .before .before .before in
-    c .read-into .last .1 .1 .0 ≡ polynomialsAt (s .args .layout) (s .args .input .now) .coefficients
-coefficients-are c = c .read-into .ensures ∙ ap₂ coefficientsOf (c .before .before .part-from .ensures) (c .before .before .before .coefficient-count .ensures)
-
--- and the frame's numbers too
-frame-is : (c : tie.After-entries)
-    → let s = c .before .before .before .before .before .before .before .before .before .before .before .before in
-    c .before .before .before .before .before .before .before .before .before .frame-numbers .result ≡ numbersAt (s .args .layout) (s .args .input .now)
-frame-is c =
-    let f = c .before .before .before .before .before .before .before .before .before in
-    f .frame-numbers .ensures ∙ ap frameNumbers (f .before .value .ensures)
+slice-aggregate-first-net-2 : tie.Need-slice-aggregate-first-net-2
+slice-aggregate-first-net-2 c =
+    let r = c .before .before .before .before in
+    let n = r .before .before .before .number-count .result in
+    sym (same-len-mid 0 (n - 0) (replicate 180 (pos 0)) (r .read-coefficients .last .1 .0) (r .read-coefficients .kept .1 .0))
 
 returns : tie.Need-returns
 returns c =
-    let s = c .before .before .before .before .before .before .before .before .before .before .before .before in
-    let l = s .args .layout in
-    let r = c .before .before .before .before .before in
+    let r = c .before .before .before .before .before .before in
+    let p = r .before .before in
+    let k = p .before in
+    let f = k .before in
+    let s = f .before .before .before in
     let m = c .before .first-net in
-    let f : Polynomials = record { kind = l .kind; degree = l .degree; coefficients = r .read-into .last .1 .1 .0 } in
-    let long : length (r .read-into .last .1 .1 .0) ≡ 180 = r .read-into .kept .1 .1 .0 in
-    subst
-    (λ (p : Polynomials). (m .result ≡ firstRefusal p (numbersAt l (s .args .input .now))) × (m .last .0 ≡ cond (eqb (m .result) 0) (firstNet p (numbersAt l (s .args .input .now)) .entries) (s .args .entries .now)))
-    (ap (λ cs. record { kind = l .kind; degree = l .degree; coefficients = cs }) (coefficients-are r))
-    (subst
-    (λ (ns : List ℤ). (m .result ≡ firstRefusal f ns) × (m .last .0 ≡ cond (eqb (m .result) 0) (firstNet f ns .entries) (s .args .entries .now)))
-    (frame-is c)
-    (first-whole f _ (s .args .entries .now) (m .last .0) (m .result) long (s .pre .0) (m .ensures .0) (m .ensures .1)))
+    let n = k .number-count .result in
+    let zeros = replicate 180 (pos 0) in
+    let out = r .read-coefficients .last .1 .0 in
+    let rest = drop (n - 0) zeros in
+    let bytes = s .args .input .now in
+    first-made (s .args .layout) bytes (f .frame-numbers .result) (out ++ rest) rest (s .args .net .now) n (k .number-count .ensures)
+    (f .frame-numbers .ensures ∙ ap frameNumbers (f .before .value .ensures .0))
+    (ap (λ l. l ++ rest) (filled zeros out (p .part-from .result .now) bytes (s .args .layout .coefficients .start) n (room k) (p .part-from .ensures .0) (r .read-coefficients .ensures)))
+    (same-len-mid 0 (n - 0) zeros out (r .read-coefficients .kept .1 .0))
+    (s .pre .0) (m .result) (m .last .0) (m .ensures .0) (m .ensures .1)
 
 pub make-first-spec : {M : Type 1} → statement M
 make-first-spec =
     tie.close
     (tie.spec
-    value-requires
-    frame-numbers-requires
-    coefficient-count-requires
-    part-from-requires
-    slice-aggregate-read-into
-    read-into-requires
-    slice-aggregate-first-net
-    first-net-requires
-    same-length
+    (λ c κs. search needs)
+    (λ c κs. search needs)
+    (λ c κs. search needs)
+    (λ c κs. search needs)
+    (λ c. search needs)
+    (λ c. search needs)
+    part-coefficients-end
+    (λ c κs. search needs)
+    (λ c. search needs)
+    slice-aggregate-first-net-2
+    (λ c κs. search needs)
+    (λ c. search needs)
     returns)

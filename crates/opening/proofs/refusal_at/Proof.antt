@@ -1,5 +1,5 @@
 -- `refusal_at` meets its contract, by the number.
-use Rattle.opening.proofs.Steps.{refusal-none, refusal-some}
+use Rattle.opening.proofs.Records.{refusal-none, refusal-some}
 use Rattle.opening.proofs.refusal_at.Statement.{statement}
 use Rattle.opening.proofs.refusal_at.Tie as tie
 

@@ -7,16 +7,16 @@ use lib.IntN.{ℤ}
 use mir.Syntax.{w64}
 use mir.Val.{SFits}
 use Rattle.projection.specs.Projection.{inRange}
-use Rattle.projection.proofs.Signed.{readBack, read-back}
+use Rattle.integers.proofs.Signed.{seen, back-fits}
 use Rattle.projection.proofs.all_in_range.Statement.{statement}
 use Rattle.projection.proofs.all_in_range.Tie as tie
 
 -- what the answer of `in_range` says of its argument
-outside : (v : ℤ) (t : Bool) → SFits w64 v → t ≡ inRange (readBack v) → not t ≡ true → inRange v ≡ false
-outside v t f e k = sym (ap inRange (read-back v f)) ∙ sym e ∙ not-true t k
+outside : (v : ℤ) (t : Bool) → SFits w64 v → t ≡ inRange (seen v) → not t ≡ true → inRange v ≡ false
+outside v t f e k = sym (ap inRange (back-fits f)) ∙ sym e ∙ not-true t k
 
-inside : (v : ℤ) (t : Bool) → SFits w64 v → t ≡ inRange (readBack v) → not t ≡ false → inRange v ≡ true
-inside v t f e k = sym (ap inRange (read-back v f)) ∙ sym e ∙ not-false t k
+inside : (v : ℤ) (t : Bool) → SFits w64 v → t ≡ inRange (seen v) → not t ≡ false → inRange v ≡ true
+inside v t f e k = sym (ap inRange (back-fits f)) ∙ sym e ∙ not-false t k
 
 in-range-requires : tie.Need-in-range-requires
 in-range-requires c κs = search needs
@@ -71,7 +71,7 @@ returns-4 c =
     let y-in = inside (a .y) (second .before .in-range2 .result) (start .fits .y) (second .before .in-range2 .ensures) (second .if2 .left) in
     let z-in = inside (a .z) (third .before .in-range3 .result) (start .fits .z) (third .before .in-range3 .ensures) (third .if3 .left) in
     c .in-range4 .ensures
-    ∙ ap inRange (read-back (a .w) (start .fits .w))
+    ∙ ap inRange (back-fits (start .fits .w))
     ∙ sym (ap (λ (b : Bool). b && inRange (a .y) && inRange (a .z) && inRange (a .w)) x-in
     ∙ ap (λ (b : Bool). b && inRange (a .z) && inRange (a .w)) y-in
     ∙ ap (λ (b : Bool). b && inRange (a .w)) z-in)

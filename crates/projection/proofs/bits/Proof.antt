@@ -1,11 +1,11 @@
 -- `bits` meets its contract: what differs from itself is the NaN, whose pattern is the constant, and what does not is no NaN.
 use borrow.Author.Needs.{needs}
-use mathlib.Core.Path.{_≡_, sym, ap, _∙_, subst}
-use mathlib.Core.Bool.{true, false, not}
+use mathlib.Core.Path.{_≡_, sym, ap, subst}
+use mathlib.Core.Bool.{false, not}
 use lib.Dec.{T}
 use lib.Ieee.{Float, nan, inf, fin, binary64, ne, isNan, toBits}
 use lib.Ieee.Compare.{differs-from-itself, nan-differs}
-use Rattle.projection.proofs.Signed.{apart}
+use Rattle.integers.proofs.All.{clash}
 use Rattle.projection.proofs.bits.Statement.{statement}
 use Rattle.projection.proofs.bits.Tie as tie
 
@@ -15,15 +15,12 @@ returns c = sym (ap (toBits binary64) (differs-from-itself (c .before .args .x) 
 
 no-nan : (x : Float) → ne x x ≡ false → T (not (isNan x))
 unfolding isNan
-no-nan nan same = absurd (apart (sym nan-differs ∙ same))
+no-nan nan same = absurd (clash nan-differs same)
 no-nan (inf s) same = tt
 no-nan (fin s m e) same = tt
 
 float-to-bits-result : tie.Need-float-to-bits-result
 float-to-bits-result c = no-nan (c .before .args .x) (c .if1 .left)
 
-returns-2 : tie.Need-returns-2
-returns-2 c = search needs
-
 pub bits-spec : {M : Type 1} → statement M
-bits-spec = tie.close (tie.spec returns float-to-bits-result returns-2)
+bits-spec = tie.close (tie.spec returns float-to-bits-result (λ c. search needs))

@@ -6,16 +6,11 @@ use Prim.Native.Nat.{_≤_, _<_}
 use lib.IntN.{ℤ, pos, natAbs}
 use Rattle.projection.specs.Projection.{limit, isNegative, firstNonzero, gcdOf, directionOf}
 use Rattle.projection.proofs.Gcd.{gcd-up-to}
-use Rattle.projection.proofs.Signed.{readBack, at-three, component-asks, component-is}
+use Rattle.integers.proofs.Signed.{seen}
+use Rattle.projection.proofs.Signed.{at-three, component-asks, component-is}
 use Rattle.projection.proofs.Directions.{divisor-positive}
 use Rattle.projection.proofs.direction.Statement.{statement}
 use Rattle.projection.proofs.direction.Tie as tie
-
-divisor-requires : tie.Need-divisor-requires
-divisor-requires c κs = search needs
-
-leads-negative-requires : tie.Need-leads-negative-requires
-leads-negative-requires c κs = search needs
 
 -- ---- what is known of the divisor and of the sign before the components are found
 
@@ -40,7 +35,7 @@ sign-is c =
 -- ---- the components
 
 asks : (c : tie.After-leads-negative) (v : ℤ) → natAbs v ≤ limit
-    → (natAbs (readBack v) ≤ limit) × (0 < natAbs (readBack (c .before .divisor .result)))
+    → (natAbs (seen v) ≤ limit) × (0 < natAbs (seen (c .before .divisor .result)))
 asks c v h =
     let start = c .before .before in
     let a = start .args in
@@ -77,8 +72,8 @@ pub direction-spec : {M : Type 1} → statement M
 direction-spec =
     tie.close
     (tie.spec
-    divisor-requires
-    leads-negative-requires
+    (λ c κs. search needs)
+    (λ c κs. search needs)
     reduced-requires
     reduced-requires-2
     reduced-requires-3

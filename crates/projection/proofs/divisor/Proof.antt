@@ -9,7 +9,8 @@ use mir.Val.{SFits}
 use Rattle.projection.specs.Gcd.{gcd}
 use Rattle.projection.specs.Projection.{limit, gcdOf}
 use Rattle.projection.proofs.Gcd.{gcd-cons, gcd-up-to}
-use Rattle.projection.proofs.Signed.{read-back, in-range-fits}
+use Rattle.integers.proofs.Signed.{back-fits}
+use Rattle.projection.proofs.Signed.{in-range-fits}
 use Rattle.projection.proofs.divisor.Statement.{statement}
 use Rattle.projection.proofs.divisor.Tie as tie
 
@@ -34,9 +35,9 @@ result-is c =
     let start = last .before .before .before in
     let a = start .args in
     let f = start .fits in
-    let x-is = c .before .magnitude3 .ensures ∙ ap natAbs (read-back (a .x) (f .x)) in
-    let y-is = last .before .before .magnitude .ensures ∙ ap natAbs (read-back (a .y) (f .y)) in
-    let z-is = last .before .magnitude2 .ensures ∙ ap natAbs (read-back (a .z) (f .z)) in
+    let x-is = c .before .magnitude3 .ensures ∙ ap natAbs (back-fits (f .x)) in
+    let y-is = last .before .before .magnitude .ensures ∙ ap natAbs (back-fits (f .y)) in
+    let z-is = last .before .magnitude2 .ensures ∙ ap natAbs (back-fits (f .z)) in
     let last-is = last .gcd-of-two .ensures ∙ (λ i. gcd (y-is i ∷ z-is i ∷ [])) in
     c .gcd-of-two2 .ensures ∙ (λ i. gcd (x-is i ∷ last-is i ∷ [])) ∙ gcd-cons (natAbs (a .x)) (natAbs (a .y) ∷ natAbs (a .z) ∷ [])
 
@@ -49,7 +50,7 @@ cast-result c =
     subst (λ (n : ℕ). SFits w64 (pos n)) (sym (result-is c)) (in-range-fits (pos (gcdOf (a .x) (a .y) (a .z))) small)
 
 returns : tie.Need-returns
-returns c = read-back (pos (c .gcd-of-two2 .result)) (cast-result c) ∙ ap pos (result-is c)
+returns c = back-fits (cast-result c) ∙ ap pos (result-is c)
 
 pub divisor-spec : {M : Type 1} → statement M
 divisor-spec =

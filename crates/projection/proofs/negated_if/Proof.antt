@@ -2,7 +2,8 @@
 use mathlib.Core.Path.{sym, ap, _∙_}
 use mathlib.Core.Bool.{Bool}
 use Rattle.projection.specs.Projection.{negatedIf}
-use Rattle.projection.proofs.Signed.{read-back, negation-fits, negation-is}
+use Rattle.integers.proofs.Signed.{back-fits}
+use Rattle.projection.proofs.Signed.{negation-fits, negation-is}
 use Rattle.projection.proofs.negated_if.Statement.{statement}
 use Rattle.projection.proofs.negated_if.Tie as tie
 
@@ -17,7 +18,7 @@ returns c =
 returns-2 : tie.Need-returns-2
 returns-2 c =
     let v = c .before .args .v in
-    read-back v (c .before .fits .v) ∙ sym (ap (λ (b : Bool). negatedIf b v) (c .if1 .left))
+    back-fits (c .before .fits .v) ∙ sym (ap (λ (b : Bool). negatedIf b v) (c .if1 .left))
 
 pub negated-if-spec : {M : Type 1} → statement M
 negated-if-spec = tie.close (tie.spec sub-result returns returns-2)

@@ -6,12 +6,10 @@ use borrow.Author.Tests.{not-true, not-false}
 use Rattle.projection.specs.declared.Projection.the-variants.{Finite, Direction}
 use Rattle.projection.specs.Projection.{allInRange, allZero, isZero, coordsOf, directionOf, projectionBy, projectionOf}
 use Rattle.projection.proofs.Cases.{projected}
-use Rattle.projection.proofs.Signed.{readBack, at-three, at-four, is-zero, not-zero, within}
+use Rattle.integers.proofs.Signed.{seen}
+use Rattle.projection.proofs.Signed.{at-three, at-four, is-zero, not-zero, within}
 use Rattle.projection.proofs.project.Statement.{statement}
 use Rattle.projection.proofs.project.Tie as tie
-
-all-in-range-requires : tie.Need-all-in-range-requires
-all-in-range-requires c κs = search needs
 
 returns : tie.Need-returns
 unfolding projectionOf projectionBy
@@ -24,7 +22,7 @@ returns c =
     (sym (ap (λ (b : Bool). projectionBy b (isZero (a .w)) (allZero (a .x) (a .y) (a .z)) (a .x) (a .y) (a .z) (a .w)) out))
 
 -- past the first test the numbers are in range, as they were read and as they are
-read-ranged : (c : tie.Else1) → let a = c .before .before .args in allInRange (readBack (a .x)) (readBack (a .y)) (readBack (a .z)) (readBack (a .w)) ≡ true
+read-ranged : (c : tie.Else1) → let a = c .before .before .args in allInRange (seen (a .x)) (seen (a .y)) (seen (a .z)) (seen (a .w)) ≡ true
 read-ranged c = sym (c .before .all-in-range .ensures) ∙ not-false (c .before .all-in-range .result) (c .if1 .left)
 
 ranged : (c : tie.Else1) → let a = c .before .before .args in allInRange (a .x) (a .y) (a .z) (a .w) ≡ true
@@ -36,7 +34,7 @@ ranged c =
 finite-point-requires : tie.Need-finite-point-requires
 finite-point-requires c κs =
     let a = c .before .before .before .args in
-    within (readBack (a .x)) (readBack (a .y)) (readBack (a .z)) (readBack (a .w)) (read-ranged (c .before))
+    within (seen (a .x)) (seen (a .y)) (seen (a .z)) (seen (a .w)) (read-ranged (c .before))
 
 returns-2 : tie.Need-returns-2
 unfolding projectionOf projectionBy
@@ -80,7 +78,7 @@ returns-3 c =
 direction-requires : tie.Need-direction-requires
 direction-requires c κs =
     let a = c .before .before .before .before .before .args in
-    let r = within (readBack (a .x)) (readBack (a .y)) (readBack (a .z)) (readBack (a .w)) (read-ranged (c .before .before .before)) in
+    let r = within (seen (a .x)) (seen (a .y)) (seen (a .z)) (seen (a .w)) (read-ranged (c .before .before .before)) in
     (r .0, r .1, r .2, sym (c .before .all-zero .ensures) ∙ c .if3 .left)
 
 returns-4 : tie.Need-returns-4
@@ -99,7 +97,7 @@ pub project-spec : {M : Type 1} → statement M
 project-spec =
     tie.close
     (tie.spec
-    all-in-range-requires
+    (λ c κs. search needs)
     returns
     finite-point-requires
     returns-2

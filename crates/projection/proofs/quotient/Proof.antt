@@ -4,7 +4,8 @@ use mathlib.Core.Bool.{Bool, cond}
 use lib.IntN.{ℤ}
 use lib.Ieee.{binary64, ofInt, div, ofBits}
 use Rattle.projection.specs.Projection.{positiveZero, quotientOf}
-use Rattle.projection.proofs.Signed.{readBack, read-back, is-zero, not-zero, converts}
+use Rattle.integers.proofs.Signed.{seen, back-fits}
+use Rattle.projection.proofs.Signed.{is-zero, not-zero, converts}
 use Rattle.projection.proofs.quotient.Statement.{statement}
 use Rattle.projection.proofs.quotient.Tie as tie
 
@@ -25,8 +26,8 @@ unfolding quotientOf
 returns-2 c =
     let start = c .before .before .before in
     let a = start .args in
-    ap (λ (u : ℤ). div binary64 (ofInt binary64 u) (ofInt binary64 (readBack (a .w)))) (read-back (a .v) (start .fits .v))
-    ∙ ap (λ (u : ℤ). div binary64 (ofInt binary64 (a .v)) (ofInt binary64 u)) (read-back (a .w) (start .fits .w))
+    ap (λ (u : ℤ). div binary64 (ofInt binary64 u) (ofInt binary64 (seen (a .w)))) (back-fits (start .fits .v))
+    ∙ ap (λ (u : ℤ). div binary64 (ofInt binary64 (a .v)) (ofInt binary64 u)) (back-fits (start .fits .w))
     ∙ sym (ap (λ (b : Bool). cond b positiveZero (div binary64 (ofInt binary64 (a .v)) (ofInt binary64 (a .w)))) (not-zero (a .v) (start .fits .v) (c .before .before .if1 .left)))
 
 pub quotient-spec : {M : Type 1} → statement M

@@ -14,11 +14,5 @@ write-refused-requires c κs =
     let long = s .pre in
     omega (arith, long, room)
 
-same-length : tie.Need-same-length
-same-length c = search needs
-
-returns : tie.Need-returns
-returns c = search needs
-
 pub write-refusal-spec : {M : Type 1} → statement M
-write-refusal-spec = tie.close (tie.spec write-refused-requires same-length returns)
+write-refusal-spec = tie.close (tie.spec write-refused-requires (λ c. search needs) (λ c. search needs))

@@ -10,12 +10,6 @@ use Rattle.text.proofs.Whole.{made-front, written-short, written-whole}
 use Rattle.text.proofs.write_where_it_fits.Statement.{statement}
 use Rattle.text.proofs.write_where_it_fits.Tie as tie
 
-slice-aggregate-make-text : tie.Need-slice-aggregate-make-text
-slice-aggregate-make-text c = search needs
-
-make-text-requires : tie.Need-make-text-requires
-make-text-requires c κs = search needs
-
 returns : tie.Need-returns
 returns c =
     let a = c .before .before .before .before .before .before .args in
@@ -37,9 +31,6 @@ put-requires c κs =
     let long = length-take-le (made .result) (made .last .0) (made-front (made .ensures) .2) in
     omega (arith, room, long)
 
-same-length : tie.Need-same-length
-same-length c = search needs
-
 returns-2 : tie.Need-returns-2
 returns-2 c =
     let a = c .before .before .before .before .before .before .before .before .before .before .before .args in
@@ -53,11 +44,11 @@ pub write-where-it-fits-spec : {M : Type 1} → statement M
 write-where-it-fits-spec =
     tie.close
     (tie.spec
-    slice-aggregate-make-text
-    make-text-requires
+    (λ c. search needs)
+    (λ c κs. search needs)
     returns
     array-share-prefix-text
     slice-aggregate-put
     put-requires
-    same-length
+    (λ c. search needs)
     returns-2)

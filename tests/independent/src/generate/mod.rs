@@ -1,12 +1,14 @@
-//! Seeded records, damaged records, lists of calls and handed nets.
+//! Seeded records, damaged records, lists of calls, handed nets and first nets.
 
 pub mod caller;
 pub mod damage;
+pub mod first;
 pub mod nets;
 pub mod polynomials;
 pub mod records;
 
 pub use caller::{Caller, Mood};
 pub use damage::{damaged, everywhere};
-pub use nets::{handed, four_numbers};
+pub use first::any_first;
+pub use nets::{any_run, four_numbers, handed};
 pub use records::{any_record, encode, fields, made, Made};

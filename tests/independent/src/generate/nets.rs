@@ -1,28 +1,39 @@
 //! Handed nets and quadruples of any numbers.
 
-use crate::handed::{Net, NUMBERS};
-use crate::library::Widths;
+use crate::handed::{Net, ENTRIES, PLACES};
 use crate::random::Random;
 use crate::shape::{Shape, RANGE};
 
-/// A net of anything: mostly one that can be called on, often not.
-pub fn handed(random: &mut Random, widths: Widths) -> Net {
-    let mut net = Net { kind: 0, degree: 0, entries: [0; NUMBERS].map(|_| any_number(random)) };
+/// A net of anything in a run that is long enough: mostly one that can be called on,
+/// often not. The places that it does not use hold any numbers.
+pub fn handed(random: &mut Random) -> Net {
+    let length = PLACES + random.pick(&[0, 0, 0, 1, 1, 2, 7, 64]);
+    let mut net = Net((0..length).map(|_| any_number(random)).collect());
     let shape = random.pick(&Shape::all());
-    (net.kind, net.degree) = (i64::from(shape.kind.number()), shape.degree as i64);
+    net.0[..3].copy_from_slice(&[i64::from(shape.kind.number()), shape.degree as i64, 0]);
     let sort = random.below(5);
-    let used = 4 * shape.places();
-    net.entries[..used].iter_mut().for_each(|number| *number = entry_number(random, sort));
+    let used = &mut net.0[ENTRIES..ENTRIES + 4 * shape.places()];
+    used.iter_mut().for_each(|number| *number = entry_number(random, sort));
     if sort == 4 {
-        one_component(random, &mut net.entries[..used]);
+        one_component(random, used);
     } else if random.once_in(3) {
-        about_the_limit(random, shape, &mut net);
+        about_the_limit(random, shape, used);
     }
     if random.once_in(6) {
-        net.entries[random.below(used)] = beyond(random);
+        used[random.below(used.len())] = beyond(random);
     }
     if random.once_in(6) {
-        shape_outside(random, &mut net, widths);
+        shape_outside(random, &mut net);
+    }
+    net
+}
+
+/// The same, at times in a run that is too short.
+pub fn any_run(random: &mut Random) -> Net {
+    let mut net = handed(random);
+    if random.once_in(8) {
+        let anywhere = random.below(PLACES);
+        net.0.truncate(random.pick(&[PLACES - 1, PLACES - 1, PLACES - 2, ENTRIES, 2, 0, anywhere]));
     }
     net
 }
@@ -36,8 +47,7 @@ fn one_component(random: &mut Random, used: &mut [i64]) {
 
 /// One vertex's own entry at the limit or just under it, the others 0 or ±1: sums of
 /// them come to the limit and to one past it.
-fn about_the_limit(random: &mut Random, shape: Shape, net: &mut Net) {
-    let used = &mut net.entries[..4 * shape.places()];
+fn about_the_limit(random: &mut Random, shape: Shape, used: &mut [i64]) {
     used.iter_mut().for_each(|number| *number = random.pick(&[0, 0, 0, 0, 0, 1, -1]));
     let copies = shape.copies();
     let vertex = random.below(shape.vertices());
@@ -46,17 +56,14 @@ fn about_the_limit(random: &mut Random, shape: Shape, net: &mut Net) {
     used[4 * own + component] = random.sign() * (RANGE - random.between(0, 2));
 }
 
-fn shape_outside(random: &mut Random, net: &mut Net, widths: Widths) {
-    let outside = if widths.kind_bits == 8 {
-        random.pick(&[0, 3, 9, 11, 128, 255])
-    } else {
-        let high = !(-1i64 << (widths.kind_bits - 1));
-        random.pick(&[0, 3, 9, 11, 128, 255, 256, 257, 258, -1, high, -high - 1])
-    };
-    match random.below(3) {
-        0 => net.kind = outside,
-        1 => net.degree = outside,
-        _ => (net.kind, net.degree) = (outside, random.pick(&[0, 1, 9, 10, 11])),
+/// Kind, degree or second degree that no net has, numbers that are no bytes among them.
+fn shape_outside(random: &mut Random, net: &mut Net) {
+    let outside = random.pick(&[0, 3, 9, 11, 128, 255, 256, 257, 258, -1, -254, -255, -256, 1 << 32, i64::MAX, i64::MIN]);
+    match random.below(4) {
+        0 => net.0[0] = outside,
+        1 => net.0[1] = outside,
+        2 => net.0[2] = random.pick(&[outside, 1, 2, 8, 10]),
+        _ => (net.0[0], net.0[1]) = (outside, random.pick(&[0, 1, 9, 10, 11])),
     }
 }
 
@@ -74,7 +81,7 @@ fn beyond(random: &mut Random) -> i64 {
     random.pick(&[RANGE + 1, -RANGE - 1, i64::MAX, i64::MIN, i64::MIN + 1, 1 << 62, -(1 << 53)])
 }
 
-fn any_number(random: &mut Random) -> i64 {
+pub fn any_number(random: &mut Random) -> i64 {
     let anywhere = random.next() as i64;
     random.pick(&[anywhere, anywhere, i64::MIN, i64::MAX, 0, RANGE + 1])
 }

@@ -190,7 +190,7 @@ pub fn field(tag: u8, value: &[u8]) -> Vec<u8> {
     [&[tag], &length[..], value].concat()
 }
 
-fn numbers_of(kind: Kind, [u, v, z]: &[i64; 3]) -> Vec<i64> {
+pub fn numbers_of(kind: Kind, [u, v, z]: &[i64; 3]) -> Vec<i64> {
     match kind {
         Kind::Curve => vec![*u, *z],
         Kind::Patch => vec![*u, *v, *z],
@@ -208,15 +208,26 @@ fn move_bytes(call: &Call) -> Vec<u8> {
     }
 }
 
+/// A record of any shape whose values are within their limits; its first net may be too
+/// large (7).
+pub fn any_made(random: &mut Random) -> Made {
+    let (shape, mood) = (random.pick(&Shape::all()), random.pick(&Mood::ALL));
+    of_mood(random, shape, mood)
+}
+
+fn of_mood(random: &mut Random, shape: Shape, mood: Mood) -> Made {
+    match random.below(12) {
+        0 => ordinary(random, shape),
+        1 => about_too_large(random),
+        _ => made(random, shape, mood),
+    }
+}
+
 /// Any record for the program: valid with moves and a point, too large (7), or damaged.
 pub fn any_record(random: &mut Random) -> Vec<u8> {
     let shape = random.pick(&Shape::all());
     let mood = random.pick(&Mood::ALL);
-    let mut made = match random.below(12) {
-        0 => ordinary(random, shape),
-        1 => about_too_large(random),
-        _ => made(random, shape, mood),
-    };
+    let mut made = of_mood(random, shape, mood);
     own_moves(random, &mut made, mood);
     if random.once_in(3) {
         damaged(random, &made.record)

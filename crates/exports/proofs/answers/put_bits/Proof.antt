@@ -8,26 +8,8 @@ use Rattle.exports.proofs.Places.{three-set}
 use Rattle.exports.proofs.answers.put_bits.Statement.{statement}
 use Rattle.exports.proofs.answers.put_bits.Tie as tie
 
-bits-requires : tie.Need-bits-requires
-bits-requires c κs = search needs
-
-slice-write-patterns : tie.Need-slice-write-patterns
-slice-write-patterns c = search needs
-
-bits-requires-2 : tie.Need-bits-requires-2
-bits-requires-2 c κs = search needs
-
 slice-write-patterns-2 : tie.Need-slice-write-patterns-2
 slice-write-patterns-2 c = simp length-set (omega arith)
-
-bits-requires-3 : tie.Need-bits-requires-3
-bits-requires-3 c κs = search needs
-
-slice-write-patterns-3 : tie.Need-slice-write-patterns-3
-slice-write-patterns-3 c = search needs
-
-same-length : tie.Need-same-length
-same-length c = search needs
 
 returns : tie.Need-returns
 returns c =
@@ -40,11 +22,11 @@ pub put-bits-spec : {M : Type 1} → statement M
 put-bits-spec =
     tie.close
     (tie.spec
-    bits-requires
-    slice-write-patterns
-    bits-requires-2
+    (λ c κs. search needs)
+    (λ c. search needs)
+    (λ c κs. search needs)
     slice-write-patterns-2
-    bits-requires-3
-    slice-write-patterns-3
-    same-length
+    (λ c κs. search needs)
+    (λ c. search needs)
+    (λ c. search needs)
     returns)

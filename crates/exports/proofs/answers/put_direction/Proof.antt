@@ -8,17 +8,8 @@ use Rattle.exports.proofs.Places.{three-set}
 use Rattle.exports.proofs.answers.put_direction.Statement.{statement}
 use Rattle.exports.proofs.answers.put_direction.Tie as tie
 
-slice-set-from-x : tie.Need-slice-set-from-x
-slice-set-from-x c = search needs
-
 slice-set-from-y : tie.Need-slice-set-from-y
 slice-set-from-y c = simp length-set (omega arith)
-
-slice-set-from-z : tie.Need-slice-set-from-z
-slice-set-from-z c = search needs
-
-same-length : tie.Need-same-length
-same-length c = search needs
 
 returns : tie.Need-returns
 returns c =
@@ -28,4 +19,4 @@ returns c =
 
 pub put-direction-spec : {M : Type 1} → statement M
 put-direction-spec =
-    tie.close (tie.spec slice-set-from-x slice-set-from-y slice-set-from-z same-length returns)
+    tie.close (tie.spec (λ c. search needs) slice-set-from-y (λ c. search needs) (λ c. search needs) returns)

@@ -1,12 +1,12 @@
 -- `write_projection` meets its contract: by the case of the projection; what a case does not have leaves its buffer as it was.
-use borrow.Author.Needs.{needs}
+use borrow.Author.Needs.{needs, sfits-of}
 use mathlib.Core.Path.{_≡_, sym, ap, _∙_}
 use mathlib.Core.List.{List, [], _∷_}
 use lib.IntN.{ℤ}
 use Rattle.projection.specs.Projection.{coordinateBits, directionNumbers}
-use Rattle.nets.proofs.Row.{seen, element}
-use Rattle.machine.specs.Lent.{placed}
-use Rattle.exports.specs.Lent.{projectionNumber}
+use Rattle.integers.proofs.Signed.{seen, back-fits}
+use Rattle.machine.specs.Lent.{putAt}
+use Rattle.exports.specs.Projections.{projectionNumber}
 use Rattle.exports.proofs.answers.write_projection.Statement.{statement}
 use Rattle.exports.proofs.answers.write_projection.Tie as tie
 
@@ -38,8 +38,8 @@ returns c =
     let is = c .before .before .before .before .before .projection .given .1 in (
       sym (ap projectionNumber is),
       (
-        c .before .before .put-bits .ensures ∙ sym (ap (λ p. placed (coordinateBits p) (a .patterns .now)) is),
-        sym (ap (λ p. placed (directionNumbers p) (a .direction .now)) is),
+        c .before .before .put-bits .ensures ∙ sym (ap (λ p. putAt 0 (coordinateBits p) (a .patterns .now)) is),
+        sym (ap (λ p. putAt 0 (directionNumbers p) (a .direction .now)) is),
       ),
     )
 
@@ -54,11 +54,11 @@ returns-2 c =
     let t = c .before .before .struct-told3 .given in
     let d = g .0 .0 in
     let numbers : seen (d .x) ∷ seen (d .y) ∷ seen (d .z) ∷ [] ≡ d .x ∷ d .y ∷ d .z ∷ [] = λ i.
-    element (d .x) (t .0 .1) i ∷ element (d .y) (t .1 .0 .1) i ∷ element (d .z) (t .1 .1 .0 .1) i ∷ [] in (
+    back-fits {z = d .x} (sfits-of (t .0 .1)) i ∷ back-fits {z = d .y} (sfits-of (t .1 .0 .1)) i ∷ back-fits {z = d .z} (sfits-of (t .1 .1 .0 .1)) i ∷ [] in (
       sym (ap projectionNumber (g .1)),
       (
-        sym (ap (λ p. placed (coordinateBits p) (a .patterns .now)) (g .1)),
-        c .before .put-direction .ensures ∙ ap (λ (l : List ℤ). placed l (a .direction .now)) (numbers ∙ sym (ap directionNumbers (g .1))),
+        sym (ap (λ p. putAt 0 (coordinateBits p) (a .patterns .now)) (g .1)),
+        c .before .put-direction .ensures ∙ ap (λ (l : List ℤ). putAt 0 l (a .direction .now)) (numbers ∙ sym (ap directionNumbers (g .1))),
       ),
     )
 
@@ -68,7 +68,7 @@ returns-3 c =
     let a = c .before .before .before .args in
     let is = c .enum-told .given .1 in (
       sym (ap projectionNumber is),
-      (sym (ap (λ p. placed (coordinateBits p) (a .patterns .now)) is), sym (ap (λ p. placed (directionNumbers p) (a .direction .now)) is)),
+      (sym (ap (λ p. putAt 0 (coordinateBits p) (a .patterns .now)) is), sym (ap (λ p. putAt 0 (directionNumbers p) (a .direction .now)) is)),
     )
 
 returns-4 : tie.Need-returns-4
@@ -77,7 +77,7 @@ returns-4 c =
     let a = c .before .before .before .args in
     let is = c .enum-told2 .given .1 in (
       sym (ap projectionNumber is),
-      (sym (ap (λ p. placed (coordinateBits p) (a .patterns .now)) is), sym (ap (λ p. placed (directionNumbers p) (a .direction .now)) is)),
+      (sym (ap (λ p. putAt 0 (coordinateBits p) (a .patterns .now)) is), sym (ap (λ p. putAt 0 (directionNumbers p) (a .direction .now)) is)),
     )
 
 pub write-projection-spec : {M : Type 1} → statement M

@@ -1,77 +1,74 @@
--- `judge_and_point` meets its contract: the handed net is judged first, then the weights, then the point is found.
-use mathlib.Core.Path.{_≡_, sym, ap, _∙_, subst}
-use mathlib.Core.List.{[], _∷_}
-use Rattle.integers.proofs.Signed.{back-fits}
-use Rattle.machine.specs.Kinds.{further}
-use Rattle.machine.specs.Nets.{handed}
-use Rattle.machine.specs.declared.Net.{Net}
-use Rattle.machine.specs.declared.Call.the-variants as call
-use Rattle.nets.specs.Judged.{judgedPoint, Pointed}
-use Rattle.nets.proofs.Row.{seen-list}
-use Rattle.nets.proofs.Steps.{net-sized, handed-pointed, judged-pointed}
+-- `judge_and_point` meets its contract: the tests of the handed net, then those of the weights, then the point.
 use borrow.Author.Needs.{needs}
+use native.Mathlib.Omega.{arith}
+use mathlib.Core.Path.{_≡_, sym, ap, _∙_}
+use mathlib.Core.Bool.{true}
+use mathlib.Core.List.{[], _∷_}
+use Rattle.kinds.specs.Kinds.{group, groupsOf, known}
+use Rattle.kinds.proofs.Limits.{limits, one-group-of}
+use Rattle.machine.specs.Refusals.{firstFailed}
+use Rattle.machine.specs.Calls.{beforeSize}
+use Rattle.machine.specs.Nets.{Net, handedTests}
+use Rattle.machine.specs.declared.Call.the-variants.{Point}
+use Rattle.nets.specs.Calls.{netFrom}
+use Rattle.nets.proofs.Steps.{pointed-handed, pointed-arguments}
+use Rattle.nets.proofs.Made.{handed-known}
 use Rattle.nets.proofs.calls.judge_and_point.Statement.{statement}
 use Rattle.nets.proofs.calls.judge_and_point.Tie as tie
-use Rattle.nets.proofs.calls.judge_and_point.Reads as reads
-use Rattle.nets.proofs.calls.judge_and_point.Lts as lts
-use Rattle.nets.proofs.calls.handed_refusal.Reads as handed-refusal-reads
-use Rattle.nets.proofs.calls.judge_point.Reads as judge-point-reads
-use Rattle.nets.proofs.calls.make_point.Reads as make-point-reads
 
 -- the net that was handed in
 abbrev net : tie.Start → Net
-net s = record { kind = s .args .kind; degree = s .args .degree; entries = s .args .entries .now }
-
-handed-refusal-requires : tie.Need-handed-refusal-requires
-handed-refusal-requires c κs = search needs
+net s = netFrom (s .args .kind) (s .args .degree) (s .args .second) (s .args .entries .now)
 
 returns : tie.Need-returns
 returns c =
     let s = c .before .before in
-    handed-pointed (net s) (call.Point (record { r = s .args .r; s = s .args .s; t = s .args .t })) (c .before .handed-refusal .result) (s .args .found .now) (c .if1 .taken) (c .before .handed-refusal .ensures)
+    pointed-handed (net s) (Point (s .args .weights)) (c .before .judge-net .result) (s .args .found .now) (c .if1 .taken) (c .before .judge-net .ensures)
 
--- nothing is refused of the net
-accepted : (c : tie.Else1) → handed (net (c .before .before)) ≡ 0
-accepted c = sym (c .before .handed-refusal .ensures) ∙ c .if1 .left
+-- the net passed
+passed : (c : tie.Else1) → firstFailed (handedTests (net (c .before .before))) ≡ 0
+passed c = sym (c .before .judge-net .ensures) ∙ c .if1 .left
 
--- what is refused of the weights, as they were handed in
-judged-is : (c : tie.After-judge-point)
-    → let s = c .before .before .before in c .judge-point .result ≡ judgedPoint (further (s .args .kind)) (s .args .r ∷ s .args .s ∷ s .args .t ∷ [])
-judged-is c =
-    let s = c .before .before .before in
-    c .judge-point .ensures ∙ ap (judgedPoint (further (s .args .kind))) (seen-list (s .args .r) (s .args .s) (s .args .t) (s .fits .r) (s .fits .s) (s .fits .t))
+-- its kind and degrees are known
+known-net : (c : tie.Else1) → let a = c .before .before .args in known (a .kind) (a .degree) (a .second) ≡ true
+known-net c = let a = c .before .before .args in handed-known (a .kind) (a .degree) (a .second) (a .entries .now) (passed c)
 
 judge-point-requires : tie.Need-judge-point-requires
-judge-point-requires c κs = let z = net-sized (net (c .before .before)) (accepted c) in (z .low, z .high)
+judge-point-requires c κs =
+    let a = c .before .before .before .args in
+    let l = limits (a .kind) (a .degree) (a .second) (known-net (c .before)) in
+    let n = c .dimension-of .ensures in
+    (omega (arith, l .dimension-low, n), omega (arith, l .dimension-few, n))
+
+-- what the tests of the weights say at the net's degrees
+judged : (c : tie.After-judge-point)
+    → let s = c .before .before .before .before in c .judge-point .result ≡ firstFailed (beforeSize (groupsOf (s .args .kind) (s .args .degree) (s .args .second)) (Point (s .args .weights)))
+judged c =
+    let a = c .before .before .before .before .args in
+    c .judge-point .ensures (a .degree)
+    ∙ ap (λ n. firstFailed (beforeSize (group n (a .degree) ∷ []) (Point (a .weights)))) (c .before .dimension-of .ensures)
+    ∙ sym (ap (λ gs. firstFailed (beforeSize gs (Point (a .weights)))) (one-group-of (a .kind) (a .degree) (a .second) (known-net (c .before .before))))
 
 returns-2 : tie.Need-returns-2
 returns-2 c =
-    let s = c .before .before .before .before in
-    judged-pointed (net s) (accepted (c .before .before)) (s .args .r) (s .args .s) (s .args .t) (s .args .found .now) (c .before .judge-point .result) (c .if2 .taken) (judged-is (c .before))
+    let s = c .before .before .before .before .before in
+    pointed-arguments (net s) (Point (s .args .weights)) (c .before .judge-point .result) (s .args .found .now) (c .if2 .taken) (passed (c .before .before .before)) (judged (c .before))
 
 make-point-requires : tie.Need-make-point-requires
 make-point-requires c κs =
     let e = c .before in
-    let s = e .before .before .before .before in
-    (s .pre .0, s .pre .1, accepted (e .before .before), ap (judgedPoint (further (s .args .kind))) (seen-list (s .args .r) (s .args .s) (s .args .t) (s .fits .r) (s .fits .s) (s .fits .t)) ∙ sym (judged-is (e .before)) ∙ e .if2 .left)
-
-same-length : tie.Need-same-length
-same-length c = search needs
-
-returns-3 : tie.Need-returns-3
-returns-3 c =
-    let s = c .before .before .before .before .before .before .before in
-    subst (λ w. Pointed (net s) (call.Point w) (c .before .make-point .result) (s .args .found .now) (c .before .make-point .last .1 .1 .1 .1 .1 .1 .0))
-    (λ i. record { r = back-fits (s .fits .r) i; s = back-fits (s .fits .s) i; t = back-fits (s .fits .t) i }) (c .before .make-point .ensures)
+    let s = e .before .before .before .before .before in
+    (record { long = s .pre .0; net-passes = passed (e .before .before .before); call-passes = sym (judged (e .before)) ∙ e .if2 .left }, s .pre .1)
 
 pub judge-and-point-spec : {M : Type 1} → statement M
 judge-and-point-spec =
     tie.close
     (tie.spec
-    handed-refusal-requires
+    (λ c κs. search needs)
     returns
+    (λ c κs. search needs)
     judge-point-requires
     returns-2
     make-point-requires
-    same-length
-    returns-3)
+    (λ c. search needs)
+    (λ c. search needs))

@@ -1,120 +1,126 @@
--- `make_point` meets its contract: the entries in use are copied into a room of their own and taken down the levels there, and the last level has the point.
-use borrow.Author.Tests.{not-true, not-false}
-use native.Mathlib.Omega.{arith}
-use mathlib.Core.Path.{_≡_, refl, sym, ap, _∙_, subst}
-use mathlib.Core.List.{[], _∷_}
-use lib.IntN.{pos}
-use lib.ListN.{getD, replicate}
-use Rattle.machine.specs.Kinds.{further}
-use Rattle.machine.specs.Nets.{used}
-use Rattle.machine.specs.declared.Net.{Net}
-use Rattle.nets.specs.Rows.{written}
-use Rattle.nets.specs.Levels.{renamedAt, Descended}
-use Rattle.nets.proofs.Row.{seen-list, seen-weights}
-use Rattle.nets.proofs.TwoKinds.{used-room}
-use Rattle.nets.proofs.Renaming.{replace-range, replace-named, point-found, copied-renamed}
-use Rattle.nets.proofs.Steps.{net-sized, net-ranged, point-small, size-pointed, found-pointed}
+-- `make_point` meets its contract: the net's entries are copied into a room, the levels are made there, and the last one begins with the point's four numbers.
 use borrow.Author.Needs.{needs}
+use Prim.Native.Nat.{ℕ, suc, _≤_, _<_}
+use native.Mathlib.Omega.{arith}
+use mathlib.Core.Path.{_≡_, sym, ap, _∙_, subst}
+use mathlib.Core.Bool.{true}
+use mathlib.Core.List.{List}
+use borrow.Author.Tests.{not-true, not-false}
+use lib.IntN.{ℤ, pos}
+use lib.ListN.{length, getD, take, replicate}
+use Rattle.integers.specs.Test.{all}
+use Rattle.projection.specs.Projection.{inRange}
+use Rattle.entries.specs.Rows.{size}
+use Rattle.kinds.specs.Kinds.{dimensionOf}
+use Rattle.machine.specs.Calls.{weightList}
+use Rattle.nets.specs.Rows.{written, level}
+use Rattle.nets.specs.Levels.{valuesOf, Descends, Descended}
+use Rattle.nets.proofs.Lists.{length-written}
+use Rattle.nets.proofs.LevelValues.{level-last}
+use Rattle.nets.proofs.Made.{net-count, net-sized, net-long, net-ranged, point-light, copied-front, point-refused, point-taken}
 use Rattle.nets.proofs.calls.make_point.Statement.{statement}
 use Rattle.nets.proofs.calls.make_point.Tie as tie
-use Rattle.nets.proofs.calls.make_point.Reads as reads
-use Rattle.nets.proofs.calls.make_point.Lts as lts
-use Rattle.nets.proofs.levels.descend.Reads as descend-reads
-use Rattle.nets.proofs.rows.copy.Reads as copy-reads
-use Rattle.nets.proofs.rows.numbers.Reads as numbers-reads
 
--- the net that was handed in
-abbrev net : tie.Start → Net
-net s = record { kind = s .args .kind; degree = s .args .degree; entries = s .args .entries .now }
+-- how many numbers are copied
+count-is : (c : tie.After-number-count) → let s = c .before .before .before in c .number-count .result ≡ size 4 (dimensionOf (s .args .kind)) (s .args .degree)
+count-is c = c .number-count .ensures .entries ∙ net-count (c .before .before .before .pre .0)
 
-slice-aggregate-copy : tie.Need-slice-aggregate-copy
-slice-aggregate-copy c = search needs
-
-numbers-requires : tie.Need-numbers-requires
-numbers-requires c κs = net-sized (net (c .before)) (c .before .pre .2)
+-- there is room for them, and they are there
+fits : (c : tie.After-number-count) → (c .number-count .result ≤ 180) × (c .number-count .result ≤ length (c .before .before .before .args .entries .now))
+fits c =
+    let s = c .before .before .before in
+    let few = net-long (s .pre .0) in
+    let room = s .pre .0 .long in
+    let is = count-is c in
+    (omega arith, omega arith)
 
 copy-requires : tie.Need-copy-requires
-copy-requires c κs =
-    let s = c .before .before in
-    let room = used-room (s .args .kind) (s .args .degree) (net-sized (net s) (s .pre .2)) in
-    (omega (arith, room, c .numbers .ensures), omega (arith, room, c .numbers .ensures, s .pre .0))
+copy-requires c κs = fits c
 
--- the room holds the net, the first vertex renamed into itself
-copied-is : (c : tie.After-copy)
-    → let s = c .before .before .before in
-    c .copy .last .0 ≡ written (replicate 180 (pos 0)) 0 (used (s .args .kind) (s .args .degree)) (renamedAt (further (s .args .kind)) (s .args .degree) 0 (s .args .entries .now))
-copied-is c =
-    let s = c .before .before .before in
-    c .copy .ensures ∙ ap (λ k. written (replicate 180 (pos 0)) 0 k (λ i. getD (s .args .entries .now) i (pos 0))) (c .before .numbers .ensures)
-    ∙ copied-renamed (s .args .kind) (s .args .degree) (s .args .entries .now) (replicate 180 (pos 0))
+-- the room as the levels find it
+module _ (c : tie.After-copy) where
+  abbrev s : tie.Start
+  s = c .before .before .before .before
 
-slice-aggregate-descend : tie.Need-slice-aggregate-descend
-slice-aggregate-descend c = search needs
+  abbrev n : ℕ
+  n = dimensionOf (s .args .kind)
+
+  abbrev room : List ℤ
+  room = c .copy .last .0
+
+  copied : take (size 4 n (s .args .degree)) room ≡ take (size 4 n (s .args .degree)) (s .args .entries .now)
+  copied =
+      let is = count-is (c .before) in
+      let count = c .before .number-count .result in
+      ap (λ k. take k room) (sym is)
+      ∙ ap (take count) (c .copy .ensures)
+      ∙ copied-front _ (s .args .entries .now) count (fits (c .before) .0) (fits (c .before) .1)
+      ∙ ap (λ k. take k (s .args .entries .now)) is
+
+  room-long : size 4 n (s .args .degree) ≤ length room
+  room-long =
+      let is = count-is (c .before) in
+      let few = fits (c .before) .0 in
+      let all-long : length room ≡ 180 = ap length (c .copy .ensures) ∙ length-written _ 0 (c .before .number-count .result) (λ i. getD (s .args .entries .now) i (pos 0)) in
+      omega arith
+
+  descends : Descends 4 n (s .args .degree) (s .args .weights) room
+  descends = record {
+    sized = net-sized (s .pre .0);
+    long = room-long;
+    range = ap (all inRange) copied ∙ net-ranged (s .pre .0);
+    light = point-light (s .pre .0);
+  }
+
+  -- what the levels leave
+  abbrev left : List ℤ
+  left = level 4 n (s .args .degree) (weightList (s .args .weights)) (s .args .degree) room
+
+  last : (i : ℕ) → i < 4 → getD left i (pos 0) ≡ valuesOf 4 n (s .args .degree) (weightList (s .args .weights)) room i (s .args .degree) (replicate (suc n) 0)
+  last = level-last 4 n (omega arith) (s .args .degree) (weightList (s .args .weights)) room room-long
 
 descend-requires : tie.Need-descend-requires
 descend-requires c κs =
-    let s = c .before .before .before .before .before in
-    let a = s .args in
-    let z = net-sized (net s) (s .pre .2) in (
-      z,
-      c .before .before .copy .kept .0 ∙ refl,
-      replace-range (a .kind) (a .degree) 1 (a .r) (a .s) (a .t) (a .entries .now) _ (c .before .before .copy .last .0) z (omega arith) (omega (arith, z .low)) (s .pre .0) refl (copied-is (c .before .before)) (net-ranged (net s) (s .pre .2)),
-      omega (arith, point-small (further (a .kind)) (a .r) (a .s) (a .t) (s .pre .3), seen-weights (a .r) (a .s) (a .t) (s .fits .r) (s .fits .s) (s .fits .t)),
-    )
+    let a = c .before .before in
+    subst (λ d. Descends 4 d (s a .args .degree) (s a .args .weights) (room a)) (sym (a .before .before .before .dimension-of .ensures)) (descends a)
 
--- what the levels give, by the weights as they were handed in
-gone-down : (c : tie.After-descend)
-    → let s = c .before .before .before .before .before .before in
-    Descended (s .args .kind) (s .args .degree) (s .args .r ∷ s .args .s ∷ s .args .t ∷ []) (c .before .before .before .copy .last .0) (c .descend .result) (c .descend .last .0)
-gone-down c =
-    let s = c .before .before .before .before .before .before in
-    subst (λ ws. Descended (s .args .kind) (s .args .degree) ws (c .before .before .before .copy .last .0) (c .descend .result) (c .descend .last .0))
-    (seen-list (s .args .r) (s .args .s) (s .args .t) (s .fits .r) (s .fits .s) (s .fits .t)) (c .descend .ensures)
+descended : (c : tie.After-descend)
+    → let a = c .before .before .before in
+    Descended 4 (n a) (s a .args .degree) (weightList (s a .args .weights)) (room a) (c .descend .result) (c .descend .last .0)
+descended c =
+    let a = c .before .before .before in
+    subst (λ d. Descended 4 d (s a .args .degree) (weightList (s a .args .weights)) (room a) (c .descend .result) (c .descend .last .0)) (a .before .before .before .dimension-of .ensures) (c .descend .ensures)
 
 returns : tie.Need-returns
 returns c =
     let d = c .before .before in
-    let s = d .before .before .before .before .before .before in
-    let a = s .args in
-    let z = net-sized (net s) (s .pre .2) in
-    size-pointed (net s) (s .pre .2) (a .r) (a .s) (a .t) (a .found .now) (s .pre .3)
-    (sym (not-true (d .descend .result) (c .if1 .taken))
-    ∙ replace-named (a .kind) (a .degree) 1 (a .r) (a .s) (a .t) (a .entries .now) _ (d .before .before .before .copy .last .0) z (omega arith) (omega (arith, z .low)) (s .pre .0) refl (copied-is (d .before .before .before)) (d .descend .result) (d .descend .last .0) (gone-down d))
-
-slice-aggregate-copy-2 : tie.Need-slice-aggregate-copy-2
-slice-aggregate-copy-2 c = search needs
-
-copy-requires-2 : tie.Need-copy-requires-2
-copy-requires-2 c κs = search needs
-
-same-length : tie.Need-same-length
-same-length c = search needs
+    let a = d .before .before .before in
+    let h = s a in
+    point-refused (h .pre .0) (room a) (left a) (copied a) (last a) (h .args .found .now)
+    (sym (not-true (d .descend .result) (c .if1 .taken)) ∙ descended d .named)
 
 returns-2 : tie.Need-returns-2
 returns-2 c =
-    let d = c .before .before .before .before .before .before in
-    let s = d .before .before .before .before .before .before in
-    let a = s .args in
-    let z = net-sized (net s) (s .pre .2) in
-    let ok = not-false (d .descend .result) (c .before .before .before .before .if1 .left) in
-    let is = copied-is (d .before .before .before) in
-    found-pointed (net s) (s .pre .2) (a .r) (a .s) (a .t) (a .found .now) (s .pre .3)
-    (sym ok
-    ∙ replace-named (a .kind) (a .degree) 1 (a .r) (a .s) (a .t) (a .entries .now) _ (d .before .before .before .copy .last .0) z (omega arith) (omega (arith, z .low)) (s .pre .0) refl is (d .descend .result) (d .descend .last .0) (gone-down d))
-    (c .before .copy2 .last .0) (λ i. getD (d .descend .last .0) i (pos 0)) (c .before .copy2 .ensures) (s .pre .1)
-    (point-found (a .kind) (a .degree) 1 (a .r) (a .s) (a .t) (a .entries .now) _ (d .before .before .before .copy .last .0) z (omega arith) (omega (arith, z .low)) (s .pre .0) refl is (d .descend .result) (d .descend .last .0) (gone-down d) ok)
+    let p = c .before in
+    let d = p .before .before .before .before .before in
+    let a = d .before .before .before in
+    let h = s a in
+    let made : d .descend .result ≡ true = not-false (d .descend .result) (p .before .before .before .if1 .left) in
+    point-taken (h .pre .0) (room a) (left a) (copied a) (last a) (h .args .found .now) (p .copy2 .last .0)
+    (sym made ∙ descended d .named) (h .pre .1) (p .copy2 .ensures ∙ ap (λ xs. written (h .args .found .now) 0 4 (λ i. getD xs i (pos 0))) (descended d .last made))
 
 pub make-point-spec : {M : Type 1} → statement M
 make-point-spec =
     tie.close
     (tie.spec
-    slice-aggregate-copy
-    numbers-requires
+    (λ c κs. search needs)
+    (λ c. search needs)
+    (λ c κs. search needs)
     copy-requires
-    slice-aggregate-descend
+    (λ c. search needs)
     descend-requires
     returns
-    slice-aggregate-copy-2
-    copy-requires-2
-    same-length
+    (λ c. search needs)
+    (λ c κs. search needs)
+    (λ c. search needs)
     returns-2)

@@ -1,4 +1,4 @@
--- `monomial_place` meets its contract: h(h + 2(m − h) + 3)/2 monomials of a patch stand before row h.
+-- `monomial_place` meets its contract: h(h + 2(m − h) + 3)/2 monomials in two coordinates stand before row h.
 use borrow.Author.Needs.{needs}
 use Prim.Native.Nat.{_+_, _*_, _-_, _≤_}
 use native.Mathlib.Nat.{mul-le-mul}
@@ -7,7 +7,6 @@ use mathlib.Core.Path.{_≡_, sym, ap, _∙_}
 use Rattle.polar.specs.Order.{monomials}
 use Rattle.entries.specs.Entries.{placeOf}
 use Rattle.entries.proofs.Standard.{place-one}
-use Rattle.machine.specs.Kinds.{further}
 use Rattle.nets.specs.Coordinates.{exponentsAt}
 use Rattle.nets.proofs.Scaled.{patch-place}
 use Rattle.nets.proofs.coordinates.monomial_place.Statement.{statement}
@@ -16,52 +15,40 @@ use Rattle.nets.proofs.coordinates.monomial_place.Tie as tie
 returns : tie.Need-returns
 returns c =
     let s = c .before in
-    sym (place-one (s .args .degree) (s .args .h) (omega (arith, s .pre .1)))
-    ∙ ap (λ k. placeOf (exponentsAt k (s .args .h) (s .args .l)) (monomials (further k) (s .args .degree))) (sym (c .if1 .taken))
-
-sub-rest : tie.Need-sub-rest
-sub-rest c = search needs
-
-mul-result : tie.Need-mul-result
-mul-result c = search needs
-
-add-result : tie.Need-add-result
-add-result c = search needs
-
-add-result-2 : tie.Need-add-result-2
-add-result-2 c = search needs
+    sym (place-one (s .args .degree) (s .args .h) (omega (arith, s .pre .3)))
+    ∙ ap (λ k. placeOf (exponentsAt k (s .args .h) (s .args .l)) (monomials k (s .args .degree))) (sym (c .if1 .taken))
 
 mul-result-2 : tie.Need-mul-result-2
 mul-result-2 c =
     let s = c .before in
-    let a : s .args .h ≤ 10 = omega (arith, s .pre .0, s .pre .1) in
-    let b : s .args .h + 2 * (s .args .degree - s .args .h) + 3 ≤ 33 = omega (arith, s .pre .0, s .pre .1) in
+    let a : s .args .h ≤ 10 = omega (arith, s .pre .2, s .pre .3) in
+    let b : s .args .h + 2 * (s .args .degree - s .args .h) + 3 ≤ 33 = omega (arith, s .pre .2, s .pre .3) in
     omega (arith, mul-le-mul a b)
 
 add-result-3 : tie.Need-add-result-3
 add-result-3 c =
     let s = c .before in
-    let a : s .args .h ≤ 10 = omega (arith, s .pre .0, s .pre .1) in
-    let b : s .args .h + 2 * (s .args .degree - s .args .h) + 3 ≤ 33 = omega (arith, s .pre .0, s .pre .1) in
-    let l : s .args .l ≤ 10 = omega (arith, s .pre .0, s .pre .1) in
+    let a : s .args .h ≤ 10 = omega (arith, s .pre .2, s .pre .3) in
+    let b : s .args .h + 2 * (s .args .degree - s .args .h) + 3 ≤ 33 = omega (arith, s .pre .2, s .pre .3) in
+    let l : s .args .l ≤ 10 = omega (arith, s .pre .2, s .pre .3) in
     omega (arith, mul-le-mul a b)
 
 returns-2 : tie.Need-returns-2
 returns-2 c =
     let s = c .before in
-    let two : 2 ≡ s .args .kind = omega (arith, s .pre .0, c .if1 .left) in
-    patch-place (s .args .degree) (s .args .h) (s .args .l) (s .pre .1)
-    ∙ ap (λ k. placeOf (exponentsAt k (s .args .h) (s .args .l)) (monomials (further k) (s .args .degree))) two
+    let two : 2 ≡ s .args .dimension = omega (arith, s .pre .0, s .pre .1, c .if1 .left) in
+    patch-place (s .args .degree) (s .args .h) (s .args .l) (s .pre .3)
+    ∙ ap (λ k. placeOf (exponentsAt k (s .args .h) (s .args .l)) (monomials k (s .args .degree))) two
 
 pub monomial-place-spec : {M : Type 1} → statement M
 monomial-place-spec =
     tie.close
     (tie.spec
     returns
-    sub-rest
-    mul-result
-    add-result
-    add-result-2
+    (λ c. search needs)
+    (λ c. search needs)
+    (λ c. search needs)
+    (λ c. search needs)
     mul-result-2
     add-result-3
     returns-2)

@@ -8,60 +8,42 @@ use Rattle.nets.proofs.Scaled.{multinomial-is, quotient-pos, parts-up, 
 use Rattle.nets.proofs.coordinates.multinomial_of.Statement.{statement}
 use Rattle.nets.proofs.coordinates.multinomial_of.Tie as tie
 
-factorial-of-requires : tie.Need-factorial-of-requires
-factorial-of-requires c κs = search needs
-
-factorial-of-requires-2 : tie.Need-factorial-of-requires-2
-factorial-of-requires-2 c κs = search needs
-
 mul-below : tie.Need-mul-below
 mul-below c =
     let s = c .before .before in
-    omega (arith, le-trans (le-of-eq (ap₂ _*_ (c .before .factorial-of .ensures) (c .factorial-of2 .ensures))) (pair-up (s .args .kind) (s .args .degree) (s .args .h) (s .args .l) (s .pre .0) (s .pre .1) (s .pre .2)))
-
-sub-factorial-of : tie.Need-sub-factorial-of
-sub-factorial-of c = search needs
-
-sub-factorial-of-2 : tie.Need-sub-factorial-of-2
-sub-factorial-of-2 c = search needs
-
-factorial-of-requires-3 : tie.Need-factorial-of-requires-3
-factorial-of-requires-3 c κs = search needs
+    omega (arith, le-trans (le-of-eq (ap₂ _*_ (c .before .factorial-of .ensures) (c .factorial-of2 .ensures))) (pair-up (s .args .dimension) (s .args .degree) (s .args .h) (s .args .l) (s .pre .0) (s .pre .1) (s .pre .3) (s .pre .4) (s .pre .2)))
 
 mul-below-2 : tie.Need-mul-below-2
 mul-below-2 c =
     let s = c .before .before .before in
     omega
-    (arith, le-trans (le-of-eq (ap₂ _*_ (ap₂ _*_ (c .before .before .factorial-of .ensures) (c .before .factorial-of2 .ensures)) (c .factorial-of3 .ensures))) (parts-up (s .args .kind) (s .args .degree) (s .args .h) (s .args .l) (s .pre .0) (s .pre .1) (s .pre .2)))
-
-factorial-of-requires-4 : tie.Need-factorial-of-requires-4
-factorial-of-requires-4 c κs = search needs
+    (arith, le-trans (le-of-eq (ap₂ _*_ (ap₂ _*_ (c .before .before .factorial-of .ensures) (c .before .factorial-of2 .ensures)) (c .factorial-of3 .ensures))) (parts-up (s .args .dimension) (s .args .degree) (s .args .h) (s .args .l) (s .pre .0) (s .pre .1) (s .pre .3) (s .pre .4) (s .pre .2)))
 
 div-result : tie.Need-div-result
 div-result c =
     let s = c .before .before .before .before in
     let is = ap₂ _*_ (ap₂ _*_ (c .before .before .before .factorial-of .ensures) (c .before .before .factorial-of2 .ensures)) (c .before .factorial-of3 .ensures) in
-    omega (arith, is, parts-pos (s .args .kind) (s .args .degree) (s .args .h) (s .args .l) (s .pre .0) (s .pre .1) (s .pre .2))
+    omega (arith, is, parts-pos (s .args .dimension) (s .args .degree) (s .args .h) (s .args .l) (s .pre .0) (s .pre .1) (s .pre .3) (s .pre .4))
 
 returns : tie.Need-returns
 returns c =
     let s = c .before .before .before .before in
     let is = ap₂ _/_ (c .factorial-of4 .ensures) (ap₂ _*_ (ap₂ _*_ (c .before .before .before .factorial-of .ensures) (c .before .before .factorial-of2 .ensures)) (c .before .factorial-of3 .ensures)) in (
-      is ∙ multinomial-is (s .args .kind) (s .args .degree) (s .args .h) (s .args .l) (s .pre .0) (s .pre .1) (s .pre .2),
-      subst (λ r. 0 < r) (sym is) (quotient-pos (s .args .kind) (s .args .degree) (s .args .h) (s .args .l) (s .pre .0) (s .pre .1) (s .pre .2)),
+      is ∙ multinomial-is (s .args .dimension) (s .args .degree) (s .args .h) (s .args .l) (s .pre .0) (s .pre .1) (s .pre .3) (s .pre .4),
+      subst (λ r. 0 < r) (sym is) (quotient-pos (s .args .dimension) (s .args .degree) (s .args .h) (s .args .l) (s .pre .0) (s .pre .1) (s .pre .3) (s .pre .4)),
     )
 
 pub multinomial-of-spec : {M : Type 1} → statement M
 multinomial-of-spec =
     tie.close
     (tie.spec
-    factorial-of-requires
-    factorial-of-requires-2
+    (λ c κs. search needs)
+    (λ c κs. search needs)
     mul-below
-    sub-factorial-of
-    sub-factorial-of-2
-    factorial-of-requires-3
+    (λ c. search needs)
+    (λ c. search needs)
+    (λ c κs. search needs)
     mul-below-2
-    factorial-of-requires-4
+    (λ c κs. search needs)
     div-result
     returns)

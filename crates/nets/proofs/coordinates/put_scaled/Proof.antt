@@ -7,10 +7,10 @@ use lib.IntN.{pos, natAbs, _*ℤ_}
 use lib.ListN.{length, getD, length-set}
 use mir.Syntax.{w64}
 use mir.Val.{toZ}
-use Rattle.integers.proofs.Signed.{back-fits}
+use Rattle.integers.proofs.Signed.{seen, back-fits}
 use Rattle.nets.specs.Rows.{written}
-use Rattle.nets.proofs.Row.{seen, element}
-use Rattle.nets.proofs.Scaled.{write-more}
+use Rattle.nets.proofs.Row.{element}
+use Rattle.nets.proofs.Lists.{write-more}
 use Rattle.nets.proofs.coordinates.put_scaled.Statement.{statement}
 use Rattle.nets.proofs.coordinates.put_scaled.Tie as tie
 

@@ -5,8 +5,7 @@ use mathlib.Core.Path.{sym, ap, ap₂, _∙_, subst}
 use lib.IntN.{ℤ, natAbs, _*ℤ_}
 use mir.Syntax.{w64}
 use mir.Val.{SFits}
-use Rattle.integers.proofs.Signed.{fits-abs, back, back-fits, abs-*-le}
-use Rattle.nets.proofs.Row.{seen}
+use Rattle.integers.proofs.Signed.{seen, fits-abs, back, back-fits, abs-*-le}
 use Rattle.nets.proofs.coordinates.scaled.Statement.{statement}
 use Rattle.nets.proofs.coordinates.scaled.Tie as tie
 

@@ -1,87 +1,100 @@
 -- `blend_vertex` meets its contract: the numbers read are the weights of the vertex.
 use borrow.Author.Needs.{needs, sfits-of}
-use Prim.Native.Nat.{pred, _+_, _*_, _≤_, _<_}
+use Prim.Native.Nat.{ℕ, suc, pred, _+_, _*_, _≤_, _<_}
+use native.Mathlib.Nat.{le-trans, mul-le-mul}
 use native.Mathlib.Omega.{arith}
-use mathlib.Core.Path.{_≡_, ap, _∙_}
+use mathlib.Core.Path.{_≡_, refl, ap, _∙_}
 use mathlib.Core.Bool.{Bool, true, cond}
 use mathlib.Core.List.{List, [], _∷_}
 use lib.Dec.{eqb}
 use lib.IntN.{ℤ, pos}
-use lib.ListN.{getD, take}
-use Rattle.integers.proofs.Signed.{back-fits}
-use Rattle.machine.specs.Kinds.{further, within, all}
-use Rattle.machine.specs.Nets.{used}
+use lib.ListN.{length, getD, take}
+use Rattle.integers.specs.Test.{within, all}
+use Rattle.integers.proofs.Signed.{seen, back-fits}
+use Rattle.entries.specs.Rows.{size}
 use Rattle.nets.specs.Rows.{blended}
 use Rattle.nets.specs.FirstNet.{vertexWeights}
-use Rattle.nets.proofs.Row.{seen, element}
+use Rattle.nets.proofs.Row.{element}
 use Rattle.nets.proofs.Through.{vertex-place, weights-read, vertex-bounded, vertex-fits}
 use Rattle.nets.proofs.first.blend_vertex.Statement.{statement}
 use Rattle.nets.proofs.first.blend_vertex.Tie as tie
-use Rattle.nets.proofs.first.blend_vertex.Reads as reads
-use Rattle.nets.proofs.first.blend_vertex.Lts as lts
-use Rattle.nets.proofs.first.second_number.Reads as second-number-reads
-use Rattle.nets.proofs.rows.blend.Reads as blend-reads
 
 -- the places of the vertex's numbers
-inside : (s : tie.Start) → ((s .args .kind + 1) * s .args .v + s .args .kind < 9) × ((s .args .kind + 1) * s .args .v + 2 ≤ 9)
-inside s = vertex-place (s .args .kind) (s .args .degree) (s .args .v) (s .pre .0) (s .pre .2)
-
--- the numbers read, as they are handed on
-second-is : (c : tie.After-second-number) → let a = c .before .before .before .args in seen (c .second-number .result) ≡ cond (eqb (a .kind) 1) (pos 0) (getD (a .frame .now) ((a .kind + 1) * a .v + 1) (pos 0))
-second-is c = back-fits (sfits-of (c .second-number .ok)) ∙ c .second-number .ensures
-
-weights-are : (c : tie.After-second-number)
-    → let a = c .before .before .before .args in
-    seen (getD (a .frame .now) ((a .kind + 1) * a .v + a .kind) (pos 0)) ∷ seen (getD (a .frame .now) ((a .kind + 1) * a .v) (pos 0)) ∷ seen (c .second-number .result) ∷ [] ≡ vertexWeights (a .kind) (a .frame .now) (a .v)
-weights-are c =
-    let s = c .before .before .before in
+inside : (s : tie.Start) → let a = s .args in ((a .dimension + 1) * a .v + a .dimension < length (a .frame .now)) × ((a .dimension + 1) * a .v + 2 ≤ length (a .frame .now))
+inside s =
     let a = s .args in
-    weights-read (a .kind) (a .degree) (a .v) (a .frame .now) (seen (getD (a .frame .now) ((a .kind + 1) * a .v + a .kind) (pos 0))) (seen (getD (a .frame .now) ((a .kind + 1) * a .v) (pos 0))) (seen (c .second-number .result)) (s .pre .0)
-    (element (getD (a .frame .now) ((a .kind + 1) * a .v + a .kind) (pos 0)) (c .before .before .z .given)) (element (getD (a .frame .now) ((a .kind + 1) * a .v) (pos 0)) (c .before .a .given)) (second-is c)
+    let place = vertex-place (a .dimension) (a .v) (s .pre .sized .low) (s .pre .sized .high) (s .pre .vertex) in
+    (le-trans (place .0) (s .pre .corners .long), le-trans (place .1) (s .pre .corners .long))
 
--- a blend with the weights of the vertex is made to its end
-within-all : (s : tie.Start) (b : Bool) (ws : List ℤ)
-    → b ≡ all (within 9223372036854775807) (take (used (s .args .kind) (pred (s .args .degree))) (blended (further (s .args .kind)) (pred (s .args .degree)) ws (s .args .cur .now)))
-    → ws ≡ vertexWeights (s .args .kind) (s .args .frame .now) (s .args .v) → b ≡ true
-within-all s b ws is weights =
-    is ∙ ap (λ l. all (within 9223372036854775807) (take (used (s .args .kind) (pred (s .args .degree))) (blended (further (s .args .kind)) (pred (s .args .degree)) l (s .args .cur .now)))) weights
-    ∙ vertex-fits (s .args .kind) (s .args .degree) (s .args .v) (s .args .frame .now) (s .args .cur .now) (s .pre .0) (s .pre .1) (s .pre .5) (s .pre .2) (s .pre .3) (s .pre .6)
+-- and there are at most nine of them
+few : (s : tie.Start) → let a = s .args in ((a .dimension + 1) * a .v + a .dimension < suc (a .dimension) * suc (a .dimension)) × (suc (a .dimension) * suc (a .dimension) ≤ 9)
+few s =
+    let a = s .args in
+    (vertex-place (a .dimension) (a .v) (s .pre .sized .low) (s .pre .sized .high) (s .pre .vertex) .0, mul-le-mul (suc-le (s .pre .sized .high)) (suc-le (s .pre .sized .high)))
+  where
+    suc-le : {n : ℕ} → n ≤ 2 → suc n ≤ 3
+    suc-le h = omega arith
 
 add-at : tie.Need-add-at
 add-at c = search needs
 
 mul-at : tie.Need-mul-at
-mul-at c = omega (arith, inside c .0)
+mul-at c = omega (arith, few c)
 
-add-z : tie.Need-add-z
-add-z c = omega (arith, inside c .0)
+add-t9 : tie.Need-add-t9
+add-t9 c = omega (arith, few c)
 
-mul-z : tie.Need-mul-z
-mul-z c = omega (arith, inside c .0)
+mul-t10 : tie.Need-mul-t10
+mul-t10 c = omega (arith, few c)
 
-shared-slice-copy-out-z : tie.Need-shared-slice-copy-out-z
-shared-slice-copy-out-z c = omega (arith, inside c .0, c .pre .4)
+shared-slice-copy-out-t12 : tie.Need-shared-slice-copy-out-t12
+shared-slice-copy-out-t12 c = inside c .0
 
-mul-a : tie.Need-mul-a
-mul-a c = omega (arith, inside (c .before) .0)
+mul-t13 : tie.Need-mul-t13
+mul-t13 c = omega (arith, few (c .before))
 
-shared-slice-copy-out-a : tie.Need-shared-slice-copy-out-a
-shared-slice-copy-out-a c = omega (arith, inside (c .before) .0, c .before .pre .4)
+shared-slice-copy-out-t15 : tie.Need-shared-slice-copy-out-t15
+shared-slice-copy-out-t15 c = omega (arith, inside (c .before) .0)
 
 second-number-requires : tie.Need-second-number-requires
-second-number-requires c κs = omega (arith, inside (c .before .before) .1, c .before .before .pre .4)
+second-number-requires c κs = inside (c .before .before) .1
+
+-- the numbers read, as they are handed on
+second-is : (c : tie.After-second-number) → let a = c .before .before .before .args in seen (c .second-number .result) ≡ cond (eqb (a .dimension) 1) (pos 0) (getD (a .frame .now) ((a .dimension + 1) * a .v + 1) (pos 0))
+second-is c = back-fits (sfits-of (c .second-number .ok)) ∙ c .second-number .ensures
+
+weights-are : (c : tie.After-second-number)
+    → let a = c .before .before .before .args in
+    seen (getD (a .frame .now) ((a .dimension + 1) * a .v + a .dimension) (pos 0)) ∷ seen (getD (a .frame .now) ((a .dimension + 1) * a .v) (pos 0)) ∷ seen (c .second-number .result) ∷ pos 0 ∷ []
+    ≡ vertexWeights (a .dimension) (a .frame .now) (a .v)
+weights-are c =
+    let s = c .before .before .before in
+    let a = s .args in
+    weights-read (a .dimension) (a .v) (a .frame .now) (seen (getD (a .frame .now) ((a .dimension + 1) * a .v + a .dimension) (pos 0))) (seen (getD (a .frame .now) ((a .dimension + 1) * a .v) (pos 0))) (seen (c .second-number .result)) (pos 0)
+    (s .pre .sized .low) (s .pre .sized .high)
+    (element (getD (a .frame .now) ((a .dimension + 1) * a .v + a .dimension) (pos 0)) (c .before .before .t12 .given)) (element (getD (a .frame .now) ((a .dimension + 1) * a .v) (pos 0)) (c .before .t15 .given)) (second-is c) refl
 
 blend-requires : tie.Need-blend-requires
 blend-requires c κs =
     let s = c .before .before .before .before in
     let a = s .args in (
-      s .pre .0,
-      s .pre .1,
-      s .pre .3,
-      vertex-bounded (a .kind) (a .degree) (a .v) (used (a .kind) (a .degree)) (a .frame .now) (a .cur .now) (seen (getD (a .frame .now) ((a .kind + 1) * a .v + a .kind) (pos 0)))
-          (seen (getD (a .frame .now) ((a .kind + 1) * a .v) (pos 0))) (seen (c .before .second-number .result)) (s .pre .0) (s .pre .5) (s .pre .2) (s .pre .6) (weights-are (c .before))
-          (λ one. second-is (c .before) ∙ ap (λ i. cond (eqb i 1) (pos 0) (getD (a .frame .now) ((a .kind + 1) * a .v + 1) (pos 0))) one),
+      s .pre .sized,
+      s .pre .some,
+      s .pre .long,
+      vertex-bounded (a .dimension) (a .v) (size (a .width) (a .dimension) (a .degree)) (a .frame .now) (a .cur .now) (seen (getD (a .frame .now) ((a .dimension + 1) * a .v + a .dimension) (pos 0)))
+          (seen (getD (a .frame .now) ((a .dimension + 1) * a .v) (pos 0))) (seen (c .before .second-number .result)) (pos 0) (s .pre .sized .low) (s .pre .sized .high) (s .pre .corners) (s .pre .vertex) (s .pre .bounded) (weights-are (c .before))
+          (λ one. second-is (c .before) ∙ ap (λ i. cond (eqb i 1) (pos 0) (getD (a .frame .now) ((a .dimension + 1) * a .v + 1) (pos 0))) one),
     )
+
+-- a step with the weights of the vertex is made to its end
+within-all : (s : tie.Start) (b : Bool) (ws : List ℤ)
+    → let a = s .args in
+    b ≡ all (within 9223372036854775807) (take (size (a .width) (a .dimension) (pred (a .degree))) (blended (a .width) (a .dimension) (pred (a .degree)) ws (a .cur .now)))
+    → ws ≡ vertexWeights (a .dimension) (a .frame .now) (a .v) → b ≡ true
+within-all s b ws is weights =
+    let a = s .args in
+    is ∙ ap (λ l. all (within 9223372036854775807) (take (size (a .width) (a .dimension) (pred (a .degree))) (blended (a .width) (a .dimension) (pred (a .degree)) l (a .cur .now)))) weights
+    ∙ vertex-fits (a .width) (a .dimension) (a .degree) (a .v) (a .frame .now) (a .cur .now) (s .pre .sized) (s .pre .some) (s .pre .corners) (s .pre .vertex) (s .pre .long) (s .pre .bounded)
 
 same-length : tie.Need-same-length
 same-length c = search needs
@@ -91,7 +104,7 @@ returns c =
     let s = c .before .before .before .before .before .before in
     let a = s .args in
     let is = weights-are (c .before .before .before) in
-    c .before .blend .ensures .1 (within-all s (c .before .blend .result) _ (c .before .blend .ensures .0) is) ∙ ap (λ ws. blended (further (a .kind)) (pred (a .degree)) ws (a .cur .now)) is
+    c .before .blend .ensures .1 (within-all s (c .before .blend .result) _ (c .before .blend .ensures .0) is) ∙ ap (λ ws. blended (a .width) (a .dimension) (pred (a .degree)) ws (a .cur .now)) is
 
 pub blend-vertex-spec : {M : Type 1} → statement M
 blend-vertex-spec =
@@ -99,11 +112,11 @@ blend-vertex-spec =
     (tie.spec
     add-at
     mul-at
-    add-z
-    mul-z
-    shared-slice-copy-out-z
-    mul-a
-    shared-slice-copy-out-a
+    add-t9
+    mul-t10
+    shared-slice-copy-out-t12
+    mul-t13
+    shared-slice-copy-out-t15
     second-number-requires
     blend-requires
     same-length

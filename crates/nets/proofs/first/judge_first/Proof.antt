@@ -1,71 +1,83 @@
 -- `judge_first` meets its contract: the tests are the table's, in its order.
 use borrow.Author.Needs.{needs}
 use borrow.Author.Tests.{not-true, not-false}
-use Prim.Native.Nat.{suc}
+use native.Mathlib.Nat.{sub-zero}
 use mathlib.Core.Path.{_≡_, refl, sym, ap, _∙_}
-use mathlib.Core.Bool.{Bool, true, _&&_}
-use Rattle.machine.specs.Kinds.{further, known}
-use Rattle.machine.specs.Comparison.{Polynomials}
-use Rattle.machine.specs.First.{frameIn, coefficientsIn}
+use mathlib.Core.Bool.{Bool, true}
+use lib.ListN.{take}
+use Rattle.integers.specs.Test.{within, all}
+use Rattle.kinds.specs.Kinds.{known}
+use Rattle.kinds.specs.Frames.{framesAllowed}
+use Rattle.kinds.proofs.Counts.{entries-fit}
+use Rattle.machine.specs.Comparison.{Polynomials, groups}
+use Rattle.machine.specs.Lent.{polynomialsFrom}
 use Rattle.nets.proofs.FirstSteps.{judged-by}
 use Rattle.nets.proofs.first.judge_first.Statement.{statement}
 use Rattle.nets.proofs.first.judge_first.Tie as tie
-use Rattle.nets.proofs.first.judge_first.Reads as reads
-use Rattle.nets.proofs.first.judge_first.Lts as lts
-use Rattle.frames.proofs.coefficients_in.Reads as coefficients-in-reads
-use Rattle.frames.proofs.frame_in.Reads as frame-in-reads
-use Rattle.frames.proofs.known_kind.Reads as known-kind-reads
 
 abbrev polynomials : tie.Start → Polynomials
-polynomials s = record { kind = s .args .kind; degree = s .args .degree; coefficients = s .args .coefficients .now }
+polynomials s = polynomialsFrom (s .args .kind) (s .args .degree) (s .args .second) (s .args .coefficients .now)
 
 -- what has been tested so far
-is-known : (c : tie.Else1) → known (c .before .before .args .kind) (c .before .before .args .degree) ≡ true
+is-known : (c : tie.Else1) → let a = c .before .before .args in known (a .kind) (a .degree) (a .second) ≡ true
 is-known c = sym (c .before .known-kind .ensures) ∙ not-false (c .before .known-kind .result) (c .if1 .left)
 
-is-framed : (c : tie.Else2) → frameIn (suc (further (c .before .before .before .before .args .kind))) (c .before .before .before .before .args .frame) ≡ true
-is-framed c = sym (c .before .frame-in .ensures) ∙ not-false (c .before .frame-in .result) (c .if2 .left)
+is-framed : (c : tie.Else2) → let s = c .before .before .before .before in framesAllowed (groups (polynomials s)) (s .args .frame) ≡ true
+is-framed c =
+    let a = c .before .before .before .before .args in
+    sym (c .before .frame-allowed .ensures (a .degree) (a .second)) ∙ not-false (c .before .frame-allowed .result) (c .if2 .left)
 
-limited : (c : tie.After-coefficients-in) {v : Bool} → c .coefficients-in .result ≡ v → coefficientsIn (polynomials (c .before .before .before .before .before)) ≡ v
-limited c e = ap (λ x. x && coefficientsIn (polynomials (c .before .before .before .before .before))) (sym (is-known (c .before .before .before))) ∙ sym (c .coefficients-in .ensures) ∙ e
-
-known-kind-requires : tie.Need-known-kind-requires
-known-kind-requires c κs = search needs
+limited : (c : tie.After-all-within) {b : Bool} → c .all-within .result ≡ b
+    → all (within 1048576) (polynomials (c .before .before .before .before .before .before .before) .coefficients) ≡ b
+limited c e =
+    let count = c .before .before .number-count in
+    let a = c .before .before .before .before .before .before .before .args in
+    sym (c .all-within .ensures ∙ ap (λ k. all (within 1048576) (take k (a .coefficients .now))) (sub-zero (count .result) ∙ count .ensures .coefficients)) ∙ e
 
 returns : tie.Need-returns
 returns c =
     let s = c .before .before in
     judged-by (polynomials s) (s .args .frame) (sym (c .before .known-kind .ensures) ∙ not-true (c .before .known-kind .result) (c .if1 .taken)) refl refl
 
-frame-in-requires : tie.Need-frame-in-requires
-frame-in-requires c κs = search needs
-
 returns-2 : tie.Need-returns-2
 returns-2 c =
     let s = c .before .before .before .before in
-    judged-by (polynomials s) (s .args .frame) (is-known (c .before .before)) (sym (c .before .frame-in .ensures) ∙ not-true (c .before .frame-in .result) (c .if2 .taken)) refl
+    judged-by (polynomials s) (s .args .frame) (is-known (c .before .before)) (sym (c .before .frame-allowed .ensures (s .args .degree) (s .args .second)) ∙ not-true (c .before .frame-allowed .result) (c .if2 .taken)) refl
 
-coefficients-in-requires : tie.Need-coefficients-in-requires
-coefficients-in-requires c κs = search needs
+part-all-within-end : tie.Need-part-all-within-end
+part-all-within-end c =
+    let s = c .before .before .before .before .before in
+    let few = entries-fit (s .args .kind) (s .args .degree) (s .args .second) (is-known (c .before .before .before)) in
+    let count = c .number-count .ensures .entries in
+    let long = s .pre in
+    search needs
 
 returns-3 : tie.Need-returns-3
 returns-3 c =
-    let s = c .before .before .before .before .before .before in
-    judged-by (polynomials s) (s .args .frame) (is-known (c .before .before .before .before)) (is-framed (c .before .before)) (limited (c .before) (not-true (c .before .coefficients-in .result) (c .if3 .taken)))
+    let tested = c .before in
+    let framed = tested .before .before .before in
+    let s = framed .before .before .before .before in
+    judged-by (polynomials s) (s .args .frame) (is-known (framed .before .before)) (is-framed framed) (limited tested (not-true (tested .all-within .result) (c .if3 .taken)))
 
 returns-4 : tie.Need-returns-4
 returns-4 c =
-    let s = c .before .before .before .before .before .before in
-    judged-by (polynomials s) (s .args .frame) (is-known (c .before .before .before .before)) (is-framed (c .before .before)) (limited (c .before) (not-false (c .before .coefficients-in .result) (c .if3 .left)))
+    let tested = c .before in
+    let framed = tested .before .before .before in
+    let s = framed .before .before .before .before in
+    judged-by (polynomials s) (s .args .frame) (is-known (framed .before .before)) (is-framed framed) (limited tested (not-false (tested .all-within .result) (c .if3 .left)))
 
 pub judge-first-spec : {M : Type 1} → statement M
 judge-first-spec =
     tie.close
     (tie.spec
-    known-kind-requires
+    (λ c κs. search needs)
     returns
-    frame-in-requires
+    (λ c κs. search needs)
     returns-2
-    coefficients-in-requires
+    (λ c κs. search needs)
+    (λ c. search needs)
+    (λ c. search needs)
+    part-all-within-end
+    (λ c κs. search needs)
     returns-3
     returns-4)

@@ -1,102 +1,139 @@
 -- `make_first` meets its contract: the base holds the polar values, so the rows made from it are those of the net over the frame.
 use borrow.Author.Needs.{needs}
-use Prim.Native.Nat.{_≤_}
+use Prim.Native.Nat.{ℕ, _≤_}
+use native.Mathlib.Nat.{sub-zero, le-of-eq}
 use native.Mathlib.Omega.{arith}
-use mathlib.Core.Path.{refl, ap, ap₂, _∙_}
+use mathlib.Core.Path.{_≡_, sym, ap, _∙_, subst}
+use mathlib.Core.Bool.{true}
 use lib.ListN.{length, take}
-use Rattle.projection.specs.Projection.{inRange}
-use Rattle.machine.specs.Kinds.{all}
-use Rattle.machine.specs.Nets.{used}
-use Rattle.machine.specs.Comparison.{Polynomials, polarOf, netOver}
-use Rattle.machine.specs.First.{netIn}
+use Rattle.integers.specs.Test.{within, all}
+use Rattle.polar.specs.Scale.{scale}
+use Rattle.entries.specs.Rows.{size}
+use Rattle.kinds.specs.Kinds.{dimensionOf, known}
+use Rattle.kinds.proofs.Limits.{limits}
+use Rattle.kinds.proofs.Counts.{entries-fit, size-fits}
+use Rattle.kinds.proofs.Scales.{known-scale}
+use Rattle.machine.specs.Comparison.{Polynomials}
+use Rattle.machine.specs.Lent.{polynomialsFrom}
 use Rattle.nets.specs.Rows.{Sized, written}
-use Rattle.nets.specs.FirstNet.{valueAt}
-use Rattle.nets.proofs.TwoKinds.{used-room}
-use Rattle.nets.proofs.Judging.{known-sized}
+use Rattle.nets.specs.Coordinates.{groupPolar, Limited}
+use Rattle.nets.specs.FirstNet.{FrameWithin, valueAt}
 use Rattle.nets.proofs.Through.{small-first}
-use Rattle.nets.proofs.FirstRows.{holds-polar, first-numbers}
-use Rattle.nets.proofs.FirstSteps.{frame-within, coefficients-limited, judged-none}
+use Rattle.nets.proofs.FirstRows.{holds-polar}
+use Rattle.nets.proofs.OneGroup.{known-sized}
+use Rattle.nets.proofs.FirstSteps.{first-known, first-framed, first-within, frame-within, coefficients-limited, first-made, first-ranged}
 use Rattle.nets.proofs.first.make_first.Statement.{statement}
 use Rattle.nets.proofs.first.make_first.Tie as tie
-use Rattle.nets.proofs.first.make_first.Reads as reads
-use Rattle.nets.proofs.first.make_first.Lts as lts
-use Rattle.nets.proofs.coordinates.coordinate_numbers.Reads as coordinate-numbers-reads
-use Rattle.nets.proofs.first.put_rows.Reads as put-rows-reads
-use Rattle.nets.proofs.rows.all_in_range.Reads as all-in-range-reads
-use Rattle.nets.proofs.rows.numbers.Reads as numbers-reads
 
-abbrev polynomials : tie.Start → Polynomials
-polynomials s = record { kind = s .args .kind; degree = s .args .degree; coefficients = s .args .coefficients .now }
+module _ (s : tie.Start) where
+  abbrev polynomials : Polynomials
+  polynomials = polynomialsFrom (s .args .kind) (s .args .degree) (s .args .second) (s .args .coefficients .now)
 
-is-sized : (s : tie.Start) → Sized (s .args .kind) (s .args .degree) × (1 ≤ s .args .degree)
-is-sized s = known-sized (s .args .kind) (s .args .degree) (judged-none (polynomials s) (s .args .frame .now) (s .pre .0) .0)
+  right : known (s .args .kind) (s .args .degree) (s .args .second) ≡ true
+  right = first-known polynomials (s .args .frame .now) (s .pre .0)
 
-slice-aggregate-coordinate-numbers : tie.Need-slice-aggregate-coordinate-numbers
-slice-aggregate-coordinate-numbers c = search needs
+  -- d is the dimension that was found
+  module _ (d : ℕ) (is : d ≡ dimensionOf (s .args .kind)) where
+    sized : Sized 4 d (s .args .degree)
+    sized = subst (λ n. Sized 4 n (s .args .degree)) (sym is) (known-sized (s .args .kind) (s .args .degree) (s .args .second) right)
+
+    limited : Limited d (s .args .degree) (s .args .coefficients .now)
+    limited =
+        subst (λ n. Limited n (s .args .degree) (s .args .coefficients .now)) (sym is)
+        (coefficients-limited (s .args .kind) (s .args .degree) (s .args .second) right (s .args .coefficients .now) (s .pre .3) (first-within polynomials (s .args .frame .now) (s .pre .0)))
+
+    corners : FrameWithin d (s .args .frame .now)
+    corners =
+        subst (λ n. FrameWithin n (s .args .frame .now)) (sym is)
+        (frame-within (s .args .kind) (s .args .degree) (s .args .second) right (s .args .frame .now) (le-of-eq (sym (s .pre .2))) (first-framed polynomials (s .args .frame .now) (s .pre .0)))
+
+    room : size 4 d (s .args .degree) ≤ length (s .args .out .now)
+    room = subst (λ k. size 4 d (s .args .degree) ≤ k) (sym (s .pre .1)) (sized .room)
+
+    degree-ten : s .args .degree ≤ 10
+    degree-ten = let l = limits (s .args .kind) (s .args .degree) (s .args .second) right in omega (arith, l .degree-below)
+
+    degree-eight : d ≡ 2 → s .args .degree ≤ 8
+    degree-eight two = let less = limits (s .args .kind) (s .args .degree) (s .args .second) right .patch-below (sym is ∙ two) in omega (arith, less)
 
 coordinate-numbers-requires : tie.Need-coordinate-numbers-requires
 coordinate-numbers-requires c κs =
-    let s = c .before in
-    (is-sized s .0, is-sized s .1, refl, s .pre .3, coefficients-limited (polynomials s) (is-sized s .0) (s .pre .3) (judged-none (polynomials s) (s .args .frame .now) (s .pre .0) .2))
-
-slice-aggregate-put-rows : tie.Need-slice-aggregate-put-rows
-slice-aggregate-put-rows c = search needs
-
-slice-aggregate-put-rows-2 : tie.Need-slice-aggregate-put-rows-2
-slice-aggregate-put-rows-2 c = search needs
-
-slice-aggregate-put-rows-3 : tie.Need-slice-aggregate-put-rows-3
-slice-aggregate-put-rows-3 c = search needs
+    let s = c .before .before .before in
+    let a = s .args in
+    let d = c .before .before .dimension-of in (
+      limited s (d .result) (d .ensures),
+      c .before .scale .ensures ∙ known-scale (a .kind) (a .degree) (a .second) (right s) ∙ ap (λ n. scale n (a .degree)) (sym (d .ensures)),
+      sized s (d .result) (d .ensures) .room,
+    )
 
 put-rows-requires : tie.Need-put-rows-requires
 put-rows-requires c κs =
-    let s = c .before .before .before .before .before .before .before in
+    let s = c .before .before .before .before .before .before .before .before .before in
     let a = s .args in
-    let base = c .before .before .before .before .before .coordinate-numbers in (
-      is-sized s .0,
-      ap length (s .pre .1),
-      refl,
-      refl,
-      base .ensures .long,
-      s .pre .2,
-      frame-within (a .kind) (a .degree) (a .frame .now) (is-sized s .0) (s .pre .2) (judged-none (polynomials s) (a .frame .now) (s .pre .0) .1),
-      small-first (a .kind) (a .degree) (base .last .0) (is-sized s .0) (base .ensures .small),
+    let d = c .before .before .before .before .before .before .before .before .dimension-of in
+    let base = c .before .before .before .before .before .coordinate-numbers in
+    let whole = sized s (d .result) (d .ensures) in (
+      room s (d .result) (d .ensures),
+      whole .room,
+      whole .room,
+      record {
+        sized = whole;
+        long = subst (λ k. size 4 (d .result) (a .degree) ≤ k) (sym (base .ensures .1)) (whole .room);
+        corners = corners s (d .result) (d .ensures);
+        small = small-first (d .result) (a .degree) (base .last .0) (whole .low) (whole .high) (degree-ten s (d .result) (d .ensures)) (degree-eight s (d .result) (d .ensures)) (base .ensures .0 .small);
+      },
     )
 
-numbers-requires : tie.Need-numbers-requires
-numbers-requires c κs = is-sized (c .before .before .before .before .before .before .before .before .before .before .before .before) .0
+part-all-within-end : tie.Need-part-all-within-end
+part-all-within-end c =
+    let made = c .before .before .before .before .before .before in
+    let s = made .before .before .before .before .before .before .before .before .before .before in
+    let few = entries-fit (s .args .kind) (s .args .degree) (s .args .second) (right s) in
+    let count = c .before .number-count .ensures .entries in
+    let long = made .put-rows .kept .0 ∙ s .pre .1 in
+    search needs
 
-all-in-range-requires : tie.Need-all-in-range-requires
-all-in-range-requires c κs =
-    let s = c .before .before .before .before .before .before .before .before .before .before .before .before .before .before in
-    omega (arith, used-room (s .args .kind) (s .args .degree) (is-sized s .0), c .before .numbers .ensures, c .before .before .before .before .before .before .put-rows .kept .0, ap length (s .pre .1))
-
-same-length : tie.Need-same-length
-same-length c = search needs
+-- the rows are the net's
+made-is : (c : tie.After-put-rows)
+    → let a = c .before .before .before .before .before .before .before .before .before .before .args in
+    let n = dimensionOf (a .kind) in
+    c .put-rows .last .0 ≡ written (a .out .now) 0 (size 4 n (a .degree)) (valueAt 4 n (a .degree) (a .frame .now) (groupPolar n (a .degree) (a .coefficients .now)))
+made-is c =
+    let a = c .before .before .before .before .before .before .before .before .before .before .args in
+    let d = c .before .before .before .before .before .before .before .before .before .dimension-of in
+    let base = c .before .before .before .before .before .before .coordinate-numbers in
+    c .put-rows .ensures (groupPolar (d .result) (a .degree) (a .coefficients .now)) (holds-polar (d .result) (a .degree) (a .coefficients .now) (base .last .0) (base .ensures .0))
+    ∙ ap (λ n. written (a .out .now) 0 (size 4 n (a .degree)) (valueAt 4 n (a .degree) (a .frame .now) (groupPolar n (a .degree) (a .coefficients .now)))) (d .ensures)
 
 returns : tie.Need-returns
-unfolding netIn netOver
 returns c =
-    let s = c .before .before .before .before .before .before .before .before .before .before .before .before .before .before .before in
+    let made = c .before .before .before .before .before .before .before .before in
+    let s = made .before .before .before .before .before .before .before .before .before .before in
     let a = s .args in
-    let base = c .before .before .before .before .before .before .before .before .before .before .before .before .before .coordinate-numbers in
-    let made =
-    c .before .before .before .before .before .before .before .put-rows .ensures (polarOf (polynomials s)) (holds-polar (a .kind) (a .degree) (a .coefficients .now) (a .frame .now) (base .last .0) (is-sized s .0) (base .ensures))
-    ∙ ap (λ l. written l 0 (used (a .kind) (a .degree)) (valueAt (a .kind) (a .degree) (a .frame .now) (polarOf (polynomials s)))) (s .pre .1)
-    ∙ first-numbers (a .kind) (a .degree) (a .coefficients .now) (a .frame .now) (base .last .0) (is-sized s .0) (base .ensures) in
-    (made, c .all-in-range .ensures ∙ ap₂ (λ k l. all inRange (take k l)) (c .before .before .numbers .ensures) made)
+    let count = c .before .before .before .number-count in
+    let is = first-made (a .kind) (a .degree) (a .second) (right s) (a .frame .now) (a .coefficients .now) (a .out .now) (made .put-rows .last .0)
+    (subst (λ k. size 4 (dimensionOf (a .kind)) (a .degree) ≤ k) (sym (s .pre .1)) (size-fits (a .kind) (a .degree) (a .second) (right s))) (made-is made) in (
+      is,
+      first-ranged (a .kind) (a .degree) (a .second) (right s) (a .frame .now) (a .coefficients .now) (a .out .now) (made .put-rows .last .0) (count .result) (c .all-within .result) (count .ensures .entries) is
+          (c .all-within .ensures ∙ ap (λ k. all (within 281474976710656) (take k (made .put-rows .last .0))) (sub-zero (count .result))),
+    )
 
 pub make-first-spec : {M : Type 1} → statement M
 make-first-spec =
     tie.close
     (tie.spec
-    slice-aggregate-coordinate-numbers
+    (λ c κs. search needs)
+    (λ c κs. search needs)
+    (λ c. search needs)
     coordinate-numbers-requires
-    slice-aggregate-put-rows
-    slice-aggregate-put-rows-2
-    slice-aggregate-put-rows-3
+    (λ c. search needs)
+    (λ c. search needs)
+    (λ c. search needs)
     put-rows-requires
-    numbers-requires
-    all-in-range-requires
-    same-length
+    (λ c κs. search needs)
+    (λ c. search needs)
+    (λ c. search needs)
+    part-all-within-end
+    (λ c κs. search needs)
+    (λ c. search needs)
     returns)

@@ -9,29 +9,18 @@ use lib.ListN.{getD}
 use Rattle.nets.proofs.Row.{element}
 use Rattle.nets.proofs.first.second_number.Statement.{statement}
 use Rattle.nets.proofs.first.second_number.Tie as tie
-use Rattle.nets.proofs.first.second_number.Reads as reads
-use Rattle.nets.proofs.first.second_number.Lts as lts
 
 returns : tie.Need-returns
 returns c =
     let a = c .before .args in
-    sym (ap (λ b. cond b (pos 0) (getD (a .frame .now) (a .at + 1) (pos 0))) (eq-eqb (a .kind) 1 (c .if1 .taken)))
-
-add-result : tie.Need-add-result
-add-result c = search needs
-
-mul-result : tie.Need-mul-result
-mul-result c = search needs
-
-shared-slice-copy-out-result : tie.Need-shared-slice-copy-out-result
-shared-slice-copy-out-result c = search needs
+    sym (ap (λ b. cond b (pos 0) (getD (a .frame .now) (a .at + 1) (pos 0))) (eq-eqb (a .dimension) 1 (c .if1 .taken)))
 
 returns-2 : tie.Need-returns-2
 returns-2 c =
     let a = c .before .before .args in
     element (getD (a .frame .now) (a .at + 1) (pos 0)) (c .result .given)
-    ∙ sym (ap (λ b. cond b (pos 0) (getD (a .frame .now) (a .at + 1) (pos 0))) (ne-eqb (a .kind) 1 (c .before .if1 .left)))
+    ∙ sym (ap (λ b. cond b (pos 0) (getD (a .frame .now) (a .at + 1) (pos 0))) (ne-eqb (a .dimension) 1 (c .before .if1 .left)))
 
 pub second-number-spec : {M : Type 1} → statement M
 second-number-spec =
-    tie.close (tie.spec returns add-result mul-result shared-slice-copy-out-result returns-2)
+    tie.close (tie.spec returns (λ c. search needs) (λ c. search needs) (λ c. search needs) returns-2)

@@ -1,5 +1,5 @@
 -- `sign` meets its contract: the negative of a number in range fits, and the remainder by 2 tells odd from even.
-use Prim.Native.Nat.{_+_, _%_, _≤_, _<_, _^_}
+use Prim.Native.Nat.{_%_, _≤_, _<_, _^_}
 use native.Mathlib.Omega.{arith}
 use mathlib.Core.Path.{_≡_, sym, ap, _∙_, subst}
 use mathlib.Core.Bool.{cond}
@@ -7,9 +7,7 @@ use lib.IntN.{ℤ, pos, negℤ, natAbs, _-ℤ_, +ℤ-idl}
 use mir.Syntax.{w64}
 use mir.Val.{SFits}
 use Rattle.integers.proofs.Laws.{natAbs-neg}
-use Rattle.integers.proofs.Signed.{fits-abs, back, back-fits}
-use Rattle.entries.specs.Entries.{odd}
-use Rattle.nets.proofs.Row.{seen}
+use Rattle.integers.proofs.Signed.{seen, fits-abs, back, back-fits}
 use Rattle.nets.proofs.Signs.{even-odd}
 use Rattle.nets.proofs.flips.sign.Statement.{statement}
 use Rattle.nets.proofs.flips.sign.Tie as tie

@@ -1,4 +1,4 @@
--- `spread` meets its contract, by the kind.
+-- `spread` meets its contract, by the dimension.
 use Prim.Native.Nat.{_*_, _-_}
 use native.Mathlib.Nat.{zero-mul, one-mul}
 use native.Mathlib.Omega.{arith}
@@ -8,12 +8,12 @@ use Rattle.nets.proofs.levels.spread.Tie as tie
 
 returns : tie.Need-returns
 returns c =
-    let none : c .before .args .kind - 1 ≡ 0 = omega arith in
+    let none : c .before .args .dimension - 1 ≡ 0 = omega arith in
     sym (ap (λ k. k * c .before .args .m) none ∙ zero-mul (c .before .args .m))
 
 returns-2 : tie.Need-returns-2
 returns-2 c =
-    let one : c .before .args .kind - 1 ≡ 1 = omega arith in
+    let one : c .before .args .dimension - 1 ≡ 1 = omega arith in
     sym (ap (λ k. k * c .before .args .m) one ∙ one-mul (c .before .args .m))
 
 pub spread-spec : {M : Type 1} → statement M

@@ -1,92 +1,66 @@
--- `blend` meets its contract: a curve is one row, a patch a row for each number of copies of s and t together.
+-- `blend` meets its contract: with two vertices the net is one row, with three a row for each number of copies of the second and third together.
 use borrow.Author.Needs.{needs}
-use Prim.Native.Nat.{pred, _+_, _*_, _≤_}
+use Prim.Native.Nat.{_+_, _*_, _≤_}
 use native.Mathlib.Omega.{arith}
-use mathlib.Core.Path.{_≡_, refl, ap, _∙_, subst}
-use mathlib.Core.List.{[], _∷_}
-use lib.IntN.{pos, natAbs}
-use lib.ListN.{length, take}
-use Rattle.integers.proofs.Signed.{back-fits}
-use Rattle.machine.specs.Kinds.{within, all}
-use Rattle.machine.specs.Nets.{used}
-use Rattle.nets.specs.Rows.{Bounded, written, mixed, rowsBlended}
-use Rattle.nets.proofs.Lists.{length-written, ranged-written}
-use Rattle.nets.proofs.PatchRows.{tri, length-rows}
-use Rattle.nets.proofs.Row.{seen}
-use Rattle.nets.proofs.Ranks.{used-curve}
-use Rattle.nets.proofs.Blended.{bounded-less, blend-curve, blend-patch, curve-whole, patch-whole, level-ranged}
+use mathlib.Core.Path.{_≡_, ap, _∙_, subst}
+use lib.IntN.{natAbs}
+use lib.ListN.{length}
+use Rattle.integers.proofs.Signed.{seen}
+use Rattle.entries.specs.Rows.{size}
+use Rattle.nets.specs.Rows.{Bounded, Sized, weightSum}
+use Rattle.nets.proofs.Row.{element}
+use Rattle.nets.proofs.Ranks.{size-curve}
+use Rattle.nets.proofs.Blended.{bounded-less, curve-made, patch-made}
 use Rattle.nets.proofs.rows.blend.Statement.{statement}
 use Rattle.nets.proofs.rows.blend.Tie as tie
-use Rattle.nets.proofs.rows.blend.Reads as reads
-use Rattle.nets.proofs.rows.blend.Lts as lts
-use Rattle.nets.proofs.rows.blend_row.Reads as blend-row-reads
-use Rattle.nets.proofs.rows.blend_rows.Reads as blend-rows-reads
+
+module _ (s : tie.Start) where
+  first-read : seen (s .args .weights .r) ≡ s .args .weights .r
+  first-read = element (s .args .weights .r) (s .good .1 .1 .1 .1 .0 .1 .1 .0 .1)
+
+  second-read : seen (s .args .weights .s) ≡ s .args .weights .s
+  second-read = element (s .args .weights .s) (s .good .1 .1 .1 .1 .0 .1 .1 .1 .0 .1)
+
+  curve-size : s .args .dimension ≡ 1 → size (s .args .width) (s .args .dimension) (s .args .degree) ≡ s .args .width * (s .args .degree + 1)
+  curve-size one = ap (λ n. size (s .args .width) n (s .args .degree)) one ∙ size-curve (s .args .width) (s .args .degree)
 
 mul-blend-row : tie.Need-mul-blend-row
-mul-blend-row c = search needs
+mul-blend-row c = let s = c .before .before in omega (arith, curve-size s (c .before .if1 .taken), s .pre .0 .room)
 
 blend-row-requires : tie.Need-blend-row-requires
 blend-row-requires c κs =
-    let s = c .before .before in
-    let one = c .before .if1 .taken in
-    let whole : used (s .args .kind) (s .args .degree) ≡ 4 * (s .args .degree + 1) = ap (λ k. used k (s .args .degree)) one ∙ used-curve (s .args .degree) in
-    let r = ap natAbs (back-fits (s .fits .r)) in
-    let t = ap natAbs (back-fits (s .fits .s)) in (
+    let s = c .before .before .before .before in
+    let whole = curve-size s (c .before .before .before .if1 .taken) in (
+      s .pre .0 .some,
       search needs,
-      search needs,
-      omega (arith, s .pre .0, s .pre .2),
-      bounded-less (s .args .xs .now) 0 (used (s .args .kind) (s .args .degree)) (0 + 4 * s .args .degree + 4) (natAbs (s .args .r) + natAbs (s .args .s) + natAbs (s .args .t))
-          (natAbs (seen (s .args .r)) + natAbs (seen (s .args .s)) + 0) (omega (arith, whole)) (omega (arith, r, t)) (s .pre .3),
+      omega (arith, whole, s .pre .2),
+      bounded-less (s .args .xs .now) 0 (size (s .args .width) (s .args .dimension) (s .args .degree)) (0 + s .args .width * s .args .degree + s .args .width) (weightSum (s .args .weights))
+          (natAbs (seen (s .args .weights .r)) + natAbs (seen (s .args .weights .s)) + 0) (omega (arith, whole)) (omega (arith, ap natAbs (first-read s), ap natAbs (second-read s))) (s .pre .3),
     )
-
-same-length : tie.Need-same-length
-same-length c = search needs
 
 returns : tie.Need-returns
 returns c =
-    let s = c .before .before .before .before in
+    let s = c .before .before .before .before .before .before in
+    let a = s .args in
     let row = c .before .blend-row in
-    let one = c .before .before .before .if1 .taken in
-    let room : 0 + 4 * s .args .degree ≤ length (s .args .xs .now) = omega (arith, s .pre .0, s .pre .2) in
-    let g = mixed (s .args .xs .now) 4 4 (seen (s .args .r)) (seen (s .args .s)) (pos 0) in
-    let ys = written (s .args .xs .now) 0 (4 * s .args .degree) g in
-    let is = blend-curve (s .args .xs .now) ys (s .args .kind) (s .args .r) (s .args .s) (s .args .t) (s .fits .r) (s .fits .s) (s .fits .t) (s .pre .2) (s .args .degree) one (s .pre .1) (s .pre .0 .sized) refl in (
-      row .ensures .0
-          ∙ ranged-written (s .args .limit) (s .args .xs .now) ys 0 (4 * s .args .degree) g room refl
-          ∙ level-ranged (s .args .limit) (s .args .kind) (s .args .degree) ys (s .pre .0) (s .pre .1) (length-written (s .args .xs .now) 0 (4 * s .args .degree) g ∙ s .pre .2) (4 * s .args .degree)
-          (curve-whole (s .args .kind) (s .args .degree) one (s .pre .1))
-          ∙ ap (λ l. all (within (s .args .limit)) (take (used (s .args .kind) (pred (s .args .degree))) l)) is,
-      λ b. row .ensures .1 b ∙ is,
-    )
+    curve-made (a .limit) (a .width) (a .dimension) (s .pre .0 .some) (a .xs .now) (a .weights) (row .result) (row .last .0) (a .degree) (c .before .before .before .before .before .if1 .taken) (s .pre .1) (s .pre .2)
+    (seen (a .weights .r)) (seen (a .weights .s)) (first-read s) (second-read s) (row .ensures .0) (row .ensures .1)
 
 blend-rows-requires : tie.Need-blend-rows-requires
 blend-rows-requires c κs =
     let s = c .before .before in
-    let two : s .args .kind ≡ 2 = omega (arith, s .pre .0, c .before .if1 .left) in (
-      omega (arith, s .pre .0, two),
-      s .pre .2,
-      subst (λ k. Bounded (s .args .xs .now) 0 (used k (s .args .degree)) (natAbs (seen (s .args .r)) + natAbs (seen (s .args .s)) + natAbs (seen (s .args .t)))) two
-          (bounded-less (s .args .xs .now) 0 (used (s .args .kind) (s .args .degree)) (used (s .args .kind) (s .args .degree)) (natAbs (s .args .r) + natAbs (s .args .s) + natAbs (s .args .t))
-          (natAbs (seen (s .args .r)) + natAbs (seen (s .args .s)) + natAbs (seen (s .args .t))) (omega arith)
-          (omega (arith, ap natAbs (back-fits (s .fits .r)), ap natAbs (back-fits (s .fits .s)), ap natAbs (back-fits (s .fits .t)))) (s .pre .3)),
+    let two : s .args .dimension ≡ 2 = omega (arith, s .pre .0, c .before .if1 .left) in (
+      subst (λ n. Sized (s .args .width) n (s .args .degree)) two (s .pre .0),
+      subst (λ n. size (s .args .width) n (s .args .degree) ≤ length (s .args .xs .now)) two (s .pre .2),
+      subst (λ n. Bounded (s .args .xs .now) 0 (size (s .args .width) n (s .args .degree)) (weightSum (s .args .weights))) two (s .pre .3),
     )
-
-same-length-2 : tie.Need-same-length-2
-same-length-2 c = search needs
 
 returns-2 : tie.Need-returns-2
 returns-2 c =
     let s = c .before .before .before .before in
+    let a = s .args in
     let rows = c .before .blend-rows in
-    let two : s .args .kind ≡ 2 = omega (arith, s .pre .0, c .before .before .before .if1 .left) in
-    let ys = rowsBlended (s .args .xs .now) (seen (s .args .r) ∷ seen (s .args .s) ∷ seen (s .args .t) ∷ []) (s .args .degree) in
-    let is = blend-patch (s .args .xs .now) ys (s .args .kind) (s .args .r) (s .args .s) (s .args .t) (s .fits .r) (s .fits .s) (s .fits .t) (s .pre .2) (s .args .degree) two (s .pre .1) (s .pre .0 .sized) refl in (
-      rows .ensures .0
-          ∙ level-ranged (s .args .limit) (s .args .kind) (s .args .degree) ys (s .pre .0) (s .pre .1) (length-rows (s .args .xs .now) (seen (s .args .r) ∷ seen (s .args .s) ∷ seen (s .args .t) ∷ []) (s .args .degree) ∙ s .pre .2) (4 * tri (s .args .degree))
-          (patch-whole (s .args .kind) (s .args .degree) two (s .pre .1))
-          ∙ ap (λ l. all (within (s .args .limit)) (take (used (s .args .kind) (pred (s .args .degree))) l)) is,
-      λ b. rows .ensures .1 b ∙ is,
-    )
+    patch-made (a .limit) (a .width) (a .dimension) (s .pre .0 .some) (a .xs .now) (a .weights) (rows .result) (rows .last .0) (a .degree) (omega (arith, s .pre .0, c .before .before .before .if1 .left)) (s .pre .1) (s .pre .2) (rows .ensures)
 
 pub blend-spec : {M : Type 1} → statement M
 blend-spec =
@@ -94,8 +68,8 @@ blend-spec =
     (tie.spec
     mul-blend-row
     blend-row-requires
-    same-length
+    (λ c. search needs)
     returns
     blend-rows-requires
-    same-length-2
+    (λ c. search needs)
     returns-2)

@@ -10,16 +10,14 @@ use lib.ListN.{length, length-set}
 use mir.Syntax.{w64}
 use mir.Val.{toZ}
 use Rattle.nets.specs.Rows.{written, mixed, ranged}
-use Rattle.nets.proofs.Row.{seen, row-small, row-value, row-step, row-weights}
-use Rattle.machine.specs.Kinds.{within}
-use Rattle.machine.proofs.All.{clash}
+use Rattle.integers.specs.Test.{within}
+use Rattle.integers.proofs.All.{clash}
+use Rattle.integers.proofs.Signed.{seen}
+use Rattle.nets.proofs.Row.{row-small, row-value, row-step, row-weights}
 use Rattle.nets.proofs.Lists.{ranged-next, ranged-fails}
 use mathlib.Core.Bool.{true}
 use Rattle.nets.proofs.rows.blend_row.Statement.{statement}
 use Rattle.nets.proofs.rows.blend_row.Tie as tie
-use Rattle.nets.proofs.rows.blend_row.Reads as reads
-use Rattle.nets.proofs.rows.blend_row.Lts as lts
-use Rattle.nets.proofs.rows.mix.Reads as mix-reads
 
 abbrev Inv-loop : tie.InvT-loop
 Inv-loop xs₀ from count d e a b c limit end f₀ xs f =
@@ -29,36 +27,9 @@ Inv-loop xs₀ from count d e a b c limit end f₀ xs f =
 abbrev μ-loop : tie.MeasureT-loop
 μ-loop xs₀ from count d e a b c limit end f₀ xs f = from + count - f
 
-add-end : tie.Need-add-end Inv-loop μ-loop
-add-end c = search needs
-
 loop-holds : tie.Need-loop-holds Inv-loop μ-loop
 unfolding written ranged
 loop-holds c = (search needs, search needs, rw sub-self refl, refl, rw sub-self refl)
-
-mul-mix : tie.Need-mul-mix Inv-loop μ-loop
-mul-mix c = search needs
-
-slice-copy-out-mix : tie.Need-slice-copy-out-mix Inv-loop μ-loop
-slice-copy-out-mix c = search needs
-
-add-mix : tie.Need-add-mix Inv-loop μ-loop
-add-mix c = search needs
-
-mul-mix-2 : tie.Need-mul-mix-2 Inv-loop μ-loop
-mul-mix-2 c = search needs
-
-slice-copy-out-mix-2 : tie.Need-slice-copy-out-mix-2 Inv-loop μ-loop
-slice-copy-out-mix-2 c = search needs
-
-add-mix-2 : tie.Need-add-mix-2 Inv-loop μ-loop
-add-mix-2 c = search needs
-
-mul-mix-3 : tie.Need-mul-mix-3 Inv-loop μ-loop
-mul-mix-3 c = search needs
-
-slice-copy-out-mix-3 : tie.Need-slice-copy-out-mix-3 Inv-loop μ-loop
-slice-copy-out-mix-3 c = search needs
 
 mix-requires : tie.Need-mix-requires Inv-loop μ-loop
 mix-requires c κs =
@@ -67,15 +38,6 @@ mix-requires c κs =
     row-small (s .args .xs .now) (s .args .from) (s .args .count) (s .args .d) (s .args .e) (s .args .a) (s .args .b) (s .args .c) (s .fits .a) (s .fits .b) (s .fits .c)
     (l .xs) (l .f) (l .inv .0) (c .before .before .before .loop-test .taken) (s .pre .0) (s .pre .1) (l .inv .2)
     (c .before .before .mix-arg .given) (c .before .mix-arg2 .given) (c .mix-arg3 .given) (s .pre .3)
-
-mul-v : tie.Need-mul-v Inv-loop μ-loop
-mul-v c = search needs
-
-slice-set-from-v : tie.Need-slice-set-from-v Inv-loop μ-loop
-slice-set-from-v c = search needs
-
-is-within-requires : tie.Need-is-within-requires Inv-loop μ-loop
-is-within-requires c κs = search needs
 
 -- what the row is to hold at each place
 abbrev blends : tie.Start Inv-loop μ-loop → ℕ → ℤ
@@ -93,9 +55,6 @@ value c =
     (l .xs) (l .f) (l .inv .0) (c .before .before .before .before .loop-test .taken) (s .pre .0) (s .pre .1) (l .inv .2)
     (c .before .before .before .mix-arg .given) (c .before .before .mix-arg2 .given) (c .before .mix-arg3 .given) (c .mix .result) (sfits-of (c .mix .ok)) (c .mix .ensures)
 
-same-length : tie.Need-same-length Inv-loop μ-loop
-same-length c = search needs
-
 returns : tie.Need-returns Inv-loop μ-loop
 returns c =
     let m = c .before .before in
@@ -105,12 +64,6 @@ returns c =
       sym (ap (λ g. ranged (s .args .limit) g (s .args .from) (s .args .count)) (sym (weights s)) ∙ ranged-fails (s .args .limit) (blends s) (s .args .from) (l .f) (s .args .count) (l .inv .0) (m .before .before .before .before .loop-test .taken) beyond),
       λ b. absurd (clash b refl),
     )
-
-add-f : tie.Need-add-f Inv-loop μ-loop
-add-f c = search needs
-
-loop-less : tie.Need-loop-less Inv-loop μ-loop
-loop-less c = search needs
 
 loop-again : tie.Need-loop-again Inv-loop μ-loop
 loop-again c =
@@ -127,9 +80,6 @@ loop-again c =
           (sym (ap (within (s .args .limit)) (value m)) ∙ sym (c .before .is-within .ensures) ∙ not-false (c .before .is-within .result) (c .if1 .left)),
     )
 
-same-length-2 : tie.Need-same-length-2 Inv-loop μ-loop
-same-length-2 c = search needs
-
 returns-2 : tie.Need-returns-2 Inv-loop μ-loop
 returns-2 c =
     let s = c .before .before in
@@ -145,24 +95,24 @@ blend-row-spec =
     (tie.spec
     Inv-loop
     μ-loop
-    add-end
+    (λ c. search needs)
     loop-holds
-    mul-mix
-    slice-copy-out-mix
-    add-mix
-    mul-mix-2
-    slice-copy-out-mix-2
-    add-mix-2
-    mul-mix-3
-    slice-copy-out-mix-3
+    (λ c. search needs)
+    (λ c. search needs)
+    (λ c. search needs)
+    (λ c. search needs)
+    (λ c. search needs)
+    (λ c. search needs)
+    (λ c. search needs)
+    (λ c. search needs)
     mix-requires
-    mul-v
-    slice-set-from-v
-    is-within-requires
-    same-length
+    (λ c. search needs)
+    (λ c. search needs)
+    (λ c κs. search needs)
+    (λ c. search needs)
     returns
-    add-f
-    loop-less
+    (λ c. search needs)
+    (λ c. search needs)
     loop-again
-    same-length-2
+    (λ c. search needs)
     returns-2)

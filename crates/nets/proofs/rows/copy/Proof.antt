@@ -7,11 +7,10 @@ use lib.IntN.{pos}
 use lib.ListN.{length, getD, length-set}
 use Rattle.nets.specs.Rows.{written}
 use Rattle.nets.proofs.Lists.{write-next}
-use Rattle.nets.proofs.Row.{seen, element}
+use Rattle.integers.proofs.Signed.{seen}
+use Rattle.nets.proofs.Row.{element}
 use Rattle.nets.proofs.rows.copy.Statement.{statement}
 use Rattle.nets.proofs.rows.copy.Tie as tie
-use Rattle.nets.proofs.rows.copy.Reads as reads
-use Rattle.nets.proofs.rows.copy.Lts as lts
 
 abbrev Inv-loop : tie.InvT-loop
 Inv-loop to₀ from count i₀ to i = (i ≤ count) × (to ≡ written to₀ 0 (i - 0) (λ j. getD from j (pos 0))) × (length to ≡ length to₀)
@@ -23,24 +22,6 @@ loop-holds : tie.Need-loop-holds Inv-loop μ-loop
 unfolding written
 loop-holds c = (search needs, refl, refl)
 
-mul-to : tie.Need-mul-to Inv-loop μ-loop
-mul-to c = search needs
-
-shared-slice-copy-out-to : tie.Need-shared-slice-copy-out-to Inv-loop μ-loop
-shared-slice-copy-out-to c = search needs
-
-mul-t9 : tie.Need-mul-t9 Inv-loop μ-loop
-mul-t9 c = search needs
-
-slice-set-from-to : tie.Need-slice-set-from-to Inv-loop μ-loop
-slice-set-from-to c = search needs
-
-add-i : tie.Need-add-i Inv-loop μ-loop
-add-i c = search needs
-
-loop-less : tie.Need-loop-less Inv-loop μ-loop
-loop-less c = search needs
-
 loop-again : tie.Need-loop-again Inv-loop μ-loop
 loop-again c =
     let s = c .before .before .before in
@@ -49,9 +30,6 @@ loop-again c =
       write-next (s .args .to .now) (l .to) 0 (l .i) (seen (getD (s .args .from .now) (l .i) (pos 0))) (λ j. getD (s .args .from .now) j (pos 0)) (omega arith) (l .inv .1) (element (getD (s .args .from .now) (l .i) (pos 0)) (c .to .given)),
       length-set (l .to) (l .i) _ ∙ l .inv .2,
     )
-
-same-length : tie.Need-same-length Inv-loop μ-loop
-same-length c = search needs
 
 returns : tie.Need-returns Inv-loop μ-loop
 returns c =
@@ -67,12 +45,12 @@ copy-spec =
     Inv-loop
     μ-loop
     loop-holds
-    mul-to
-    shared-slice-copy-out-to
-    mul-t9
-    slice-set-from-to
-    add-i
-    loop-less
+    (λ c. search needs)
+    (λ c. search needs)
+    (λ c. search needs)
+    (λ c. search needs)
+    (λ c. search needs)
+    (λ c. search needs)
     loop-again
-    same-length
+    (λ c. search needs)
     returns)

@@ -1,18 +1,14 @@
 -- `mix` meets its contract: every product and sum on the way is at most the bound that the caller gives.
 use Prim.Native.Nat.{_+_, _*_, _<_, _^_}
 use native.Mathlib.Omega.{arith}
-use mathlib.Core.Path.{_≡_, sym, ap₂, _∙_, subst}
+use mathlib.Core.Path.{_≡_, sym, ap, ap₂, _∙_, subst}
 use lib.IntN.{ℤ, natAbs, _+ℤ_, _*ℤ_}
 use mir.Syntax.{w64}
-use mir.Val.{SFits, toZ, ofZ}
+use mir.Val.{SFits}
 use Rattle.integers.proofs.Laws.{natAbs-*, natAbs-+}
-use Rattle.integers.proofs.Signed.{fits-abs, back, back-fits}
+use Rattle.integers.proofs.Signed.{seen, fits-abs, back, back-fits}
 use Rattle.nets.proofs.rows.mix.Statement.{statement}
 use Rattle.nets.proofs.rows.mix.Tie as tie
-
--- a number as the machine reads it back from its bits
-abbrev seen : ℤ → ℤ
-seen v = toZ w64 (ofZ w64 v)
 
 module _ (a x b y c z : ℤ) (fa : SFits w64 a) (fx : SFits w64 x) (fb : SFits w64 b) (fy : SFits w64 y) (fc : SFits w64 c) (fz : SFits w64 z)
     (small : natAbs a * natAbs x + natAbs b * natAbs y + natAbs c * natAbs z < 2 ^ 63) where
@@ -36,16 +32,16 @@ module _ (a x b y c z : ℤ) (fa : SFits w64 a) (fx : SFits w64 x) (fb : SFits w
 
   -- the products and the inner sum as they are read back
   first-is : seen (seen a *ℤ seen x) ≡ a *ℤ x
-  first-is = mathlib.Core.Path.ap seen (product a x fa fx) ∙ back (a *ℤ x) first-small
+  first-is = ap seen (product a x fa fx) ∙ back (a *ℤ x) first-small
 
   second-is : seen (seen b *ℤ seen y) ≡ b *ℤ y
-  second-is = mathlib.Core.Path.ap seen (product b y fb fy) ∙ back (b *ℤ y) second-small
+  second-is = ap seen (product b y fb fy) ∙ back (b *ℤ y) second-small
 
   third-is : seen (seen c *ℤ seen z) ≡ c *ℤ z
-  third-is = mathlib.Core.Path.ap seen (product c z fc fz) ∙ back (c *ℤ z) third-small
+  third-is = ap seen (product c z fc fz) ∙ back (c *ℤ z) third-small
 
   rest-is : seen (seen (seen b *ℤ seen y) +ℤ seen (seen c *ℤ seen z)) ≡ b *ℤ y +ℤ c *ℤ z
-  rest-is = mathlib.Core.Path.ap seen (ap₂ _+ℤ_ second-is third-is) ∙ back (b *ℤ y +ℤ c *ℤ z) rest-small
+  rest-is = ap seen (ap₂ _+ℤ_ second-is third-is) ∙ back (b *ℤ y +ℤ c *ℤ z) rest-small
 
   first-fits : SFits w64 (seen a *ℤ seen x)
   first-fits = subst (SFits w64) (sym (product a x fa fx)) (fits-abs (a *ℤ x) first-small)
@@ -63,7 +59,7 @@ module _ (a x b y c z : ℤ) (fa : SFits w64 a) (fx : SFits w64 x) (fb : SFits w
   all-fits = subst (SFits w64) (sym (ap₂ _+ℤ_ first-is rest-is)) (fits-abs (a *ℤ x +ℤ (b *ℤ y +ℤ c *ℤ z)) all-small)
 
   all-is : seen (seen (seen a *ℤ seen x) +ℤ seen (seen (seen b *ℤ seen y) +ℤ seen (seen c *ℤ seen z))) ≡ a *ℤ x +ℤ (b *ℤ y +ℤ c *ℤ z)
-  all-is = mathlib.Core.Path.ap seen (ap₂ _+ℤ_ first-is rest-is) ∙ back (a *ℤ x +ℤ (b *ℤ y +ℤ c *ℤ z)) all-small
+  all-is = ap seen (ap₂ _+ℤ_ first-is rest-is) ∙ back (a *ℤ x +ℤ (b *ℤ y +ℤ c *ℤ z)) all-small
 
 mul-result : tie.Need-mul-result
 mul-result c = first-fits (c .args .a) (c .args .x) (c .args .b) (c .args .y) (c .args .c) (c .args .z) (c .fits .a) (c .fits .x) (c .fits .b) (c .fits .y) (c .fits .c) (c .fits .z) (c .pre)

@@ -1,57 +1,76 @@
 -- `write_direction` meets its contract: the word, then the three numbers and the end of the line.
-use borrow.Author.Needs.{needs}
-use Prim.Native.Nat.{_+_, _≤_}
-use mathlib.Core.Path.{_≡_, sym, ap, _∙_, subst}
-use mathlib.Core.List.{List, [], _∷_, _++_}
+use borrow.Author.Needs.{needs, sfits-of}
+use Prim.Native.Nat.{ℕ}
+use mathlib.Core.Path.{refl, sym}
+use mathlib.Core.List.{List, [], _∷_}
+use lib.ListN.{drop}
 use lib.IntN.{ℤ}
-use lib.ListN.{length}
-use mir.Syntax.{w64}
-use mir.Val.{SFits, toZ, ofZ}
-use Rattle.nets.proofs.Row.{element}
-use Rattle.text.specs.Words.{Wrote, signedDecimal, line}
+use Rattle.integers.proofs.Signed.{seen, back-fits}
+use Rattle.projection.specs.declared.Projection.the-variants.{Direction}
+use Rattle.text.specs.Words.{line}
 use Rattle.text.specs.Text.{word, projectionLine}
-use Rattle.text.proofs.Then.{left-all, left-fits, left-after, left-last}
-use Rattle.text.proofs.Grouped.{three-cong}
+use Rattle.text.specs.Parts.{numbersText}
+use Rattle.text.proofs.Then.{Left, left-all, left-as, left-fits, left-after, left-last}
 use Rattle.text.proofs.lines.write_direction.Statement.{statement}
 use Rattle.text.proofs.lines.write_direction.Tie as tie
+
+-- the text, and the parts that are written
+abbrev whole : tie.Start → List ℕ
+whole s = projectionLine (Direction (s .args .d))
+
+abbrev parts : tie.Start → List (List ℕ)
+parts s = word "far" ∷ numbersText (s .args .d .x ∷ s .args .d .y ∷ s .args .d .z ∷ []) ∷ []
+
+-- what is left when k parts are written
+abbrev Still : tie.Start → List ℕ → ℕ → ℕ → Type 0
+Still s now at k = Left (s .args .out .now) (s .args .at) (whole s) now at (drop k (parts s))
+
+started : (s : tie.Start) → Still s (s .args .out .now) (s .args .at) 0
+unfolding projectionLine line
+started s = left-as (whole s ∷ []) (parts s) refl (left-all (s .args .out .now) (s .args .at) (whole s) (s .pre))
+
+after-word : (c : tie.After-put) → Still (c .before .before .before .before) (c .put .last .0) (c .put .result) 1
+after-word c = left-after (started (c .before .before .before .before)) (c .put .ensures)
+
+-- the numbers as they are handed on
+abbrev numbers : tie.Start → List ℤ
+numbers s = seen (s .args .d .x) ∷ seen (s .args .d .y) ∷ seen (s .args .d .z) ∷ []
+
+handed : (c : tie.After-end-with-arg2) → let s = c .before .before .before .before .before .before .before .before .before in let w = c .before .before .before .before .before .put in
+    Left (s .args .out .now) (s .args .at) (whole s) (w .last .0) (w .result) (numbersText (numbers s) ∷ [])
+handed c =
+    let s = c .before .before .before .before .before .before .before .before .before in
+    let t = c .before .struct-told .given in
+    let x = back-fits {z = s .args .d .x} (sfits-of (t .0 .1)) in
+    let y = back-fits {z = s .args .d .y} (sfits-of (t .1 .0 .1)) in
+    let z = back-fits {z = s .args .d .z} (sfits-of (t .1 .1 .0 .1)) in
+    left-as (drop 1 (parts s)) (numbersText (numbers s) ∷ []) (sym (λ i. numbersText (x i ∷ y i ∷ z i ∷ []))) (after-word (c .before .before .before .before .before))
 
 slice-aggregate-put : tie.Need-slice-aggregate-put
 slice-aggregate-put c = search needs
 
 put-requires : tie.Need-put-requires
-unfolding projectionLine line
-put-requires c κs =
-    let s = c .before .before .before in
-    let a = s .args in
-    left-fits (word "far") (32 ∷ line (signedDecimal (a .d .x) ∷ signedDecimal (a .d .y) ∷ signedDecimal (a .d .z) ∷ [])) (left-all (a .out .now) (a .at) (word "far" ++ (32 ∷ line (signedDecimal (a .d .x) ∷ signedDecimal (a .d .y) ∷ signedDecimal (a .d .z) ∷ []))) (s .pre))
+put-requires c κs = left-fits (started (c .before .before .before))
 
-end-with-three-requires : tie.Need-end-with-three-requires
-unfolding projectionLine line
-end-with-three-requires c κs =
-    let s = c .before .before .before .before .before .before .before .before .before .before in
-    let a = s .args in
-    let w = c .before .before .before .before .before .before .put in
-    let t = c .before .before .struct-told .given in
-    let l0 = left-all (a .out .now) (a .at) (word "far" ++ (32 ∷ line (signedDecimal (a .d .x) ∷ signedDecimal (a .d .y) ∷ signedDecimal (a .d .z) ∷ []))) (s .pre) in
-    let l1 = left-after (word "far") (32 ∷ line (signedDecimal (a .d .x) ∷ signedDecimal (a .d .y) ∷ signedDecimal (a .d .z) ∷ [])) l0 (w .ensures) in
-    subst (λ text. w .result + length text ≤ length (w .last .0)) (sym (three-cong (element (a .d .x) (t .0 .1)) (element (a .d .y) (t .1 .0 .1)) (element (a .d .z) (t .1 .1 .0 .1)))) (l1 .room)
+slice-aggregate-end-with : tie.Need-slice-aggregate-end-with
+slice-aggregate-end-with c = search needs
+
+end-with-requires : tie.Need-end-with-requires
+end-with-requires c κs = left-fits (handed c)
 
 same-length : tie.Need-same-length
 same-length c = search needs
 
 returns : tie.Need-returns
-unfolding projectionLine line
-returns c =
-    let s = c .before .before .before .before .before .before .before .before .before .before .before .before .before in
-    let a = s .args in
-    let w = c .before .before .before .before .before .before .before .before .before .put in
-    let v = c .before .before .end-with-three in
-    let t = c .before .before .before .before .before .struct-told .given in
-    let l0 = left-all (a .out .now) (a .at) (word "far" ++ (32 ∷ line (signedDecimal (a .d .x) ∷ signedDecimal (a .d .y) ∷ signedDecimal (a .d .z) ∷ []))) (s .pre) in
-    let l1 = left-after (word "far") (32 ∷ line (signedDecimal (a .d .x) ∷ signedDecimal (a .d .y) ∷ signedDecimal (a .d .z) ∷ [])) l0 (w .ensures) in
-    left-last l1 (subst (λ text. Wrote (w .last .0) (w .result) text (v .last .0) (v .result)) (three-cong (element (a .d .x) (t .0 .1)) (element (a .d .y) (t .1 .0 .1)) (element (a .d .z) (t .1 .1 .0 .1))) (v .ensures))
+returns c = left-last (handed (c .before .before .before)) (c .before .before .end-with .ensures)
 
 pub write-direction-spec : {M : Type 1} → statement M
 write-direction-spec =
     tie.close
-    (tie.spec slice-aggregate-put put-requires end-with-three-requires same-length returns)
+    (tie.spec
+    slice-aggregate-put
+    put-requires
+    slice-aggregate-end-with
+    end-with-requires
+    same-length
+    returns)

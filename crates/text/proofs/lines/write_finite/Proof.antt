@@ -1,93 +1,71 @@
--- `write_finite` meets its contract: the word, the three coordinates and the end of the line.
+-- `write_finite` meets its contract: the word, a space and a bit pattern three times, and the end of the line.
 use borrow.Author.Needs.{needs}
+use Prim.Native.Nat.{ℕ}
+use mathlib.Core.Path.{refl}
+use mathlib.Core.List.{List, [], _∷_}
+use lib.ListN.{drop}
+use Rattle.projection.specs.declared.Projection.the-variants.{Finite}
 use Rattle.text.specs.Words.{line}
 use Rattle.text.specs.Text.{word, coordinateWord, projectionLine}
-use mathlib.Core.List.{[], _∷_, _++_}
-use Rattle.text.proofs.Then.{left-all, left-fits, left-after, left-last}
+use Rattle.text.proofs.Then.{Left, left-all, left-as, left-fits, left-after, left-last}
 use Rattle.text.proofs.lines.write_finite.Statement.{statement}
 use Rattle.text.proofs.lines.write_finite.Tie as tie
 
-slice-aggregate-put : tie.Need-slice-aggregate-put
-slice-aggregate-put c = search needs
+-- the text, and the parts that are written
+abbrev whole : tie.Start → List ℕ
+whole s = projectionLine (Finite (s .args .p))
+
+abbrev parts : tie.Start → List (List ℕ)
+parts s = word "at" ∷ (32 ∷ coordinateWord (s .args .p .x)) ∷ (32 ∷ coordinateWord (s .args .p .y)) ∷ (32 ∷ coordinateWord (s .args .p .z)) ∷ (10 ∷ []) ∷ []
+
+-- what is left when k parts are written
+abbrev Still : tie.Start → List ℕ → ℕ → ℕ → Type 0
+Still s now at k = Left (s .args .out .now) (s .args .at) (whole s) now at (drop k (parts s))
+
+started : (s : tie.Start) → Still s (s .args .out .now) (s .args .at) 0
+unfolding projectionLine line
+started s = left-as (whole s ∷ []) (parts s) refl (left-all (s .args .out .now) (s .args .at) (whole s) (s .pre))
+
+after-word : (c : tie.After-put) → Still (c .before .before .before .before) (c .put .last .0) (c .put .result) 1
+after-word c = left-after (started (c .before .before .before .before)) (c .put .ensures)
+
+after-x : (c : tie.After-next-bits) → Still (c .before .before .before .before .before .before .before .before) (c .next-bits .last .0) (c .next-bits .result) 2
+after-x c = left-after (after-word (c .before .before .before .before)) (c .next-bits .ensures)
+
+after-y : (c : tie.After-next-bits2) → Still (c .before .before .before .before .before .before .before .before .before .before .before .before) (c .next-bits2 .last .0) (c .next-bits2 .result) 3
+after-y c = left-after (after-x (c .before .before .before .before)) (c .next-bits2 .ensures)
+
+after-z : (c : tie.After-next-bits3) → Still (c .before .before .before .before .before .before .before .before .before .before .before .before .before .before .before .before) (c .next-bits3 .last .0) (c .next-bits3 .result) 4
+after-z c = left-after (after-y (c .before .before .before .before)) (c .next-bits3 .ensures)
 
 put-requires : tie.Need-put-requires
-unfolding projectionLine line
-put-requires c κs =
-    let s = c .before .before .before in
-    let a = s .args in
-    let l0 = left-all (a .out .now) (a .at) ((word "at") ++ ((32 ∷ coordinateWord (a .p .x)) ++ ((32 ∷ coordinateWord (a .p .y)) ++ ((32 ∷ coordinateWord (a .p .z)) ++ (10 ∷ []))))) (s .pre) in
-    left-fits (word "at") ((32 ∷ coordinateWord (a .p .x)) ++ ((32 ∷ coordinateWord (a .p .y)) ++ ((32 ∷ coordinateWord (a .p .z)) ++ (10 ∷ [])))) l0
+put-requires c κs = left-fits (started (c .before .before .before))
 
 next-bits-requires : tie.Need-next-bits-requires
-unfolding projectionLine line
-next-bits-requires c κs =
-    let s = c .before .before .before .before .before .before .before in
-    let a = s .args in
-    let l0 = left-all (a .out .now) (a .at) ((word "at") ++ ((32 ∷ coordinateWord (a .p .x)) ++ ((32 ∷ coordinateWord (a .p .y)) ++ ((32 ∷ coordinateWord (a .p .z)) ++ (10 ∷ []))))) (s .pre) in
-    let l1 = left-after (word "at") ((32 ∷ coordinateWord (a .p .x)) ++ ((32 ∷ coordinateWord (a .p .y)) ++ ((32 ∷ coordinateWord (a .p .z)) ++ (10 ∷ [])))) l0 (c .before .before .before .put .ensures) in
-    left-fits (32 ∷ coordinateWord (a .p .x)) ((32 ∷ coordinateWord (a .p .y)) ++ ((32 ∷ coordinateWord (a .p .z)) ++ (10 ∷ []))) l1
+next-bits-requires c κs = left-fits (after-word (c .before .before .before))
 
 next-bits-requires-2 : tie.Need-next-bits-requires-2
-unfolding projectionLine line
-next-bits-requires-2 c κs =
-    let s = c .before .before .before .before .before .before .before .before .before .before .before in
-    let a = s .args in
-    let l0 = left-all (a .out .now) (a .at) ((word "at") ++ ((32 ∷ coordinateWord (a .p .x)) ++ ((32 ∷ coordinateWord (a .p .y)) ++ ((32 ∷ coordinateWord (a .p .z)) ++ (10 ∷ []))))) (s .pre) in
-    let l1 = left-after (word "at") ((32 ∷ coordinateWord (a .p .x)) ++ ((32 ∷ coordinateWord (a .p .y)) ++ ((32 ∷ coordinateWord (a .p .z)) ++ (10 ∷ [])))) l0 (c .before .before .before .before .before .before .before .put .ensures) in
-    let l2 = left-after (32 ∷ coordinateWord (a .p .x)) ((32 ∷ coordinateWord (a .p .y)) ++ ((32 ∷ coordinateWord (a .p .z)) ++ (10 ∷ []))) l1 (c .before .before .before .next-bits .ensures) in
-    left-fits (32 ∷ coordinateWord (a .p .y)) ((32 ∷ coordinateWord (a .p .z)) ++ (10 ∷ [])) l2
+next-bits-requires-2 c κs = left-fits (after-x (c .before .before .before))
 
 next-bits-requires-3 : tie.Need-next-bits-requires-3
-unfolding projectionLine line
-next-bits-requires-3 c κs =
-    let s = c .before .before .before .before .before .before .before .before .before .before .before .before .before .before .before in
-    let a = s .args in
-    let l0 = left-all (a .out .now) (a .at) ((word "at") ++ ((32 ∷ coordinateWord (a .p .x)) ++ ((32 ∷ coordinateWord (a .p .y)) ++ ((32 ∷ coordinateWord (a .p .z)) ++ (10 ∷ []))))) (s .pre) in
-    let l1 = left-after (word "at") ((32 ∷ coordinateWord (a .p .x)) ++ ((32 ∷ coordinateWord (a .p .y)) ++ ((32 ∷ coordinateWord (a .p .z)) ++ (10 ∷ [])))) l0 (c .before .before .before .before .before .before .before .before .before .before .before .put .ensures) in
-    let l2 = left-after (32 ∷ coordinateWord (a .p .x)) ((32 ∷ coordinateWord (a .p .y)) ++ ((32 ∷ coordinateWord (a .p .z)) ++ (10 ∷ []))) l1 (c .before .before .before .before .before .before .before .next-bits .ensures) in
-    let l3 = left-after (32 ∷ coordinateWord (a .p .y)) ((32 ∷ coordinateWord (a .p .z)) ++ (10 ∷ [])) l2 (c .before .before .before .next-bits2 .ensures) in
-    left-fits (32 ∷ coordinateWord (a .p .z)) (10 ∷ []) l3
-
-slice-aggregate-put-2 : tie.Need-slice-aggregate-put-2
-slice-aggregate-put-2 c = search needs
+next-bits-requires-3 c κs = left-fits (after-y (c .before .before .before))
 
 put-requires-2 : tie.Need-put-requires-2
-unfolding projectionLine line
-put-requires-2 c κs =
-    let s = c .before .before .before .before .before .before .before .before .before .before .before .before .before .before .before .before .before .before .before .before in
-    let a = s .args in
-    let l0 = left-all (a .out .now) (a .at) ((word "at") ++ ((32 ∷ coordinateWord (a .p .x)) ++ ((32 ∷ coordinateWord (a .p .y)) ++ ((32 ∷ coordinateWord (a .p .z)) ++ (10 ∷ []))))) (s .pre) in
-    let l1 = left-after (word "at") ((32 ∷ coordinateWord (a .p .x)) ++ ((32 ∷ coordinateWord (a .p .y)) ++ ((32 ∷ coordinateWord (a .p .z)) ++ (10 ∷ [])))) l0 (c .before .before .before .before .before .before .before .before .before .before .before .before .before .before .before .before .put .ensures) in
-    let l2 = left-after (32 ∷ coordinateWord (a .p .x)) ((32 ∷ coordinateWord (a .p .y)) ++ ((32 ∷ coordinateWord (a .p .z)) ++ (10 ∷ []))) l1 (c .before .before .before .before .before .before .before .before .before .before .before .before .next-bits .ensures) in
-    let l3 = left-after (32 ∷ coordinateWord (a .p .y)) ((32 ∷ coordinateWord (a .p .z)) ++ (10 ∷ [])) l2 (c .before .before .before .before .before .before .before .before .next-bits2 .ensures) in
-    let l4 = left-after (32 ∷ coordinateWord (a .p .z)) (10 ∷ []) l3 (c .before .before .before .before .next-bits3 .ensures) in
-    l4 .room
-
-same-length : tie.Need-same-length
-same-length c = search needs
+put-requires-2 c κs = left-fits (after-z (c .before .before .before .before))
 
 returns : tie.Need-returns
-unfolding projectionLine line
-returns c =
-    let s = c .before .before .before .before .before .before .before .before .before .before .before .before .before .before .before .before .before .before .before .before .before .before .before in
-    let a = s .args in
-    let l0 = left-all (a .out .now) (a .at) ((word "at") ++ ((32 ∷ coordinateWord (a .p .x)) ++ ((32 ∷ coordinateWord (a .p .y)) ++ ((32 ∷ coordinateWord (a .p .z)) ++ (10 ∷ []))))) (s .pre) in
-    let l1 = left-after (word "at") ((32 ∷ coordinateWord (a .p .x)) ++ ((32 ∷ coordinateWord (a .p .y)) ++ ((32 ∷ coordinateWord (a .p .z)) ++ (10 ∷ [])))) l0 (c .before .before .before .before .before .before .before .before .before .before .before .before .before .before .before .before .before .before .before .put .ensures) in
-    let l2 = left-after (32 ∷ coordinateWord (a .p .x)) ((32 ∷ coordinateWord (a .p .y)) ++ ((32 ∷ coordinateWord (a .p .z)) ++ (10 ∷ []))) l1 (c .before .before .before .before .before .before .before .before .before .before .before .before .before .before .before .next-bits .ensures) in
-    let l3 = left-after (32 ∷ coordinateWord (a .p .y)) ((32 ∷ coordinateWord (a .p .z)) ++ (10 ∷ [])) l2 (c .before .before .before .before .before .before .before .before .before .before .before .next-bits2 .ensures) in
-    let l4 = left-after (32 ∷ coordinateWord (a .p .z)) (10 ∷ []) l3 (c .before .before .before .before .before .before .before .next-bits3 .ensures) in
-    left-last l4 (c .before .before .put2 .ensures)
+returns c = left-last (after-z (c .before .before .before .before .before .before .before)) (c .before .before .put2 .ensures)
 
 pub write-finite-spec : {M : Type 1} → statement M
 write-finite-spec =
     tie.close
     (tie.spec
-    slice-aggregate-put
+    (λ c. search needs)
     put-requires
     next-bits-requires
     next-bits-requires-2
     next-bits-requires-3
-    slice-aggregate-put-2
+    (λ c. search needs)
     put-requires-2
-    same-length
+    (λ c. search needs)
     returns)

@@ -1,46 +1,50 @@
 -- `write_point_refused` meets its contract: the number and the end of the line.
 use borrow.Author.Needs.{needs}
+use Prim.Native.Nat.{ℕ}
+use mathlib.Core.Path.{refl}
+use mathlib.Core.List.{List, [], _∷_, _++_}
+use lib.ListN.{drop}
 use Rattle.text.specs.Words.{decimal, line}
 use Rattle.text.specs.Text.{word, pointRefusedLine}
-use mathlib.Core.List.{[], _∷_, _++_}
-use Rattle.text.proofs.Then.{left-all, left-fits, left-after, left-last}
+use Rattle.text.proofs.Then.{Left, left-all, left-as, left-fits, left-after, left-last}
 use Rattle.text.proofs.lines.write_point_refused.Statement.{statement}
 use Rattle.text.proofs.lines.write_point_refused.Tie as tie
+
+-- the text, and the parts that are written
+abbrev whole : tie.Start → List ℕ
+whole s = pointRefusedLine (s .args .number)
+
+abbrev parts : tie.Start → List (List ℕ)
+parts s = (word "point refused " ++ decimal (s .args .number)) ∷ (10 ∷ []) ∷ []
+
+-- what is left when k parts are written
+abbrev Still : tie.Start → List ℕ → ℕ → ℕ → Type 0
+Still s now at k = Left (s .args .out .now) (s .args .at) (whole s) now at (drop k (parts s))
+
+started : (s : tie.Start) → Still s (s .args .out .now) (s .args .at) 0
+unfolding pointRefusedLine line
+started s = left-as (whole s ∷ []) (parts s) refl (left-all (s .args .out .now) (s .args .at) (whole s) (s .pre))
+
+after-number : (c : tie.After-put-labelled) → Still (c .before .before .before .before) (c .put-labelled .last .0) (c .put-labelled .result) 1
+after-number c = left-after (started (c .before .before .before .before)) (c .put-labelled .ensures)
 
 slice-aggregate-put-labelled : tie.Need-slice-aggregate-put-labelled
 slice-aggregate-put-labelled c = search needs
 
 put-labelled-requires : tie.Need-put-labelled-requires
-unfolding pointRefusedLine line
-put-labelled-requires c κs =
-    let s = c .before .before .before in
-    let a = s .args in
-    let l0 = left-all (a .out .now) (a .at) ((word "point refused " ++ decimal (a .number)) ++ (10 ∷ [])) (s .pre) in
-    left-fits (word "point refused " ++ decimal (a .number)) (10 ∷ []) l0
+put-labelled-requires c κs = left-fits (started (c .before .before .before))
 
 slice-aggregate-put : tie.Need-slice-aggregate-put
 slice-aggregate-put c = search needs
 
 put-requires : tie.Need-put-requires
-unfolding pointRefusedLine line
-put-requires c κs =
-    let s = c .before .before .before .before .before .before .before .before in
-    let a = s .args in
-    let l0 = left-all (a .out .now) (a .at) ((word "point refused " ++ decimal (a .number)) ++ (10 ∷ [])) (s .pre) in
-    let l1 = left-after (word "point refused " ++ decimal (a .number)) (10 ∷ []) l0 (c .before .before .before .before .put-labelled .ensures) in
-    l1 .room
+put-requires c κs = left-fits (after-number (c .before .before .before .before))
 
 same-length : tie.Need-same-length
 same-length c = search needs
 
 returns : tie.Need-returns
-unfolding pointRefusedLine line
-returns c =
-    let s = c .before .before .before .before .before .before .before .before .before .before .before in
-    let a = s .args in
-    let l0 = left-all (a .out .now) (a .at) ((word "point refused " ++ decimal (a .number)) ++ (10 ∷ [])) (s .pre) in
-    let l1 = left-after (word "point refused " ++ decimal (a .number)) (10 ∷ []) l0 (c .before .before .before .before .before .before .before .put-labelled .ensures) in
-    left-last l1 (c .before .before .put .ensures)
+returns c = left-last (after-number (c .before .before .before .before .before .before .before)) (c .before .before .put .ensures)
 
 pub write-point-refused-spec : {M : Type 1} → statement M
 write-point-refused-spec =

@@ -2,115 +2,93 @@
 use borrow.Author.Needs.{needs}
 use Prim.Native.Nat.{ℕ, _+_, _-_, _/_}
 use native.Mathlib.Omega.{arith}
-use mathlib.Core.Path.{_≡_, sym, ap, _∙_, subst}
-use mathlib.Core.List.{List}
+use mathlib.Core.Path.{_≡_, sym, ap, _∙_}
+use mathlib.Core.List.{[], _∷_}
 use lib.ListN.{length}
-use Rattle.machine.specs.Answers.{refusalNumber}
-use Rattle.machine.specs.Nets.{stepOf}
-use Rattle.machine.specs.Lists.{netAfter, netAnswers}
-use Rattle.machine.specs.declared.Net.{Net}
-use Rattle.machine.specs.declared.Call.{Call}
-use Rattle.machine.proofs.Kept.{step-kept}
-use Rattle.bytes.specs.Moves.{callOf, moveAt}
-use Rattle.text.specs.Text.{moveLine, moveLines}
-use Rattle.text.specs.Rows.{netOf, callsOf, Sturdy}
-use Rattle.text.proofs.Then.{Left, left-all, left-fits, left-after, left-none}
-use Rattle.text.proofs.Made.{callsLeft, linesLeft, calls-all, lines-next, lines-none, after-next, after-none, sturdy-handed, sturdy-next}
+use Rattle.machine.specs.Steps.{after, answers}
+use Rattle.machine.specs.Nets.{Net, stepOf}
+use Rattle.machine.specs.Lent.{netAt}
+use Rattle.bytes.specs.Moves.{callAt}
+use Rattle.opening.specs.Opening.{movesOf}
+use Rattle.text.specs.Text.{moveLines}
+use Rattle.text.specs.Parts.{Stands, moveText, movesText}
+use Rattle.text.proofs.Then.{Left, left-all, left-as, left-fits, left-after, left-next, left-over}
+use Rattle.text.proofs.Calls.{callsLeft, linesLeft, calls-all, lines-next, lines-none, after-next, after-none}
 use Rattle.text.proofs.moves.write_moves.Statement.{statement}
 use Rattle.text.proofs.moves.write_moves.Tie as tie
 
 abbrev Inv-loop : tie.InvT-loop
-Inv-loop out₀ at entries₀ kind degree value count next₀ k₀ out entries next k =
-    (length entries ≡ 180)
-    × Left out₀ at (moveLines 1 (netAnswers (netOf kind degree entries₀) (callsOf value))) out next (linesLeft (netOf kind degree entries) value count k)
-    × (netAfter (netOf kind degree entries) (callsLeft value count k) ≡ netAfter (netOf kind degree entries₀) (callsOf value))
-    × Sturdy (netOf kind degree entries)
+Inv-loop out₀ at net₀ value count next₀ k₀ out net next k =
+    Left out₀ at (movesText net₀ value) out next (linesLeft (netAt net) value count k ∷ [])
+    × (after stepOf (netAt net) (callsLeft value count k) ≡ after stepOf (netAt net₀) (movesOf value))
+    × Stands net
 
 abbrev μ-loop : tie.MeasureT-loop
-μ-loop out₀ at entries₀ kind degree value count next₀ k₀ out entries next k = count - k
+μ-loop out₀ at net₀ value count next₀ k₀ out net next k = count - k
 
--- where the proof starts
-abbrev Start : Type 0
-Start = tie.Start Inv-loop μ-loop
-
--- the net that is handed in, and the lines that all moves leave
-abbrev first : Start → Net
-first s = netOf (s .args .kind) (s .args .degree) (s .args .entries .now)
-
-abbrev whole : Start → List ℕ
-whole s = moveLines 1 (netAnswers (first s) (callsOf (s .args .value .now)))
-
--- how many moves there are, and move k
-abbrev count : Start → ℕ
+-- how many moves there are
+abbrev count : tie.Start Inv-loop μ-loop → ℕ
 count s = length (s .args .value .now) / 8
 
-abbrev move : Start → ℕ → Call
-move s k = callOf (moveAt (s .args .value .now) k)
+-- the line of move k, and the lines that are left after it
+before : (c : tie.After-write-made-arg2 Inv-loop μ-loop) → let s = c .before .before .before .before .before .before in let l = c .before .before .before .loop in
+    Left (s .args .out .now) (s .args .at) (movesText (s .args .net .now) (s .args .value .now)) (l .out) (l .next)
+    (moveText (l .net) (s .args .value .now) (l .k) ∷ linesLeft (stepOf (netAt (l .net)) (callAt (s .args .value .now) (l .k)) .left) (s .args .value .now) (count s) (l .k + 1) ∷ [])
+before c =
+    let s = c .before .before .before .before .before .before in
+    let l = c .before .before .before .loop in
+    let value = s .args .value .now in
+    left-next (moveText (l .net) value (l .k)) (linesLeft (stepOf (netAt (l .net)) (callAt value (l .k)) .left) value (count s) (l .k + 1))
+    (lines-next (netAt (l .net)) value (count s) (l .k) (c .before .before .loop-test .taken)) (l .inv .0)
 
 loop-holds : tie.Need-loop-holds Inv-loop μ-loop
 loop-holds c =
     let s = c .before .before in
     let a = s .args in
+    let first = netAt (a .net .now) in
     let all = calls-all (a .value .now) in (
+      left-as (movesText (a .net .now) (a .value .now) ∷ []) (linesLeft first (a .value .now) (count s) 0 ∷ []) (ap (λ cs. moveLines 1 (answers stepOf first cs)) all)
+          (left-all (a .out .now) (a .at) (movesText (a .net .now) (a .value .now)) (s .pre .1)),
+      sym (ap (after stepOf first) all),
       s .pre .0,
-      subst (λ cs. Left (a .out .now) (a .at) (whole s) (a .out .now) (a .at) (moveLines 1 (netAnswers (first s) cs))) all (left-all (a .out .now) (a .at) (whole s) (s .pre .2)),
-      sym (ap (netAfter (first s)) all),
-      s .pre .1,
     )
 
 write-made-requires : tie.Need-write-made-requires Inv-loop μ-loop
 write-made-requires c κs =
-    let s = c .before .before .before .before .before .before in
-    let a = s .args in
-    let l = c .before .before .before .loop in
-    let net = netOf (a .kind) (a .degree) (l .entries) in
-    let below = c .before .before .loop-test .taken in (
-      l .inv .0,
-      sturdy-handed net (l .inv .3),
-      omega (arith, below),
-      left-fits (moveLine (l .k + 1) (refusalNumber (stepOf net (move s (l .k)) .answer))) (linesLeft (stepOf net (move s (l .k)) .net) (a .value .now) (count s) (l .k + 1))
-          (subst (Left (a .out .now) (a .at) (whole s) (l .out) (l .next)) (lines-next net (a .value .now) (count s) (l .k) below) (l .inv .1)),
-    )
-
-add-k : tie.Need-add-k Inv-loop μ-loop
-add-k c = search needs
-
-loop-less : tie.Need-loop-less Inv-loop μ-loop
-loop-less c = search needs
+    let below = c .before .before .loop-test .taken in
+    (c .before .before .before .loop .inv .2, omega (arith, below), left-fits (before c))
 
 loop-again : tie.Need-loop-again Inv-loop μ-loop
+unfolding after
 loop-again c =
     let s = c .before .before .before .before .before .before .before .before .before .before in
-    let a = s .args in
+    let value = s .args .value .now in
     let l = c .before .before .before .before .before .before .before .loop in
     let w = c .before .before .before .write-made in
     let below = c .before .before .before .before .before .before .loop-test .taken in
-    let net = netOf (a .kind) (a .degree) (l .entries) in
-    let next : netOf (a .kind) (a .degree) (w .last .1 .1 .0) ≡ stepOf net (move s (l .k)) .net = step-kept net (move s (l .k)) (w .ensures .1) in
-    let long : length (w .last .1 .1 .0) ≡ 180 = search needs in (
-      long,
-      subst (λ (n : Net). Left (a .out .now) (a .at) (whole s) (w .last .0) (w .result) (linesLeft n (a .value .now) (count s) (l .k + 1))) (sym next)
-          (left-after (moveLine (l .k + 1) (refusalNumber (stepOf net (move s (l .k)) .answer))) (linesLeft (stepOf net (move s (l .k)) .net) (a .value .now) (count s) (l .k + 1))
-          (subst (Left (a .out .now) (a .at) (whole s) (l .out) (l .next)) (lines-next net (a .value .now) (count s) (l .k) below) (l .inv .1)) (w .ensures .0)),
-      ap (λ (n : Net). netAfter n (callsLeft (a .value .now) (count s) (l .k + 1))) next ∙ sym (after-next net (a .value .now) (count s) (l .k) below) ∙ l .inv .2,
-      subst (λ (n : Net). Sturdy n) (sym next) (sturdy-next net (move s (l .k)) (l .inv .3)),
+    let left = stepOf (netAt (l .net)) (callAt value (l .k)) .left in
+    let made : netAt (w .last .1 .1 .0) ≡ left = w .ensures .1 .net in (
+      left-as (linesLeft left value (count s) (l .k + 1) ∷ []) (linesLeft (netAt (w .last .1 .1 .0)) value (count s) (l .k + 1) ∷ [])
+          (ap (λ (n : Net). linesLeft n value (count s) (l .k + 1)) (sym made)) (left-after (before (c .before .before .before .before)) (w .ensures .0)),
+      ap (λ (n : Net). after stepOf n (callsLeft value (count s) (l .k + 1))) made ∙ sym (after-next (netAt (l .net)) value (count s) (l .k) below) ∙ l .inv .1,
+      w .ensures .1 .stands,
     )
 
 same-length : tie.Need-same-length Inv-loop μ-loop
-same-length c = c .before .loop .inv .1 .size
+same-length c = c .before .loop .inv .0 .size
 
 same-length-2 : tie.Need-same-length-2 Inv-loop μ-loop
-same-length-2 c = search needs
+same-length-2 c = c .before .loop .inv .2 .long ∙ sym (c .before .before .before .before .pre .0 .long)
 
 returns : tie.Need-returns Inv-loop μ-loop
 returns c =
     let s = c .before .before .before .before in
-    let a = s .args in
     let l = c .before .loop in
-    let net = netOf (a .kind) (a .degree) (l .entries) in
+    let net = netAt (l .net) in
+    let value = s .args .value .now in
     let over = c .loop-test .left in (
-      left-none (subst (Left (a .out .now) (a .at) (whole s) (l .out) (l .next)) (lines-none net (a .value .now) (count s) (l .k) over) (l .inv .1)),
-      ap (λ (n : Net). n .entries) (sym (after-none net (a .value .now) (count s) (l .k) over) ∙ l .inv .2),
+      left-over (lines-none net value (count s) (l .k) over) (l .inv .0),
+      record { net = sym (after-none net value (count s) (l .k) over) ∙ l .inv .1; stands = l .inv .2 },
     )
 
 pub write-moves-spec : {M : Type 1} → statement M
@@ -121,8 +99,8 @@ write-moves-spec =
     μ-loop
     loop-holds
     write-made-requires
-    add-k
-    loop-less
+    (λ c. search needs)
+    (λ c. search needs)
     loop-again
     same-length
     same-length-2

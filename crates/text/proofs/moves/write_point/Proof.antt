@@ -1,60 +1,56 @@
--- `write_point` meets its contract: no bytes, no point; otherwise the four places hold the point that the net answers, and its projection is the line, or its number is told.
-use borrow.Author.Needs.{needs}
-use Prim.Native.Nat.{ℕ, _+_, _≤_}
-use mathlib.Core.Path.{_≡_, refl, sym, ap, _∙_, subst}
+-- `write_point` meets its contract: no bytes, no point; otherwise the four places hold the point that the net answers, and its projection is the line, or the number of its refusal is.
+use borrow.Author.Needs.{needs, sfits-of}
+use Prim.Native.Nat.{ℕ}
+use mathlib.Core.Path.{_≡_, refl, sym, ap, _∙_}
 use mathlib.Core.List.{List}
 use lib.IntN.{pos}
-use lib.ListN.{length, getD, replicate}
-use Rattle.polar.specs.Order.{joined}
+use lib.ListN.{getD, replicate}
+use Rattle.integers.proofs.Signed.{back-fits}
 use Rattle.machine.specs.Nets.{stepOf}
-use Rattle.machine.specs.Lists.{netAnswers}
-use Rattle.machine.specs.declared.Net.{Net}
+use Rattle.machine.specs.Lent.{netAt}
 use Rattle.machine.specs.declared.Call.the-variants as call
-use Rattle.nets.proofs.Row.{element}
-use Rattle.text.specs.Words.{Wrote}
 use Rattle.text.specs.Text.{pointRefusedLine, projectionLine, pointLine}
-use Rattle.text.specs.Rows.{netOf, pointsOf}
+use Rattle.text.specs.Parts.{pointText}
 use Rattle.text.proofs.Over.{nothing-written}
-use Rattle.text.proofs.Made.{point-none, point-one, point-refused, point-found}
+use Rattle.text.proofs.Calls.{point-none, point-one, point-refused, point-found}
+use Rattle.text.proofs.Then.{fits-as, wrote-as}
 use Rattle.text.proofs.moves.write_point.Statement.{statement}
 use Rattle.text.proofs.moves.write_point.Tie as tie
 
--- the net that is handed in, and the text of its point
-abbrev net : tie.Start → Net
-net s = netOf (s .args .kind) (s .args .degree) (s .args .entries .now)
-
+-- the text of the point
 abbrev text : tie.Start → List ℕ
-text s = joined pointLine (netAnswers (net s) (pointsOf (s .args .value .now)))
+text s = pointText (s .args .net .now) (s .args .value .now)
 
 -- the text is the line of the one answer
-one : (c : tie.After-find-point) → let s = c .before .before .before .before .before .before in text s ≡ pointLine (stepOf (net s) (call.Point (c .before .before .point-weights .result)) .answer)
+one : (c : tie.After-find-point) → let s = c .before .before .before .before .before .before in text s ≡ pointLine (stepOf (netAt (s .args .net .now)) (call.Point (c .before .before .point-weights .result)) .answer)
 one c =
     let s = c .before .before .before .before .before .before in
-    point-one (net s) (s .args .value .now) (c .before .before .before .if1 .left) ∙ ap (λ w. pointLine (stepOf (net s) (call.Point w) .answer)) (sym (c .before .before .point-weights .ensures))
+    let net = netAt (s .args .net .now) in
+    point-one net (s .args .value .now) (c .before .before .before .if1 .left) ∙ ap (λ w. pointLine (stepOf net (call.Point w) .answer)) (sym (c .before .before .point-weights .ensures))
 
 refused : (c : tie.After-find-point) → (c .find-point .result ≡ 0 → ⊥) → text (c .before .before .before .before .before .before) ≡ pointRefusedLine (c .find-point .result)
 refused c some =
     let s = c .before .before .before .before .before .before in
-    one c ∙ point-refused (net s) (c .before .before .point-weights .result) (replicate 4 (pos 0)) (s .pre .0) refl (c .find-point .ensures .0) some
+    one c ∙ point-refused (s .args .net .now) (s .pre .0) (c .before .before .point-weights .result) (replicate 4 (pos 0)) refl (c .find-point .ensures .0) some
 
 found : (c : tie.After-project) → text (c .before .before .before .before .before .before .before .before .before .before .before .before .before .before) ≡ projectionLine (c .project .result)
 found c =
     let f = c .before .before .before .before .before .before .before .before in
     let s = f .before .before .before .before .before .before in
-    let new = f .find-point .last .1 .1 .1 .1 .0 in
+    let new = f .find-point .last .1 .1 .0 in
     one f
-    ∙ point-found (net s) (f .before .before .point-weights .result) (replicate 4 (pos 0)) (s .pre .0) refl (f .find-point .ensures .0) (c .before .before .before .before .before .before .if2 .left) (f .find-point .ensures .1)
-    (element (getD new 0 (pos 0)) (c .before .before .before .before .project-arg .given))
-    (element (getD new 1 (pos 0)) (c .before .before .before .project-arg2 .given))
-    (element (getD new 2 (pos 0)) (c .before .before .project-arg3 .given))
-    (element (getD new 3 (pos 0)) (c .before .project-arg4 .given))
+    ∙ point-found (s .args .net .now) (s .pre .0) (f .before .before .point-weights .result) (replicate 4 (pos 0)) refl (f .find-point .ensures .0) (c .before .before .before .before .before .before .if2 .left) (f .find-point .ensures .1)
+    (back-fits {z = getD new 0 (pos 0)} (sfits-of (c .before .before .before .before .project-arg .given)))
+    (back-fits {z = getD new 1 (pos 0)} (sfits-of (c .before .before .before .project-arg2 .given)))
+    (back-fits {z = getD new 2 (pos 0)} (sfits-of (c .before .before .project-arg3 .given)))
+    (back-fits {z = getD new 3 (pos 0)} (sfits-of (c .before .project-arg4 .given)))
     ∙ ap projectionLine (sym (c .project .ensures .0))
 
 returns : tie.Need-returns
 returns c =
     let s = c .before .before .before in
     let a = s .args in
-    subst (λ t. Wrote (a .out .now) (a .at) t (a .out .now) (a .at)) (sym (point-none (net s) (a .value .now) (c .if1 .taken))) (nothing-written (a .out .now) (a .at))
+    wrote-as (sym (point-none (netAt (a .net .now)) (a .value .now) (c .if1 .taken))) (nothing-written (a .out .now) (a .at))
 
 point-weights-requires : tie.Need-point-weights-requires
 point-weights-requires c κs = search needs
@@ -68,16 +64,13 @@ find-point-requires c κs = search needs
 write-point-refused-requires : tie.Need-write-point-refused-requires
 write-point-refused-requires c κs =
     let s = c .before .before .before .before .before .before .before .before .before in
-    subst (λ t. s .args .at + length t ≤ length (s .args .out .now)) (refused (c .before .before .before) (c .before .if2 .taken)) (s .pre .1)
+    fits-as (s .args .out .now) (s .args .at) (refused (c .before .before .before) (c .before .if2 .taken)) (s .pre .1)
 
 same-length : tie.Need-same-length
 same-length c = search needs
 
 returns-2 : tie.Need-returns-2
-returns-2 c =
-    let s = c .before .before .before .before .before .before .before .before .before .before .before .before in
-    let w = c .before .before .write-point-refused in
-    subst (λ t. Wrote (s .args .out .now) (s .args .at) t (w .last .0) (w .result)) (sym (refused (c .before .before .before .before .before .before) (c .before .before .before .before .if2 .taken))) (w .ensures)
+returns-2 c = wrote-as (sym (refused (c .before .before .before .before .before .before) (c .before .before .before .before .if2 .taken))) (c .before .before .write-point-refused .ensures)
 
 array-copy-out-project : tie.Need-array-copy-out-project
 array-copy-out-project c = search needs
@@ -97,16 +90,13 @@ project-requires c κs = search needs
 write-projection-requires : tie.Need-write-projection-requires
 write-projection-requires c κs =
     let s = c .before .before .before .before .before .before .before .before .before .before .before .before .before .before in
-    subst (λ t. s .args .at + length t ≤ length (s .args .out .now)) (found c) (s .pre .1)
+    fits-as (s .args .out .now) (s .args .at) (found c) (s .pre .1)
 
 same-length-2 : tie.Need-same-length-2
 same-length-2 c = search needs
 
 returns-3 : tie.Need-returns-3
-returns-3 c =
-    let s = c .before .before .before .before .before .before .before .before .before .before .before .before .before .before .before .before .before in
-    let w = c .before .before .write-projection in
-    subst (λ t. Wrote (s .args .out .now) (s .args .at) t (w .last .0) (w .result)) (sym (found (c .before .before .before))) (w .ensures)
+returns-3 c = wrote-as (sym (found (c .before .before .before))) (c .before .before .write-projection .ensures)
 
 pub write-point-spec : {M : Type 1} → statement M
 write-point-spec =

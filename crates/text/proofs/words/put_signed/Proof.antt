@@ -1,16 +1,17 @@
 -- `put_signed` meets its contract: by the sign the text is the digits alone, or the minus sign and then the digits, two texts in a row.
 use borrow.Author.Needs.{needs}
-use Prim.Native.Nat.{ℕ, _+_, _≤_}
+use Prim.Native.Nat.{ℕ}
 use native.Mathlib.Omega.{arith}
-use mathlib.Core.Path.{_≡_, sym, ap, _∙_, subst}
-use mathlib.Core.List.{[], _∷_}
-use lib.IntN.{ℤ, pos, natAbs}
+use mathlib.Core.Path.{_≡_, sym, ap, _∙_}
+use mathlib.Core.List.{_∷_}
+use lib.IntN.{pos, natAbs}
 use lib.ListN.{length}
 use lib.Signed.{ltZ}
 use Rattle.integers.proofs.Signed.{back-fits}
-use Rattle.text.specs.Words.{Wrote, decimal, signedDecimal}
+use Rattle.text.specs.Words.{decimal, signedDecimal}
 use Rattle.text.proofs.Over.{same-size, in-a-row}
 use Rattle.text.proofs.Decimal.{with-sign, without-sign}
+use Rattle.text.proofs.Then.{fits-as, wrote-as}
 use Rattle.text.proofs.words.put_signed.Statement.{statement}
 use Rattle.text.proofs.words.put_signed.Tie as tie
 
@@ -21,14 +22,8 @@ negative c = let s = c .before .before in with-sign (s .args .v) (ap (λ z. ltZ 
 positive : (c : tie.Else1) → let v = c .before .before .args .v in signedDecimal v ≡ decimal (natAbs v)
 positive c = let s = c .before .before in without-sign (s .args .v) (ap (λ z. ltZ z (pos 0)) (sym (back-fits (s .fits .v))) ∙ c .if1 .left)
 
-slice-aggregate-put : tie.Need-slice-aggregate-put
-slice-aggregate-put c = search needs
-
 put-requires : tie.Need-put-requires
 put-requires c κs = omega (arith, ap length (negative (c .before .before)))
-
-magnitude-requires : tie.Need-magnitude-requires
-magnitude-requires c κs = search needs
 
 put-decimal-requires : tie.Need-put-decimal-requires
 put-decimal-requires c κs =
@@ -39,53 +34,41 @@ put-decimal-requires c κs =
     let digits = ap (λ (n : ℕ). length (decimal n)) (c .magnitude .ensures ∙ ap natAbs (back-fits (s .fits .v))) in
     omega (arith, put .ensures .place, same-size (put .ensures) (omega arith))
 
-same-length : tie.Need-same-length
-same-length c = search needs
-
 returns : tie.Need-returns
 returns c =
-    let put = c .before .before .before .before .before .before .before .put in
-    let digits = c .before .before .put-decimal in
     let sign = c .before .before .before .before .before .before .before .before .before .before in
     let s = sign .before .before in
     let text-is = ap decimal (c .before .before .before .magnitude .ensures ∙ ap natAbs (back-fits (s .fits .v))) in
     let room = ap length (negative sign) in
-    subst (λ text. Wrote (s .args .out .now) (s .args .at) text (digits .last .0) (digits .result))
+    wrote-as
     (ap (λ ds. 45 ∷ ds) text-is ∙ sym (negative sign))
-    (in-a-row (put .ensures) (omega (arith, ap length text-is)) (digits .ensures))
-
-magnitude-requires-2 : tie.Need-magnitude-requires-2
-magnitude-requires-2 c κs = search needs
+    (in-a-row (c .before .before .before .before .before .before .before .put .ensures) (omega (arith, ap length text-is)) (c .before .before .put-decimal .ensures))
 
 put-decimal-requires-2 : tie.Need-put-decimal-requires-2
 put-decimal-requires-2 c κs =
     let s = c .before .before .before .before in
-    subst (λ text. s .args .at + length text ≤ length (s .args .out .now))
+    fits-as (s .args .out .now) (s .args .at)
     (positive (c .before .before) ∙ sym (ap decimal (c .magnitude2 .ensures ∙ ap natAbs (back-fits (s .fits .v)))))
     (s .pre)
 
-same-length-2 : tie.Need-same-length-2
-same-length-2 c = search needs
-
 returns-2 : tie.Need-returns-2
 returns-2 c =
-    let put = c .before .before .put-decimal2 in
     let s = c .before .before .before .before .before .before .before in
-    subst (λ text. Wrote (s .args .out .now) (s .args .at) text (put .last .0) (put .result))
+    wrote-as
     (ap decimal (c .before .before .before .magnitude2 .ensures ∙ ap natAbs (back-fits (s .fits .v))) ∙ sym (positive (c .before .before .before .before .before)))
-    (put .ensures)
+    (c .before .before .put-decimal2 .ensures)
 
 pub put-signed-spec : {M : Type 1} → statement M
 put-signed-spec =
     tie.close
     (tie.spec
-    slice-aggregate-put
+    (λ c. search needs)
     put-requires
-    magnitude-requires
+    (λ c κs. search needs)
     put-decimal-requires
-    same-length
+    (λ c. search needs)
     returns
-    magnitude-requires-2
+    (λ c κs. search needs)
     put-decimal-requires-2
-    same-length-2
+    (λ c. search needs)
     returns-2)

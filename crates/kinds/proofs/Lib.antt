@@ -1,0 +1,4 @@
+pub mod Limits
+pub mod Counts
+pub mod Scales
+pub mod Determinants

@@ -1,0 +1,202 @@
+-- Demand 3 carried to lent places: the net read out of them is always the net over the comparison machine's frames, since every net that is put there is read back.
+use Prim.Native.Nat.{ℕ, zero, suc}
+use mathlib.Core.Path.{_≡_, refl, sym, ap, ap₂, _∙_, subst}
+use mathlib.Core.Bool.{Bool, true, false, cond}
+use mathlib.Core.List.{List, [], _∷_, map, zipWith}
+use lib.Dec.{leb}
+use lib.IntN.{ℤ}
+use lib.ListN.{length, take}
+use Rattle.entries.specs.Entries.{numberCount}
+use Rattle.entries.proofs.ListedOver.{length-listed-over}
+use Rattle.machine.specs.Refusals.{_else_, firstFailed}
+use Rattle.machine.specs.Steps.{Answer, Refused, pointValues, foundAt, Step, stepBy, after, answers}
+use Rattle.machine.specs.Nets.{Net, netTests, accepted, stepOf}
+use Rattle.machine.specs.Sizes.{callTests}
+use Rattle.machine.specs.Comparison.{Polynomials, groups, machinePolar, machineAccepted, machineStep, netOver}
+use Rattle.integers.proofs.All.{clash}
+use Rattle.kinds.specs.Frames.{Frames, framesOf}
+use Rattle.machine.specs.First.{firstNet, firstTests, firstRefusal}
+use Rattle.machine.specs.Demand3.{framesReached}
+use Rattle.machine.specs.Lent.{netAt, putAt, put, wide, unlessRefused, polynomialsFrom, madeNumber, madePlaces, room, callNumber, callPlaces, callFound}
+use Rattle.machine.specs.Carried.{LentCall, Returned, answerBy, lentStep, expected, otherPlaces, LentGuaranteed, Demand3Lent}
+use Rattle.machine.specs.declared.Call.{Call}
+use Rattle.machine.specs.declared.Call.the-variants as call
+use Rattle.machine.proofs.Refusals.{none-failed, row-passes, rest-passes}
+use Rattle.machine.proofs.Over.{Reached, call-agrees}
+use Rattle.machine.proofs.Demand3.{start-reached}
+use Rattle.machine.proofs.Lent.{Sound, read-back, put-long, put-others}
+
+-- every net reached has its right number of entries
+pub reached-sound : (f : Polynomials) (frames : Frames) → Reached f frames → Sound (netOver f frames)
+unfolding netOver
+reached-sound f frames at = record { right = at .right; exact = length-listed-over (groups f) _ }
+
+-- the net over the frames stands in the places
+record Stands (f : Polynomials) (frames : Frames) (lent : List ℤ) : Type 0 where
+  net : netAt lent ≡ netOver f frames
+  enough : wide lent ≡ true
+  reached : Reached f frames
+
+put-stands : (f : Polynomials) (frames : Frames) (lent : List ℤ) → wide lent ≡ true → Reached f frames → Stands f frames (put (netOver f frames) lent)
+put-stands f frames lent enough at =
+    let sound = reached-sound f frames at in
+    record { net = read-back (netOver f frames) lent enough sound; enough = ap (leb 193) (put-long (netOver f frames) lent enough sound) ∙ enough; reached = at }
+
+put-kept : (f : Polynomials) (frames : Frames) (lent : List ℤ) → wide lent ≡ true → Reached f frames → otherPlaces f (put (netOver f frames) lent) ≡ otherPlaces f lent
+unfolding netOver
+put-kept f frames lent enough at = put-others (netOver f frames) lent enough (reached-sound f frames at) (numberCount (groups f)) refl
+
+-- ---- one call
+
+-- an accepted call's answer is what the caller has, where its numbers are put into the places
+accepted-heard : (net : Net) (c : Call) (found : List ℤ) → answerBy 0 c (putAt 0 (pointValues (accepted net c .answer)) found) ≡ accepted net c .answer
+unfolding accepted answerBy foundAt
+accepted-heard net (call.Move operation vertex weights) found = refl
+accepted-heard net (call.Point weights) found = refl
+
+-- what leaves the state where it is accepted leaves it
+step-leaves : {S : Type 0} (k : ℕ) (state : S) (step : Step Answer S) → step .left ≡ state → stepBy k state step .left ≡ state
+unfolding stepBy
+step-leaves zero state step h = h
+step-leaves (suc k) state step h = refl
+
+-- a call without room is a point, which leaves the frames
+point-leaves : (f : Polynomials) (frames : Frames) (c : Call) (found : List ℤ) → room c found ≡ false → machineStep f frames c .left ≡ frames
+unfolding machineStep machineAccepted
+point-leaves f frames (call.Move operation vertex weights) found h = absurd (clash refl h)
+point-leaves f frames (call.Point weights) found h = step-leaves (firstFailed (callTests (groups f) (call.Point weights) (machinePolar f frames (call.Point weights)))) frames (machineAccepted f frames (call.Point weights)) refl
+
+returned-is : {a b : Answer} {xs ys : List ℤ} → a ≡ b → xs ≡ ys → _≡_ {A = Returned} (record { answer = a; found = xs }) (record { answer = b; found = ys })
+returned-is p q = λ i. record { answer = p i; found = q i }
+
+-- what a call does on places where the net over frames stands
+record Done (f : Polynomials) (frames : Frames) (lent : List ℤ) (c : LentCall) : Type 0 where
+  returned : lentStep lent c .answer ≡ expected c (machineStep f frames (c .call) .answer)
+  stands : Stands f (machineStep f frames (c .call) .left) (lentStep lent c .left)
+  kept : otherPlaces f (lentStep lent c .left) ≡ otherPlaces f lent
+
+module _ (f : Polynomials) (frames : Frames) (lent : List ℤ) (here : Stands f frames lent) (c : LentCall) where
+  abbrev net : Net
+  net = netOver f frames
+
+  abbrev next : Step Answer Frames
+  next = machineStep f frames (c .call)
+
+  -- the number, by the tests that are left
+  number-is : callNumber (c .call) lent (c .found) ≡ firstFailed (room (c .call) (c .found) else 11 ∷ netTests net (c .call))
+  unfolding callNumber
+  number-is = ap₂ (λ b n. firstFailed (b else 11 ∷ room (c .call) (c .found) else 11 ∷ netTests n (c .call))) (here .enough) (here .net)
+
+  -- by the number: what is written
+  places-by : (k : ℕ) → callNumber (c .call) lent (c .found) ≡ k → callPlaces (c .call) lent (c .found) ≡ unlessRefused k (put (accepted net (c .call) .left) lent) lent
+  unfolding callPlaces
+  places-by k e = ap₂ (λ j n. unlessRefused j (put (accepted n (c .call) .left) lent) lent) e (here .net)
+
+  found-by : (k : ℕ) → callNumber (c .call) lent (c .found) ≡ k
+      → callFound (c .call) lent (c .found) ≡ unlessRefused k (putAt 0 (pointValues (accepted net (c .call) .answer)) (c .found)) (c .found)
+  unfolding callFound
+  found-by k e = ap₂ (λ j n. unlessRefused j (putAt 0 (pointValues (accepted n (c .call) .answer)) (c .found)) (c .found)) e (here .net)
+
+  answer-by : (k : ℕ) → callNumber (c .call) lent (c .found) ≡ k
+      → lentStep lent c .answer .answer ≡ answerBy k (c .call) (unlessRefused k (putAt 0 (pointValues (accepted net (c .call) .answer)) (c .found)) (c .found))
+  unfolding lentStep
+  answer-by k e = ap₂ (λ j l. answerBy j (c .call) l) e (found-by k e)
+
+  expected-by : (b : Bool) → room (c .call) (c .found) ≡ b
+      → expected c (next .answer) ≡ cond b (record { answer = next .answer; found = putAt 0 (pointValues (next .answer)) (c .found) }) (record { answer = Refused 11; found = c .found })
+  unfolding expected
+  expected-by b h = ap (λ r. cond r (record { answer = next .answer; found = putAt 0 (pointValues (next .answer)) (c .found) }) (record { answer = Refused 11; found = c .found })) h
+
+  no-room : room (c .call) (c .found) ≡ false → Done f frames lent c
+  unfolding lentStep answerBy
+  no-room h =
+      let eleven = number-is ∙ ap (λ b. firstFailed (b else 11 ∷ netTests net (c .call))) h in
+      record {
+        returned = returned-is (answer-by 11 eleven) (found-by 11 eleven) ∙ sym (expected-by false h);
+        stands = subst (λ l. Stands f (next .left) l) (sym (places-by 11 eleven)) (subst (λ fr. Stands f fr lent) (sym (point-leaves f frames (c .call) (c .found) h)) here);
+        kept = ap (otherPlaces f) (places-by 11 eleven);
+      }
+
+  with-room : room (c .call) (c .found) ≡ true → (k : ℕ) → firstFailed (netTests net (c .call)) ≡ k → Done f frames lent c
+  unfolding lentStep answerBy stepOf stepBy
+  with-room h zero e =
+      let agrees = call-agrees f frames (here .reached) (c .call) in
+      let number = number-is ∙ ap (λ b. firstFailed (b else 11 ∷ netTests net (c .call))) h ∙ e in
+      let answer = sym (ap (λ k. stepBy k net (accepted net (c .call)) .answer) e) ∙ agrees .answers in
+      let left = sym (ap (λ k. stepBy k net (accepted net (c .call)) .left) e) ∙ agrees .nets in
+      let places = places-by 0 number ∙ ap (λ n. put n lent) left in
+      record {
+        returned =
+            returned-is (answer-by 0 number ∙ accepted-heard net (c .call) (c .found) ∙ answer) (found-by 0 number ∙ ap (λ a. putAt 0 (pointValues a) (c .found)) answer)
+            ∙ sym (expected-by true h);
+        stands = subst (λ l. Stands f (next .left) l) (sym places) (put-stands f (next .left) lent (here .enough) (agrees .reached));
+        kept = ap (otherPlaces f) places ∙ put-kept f (next .left) lent (here .enough) (agrees .reached);
+      }
+  with-room h (suc j) e =
+      let agrees = call-agrees f frames (here .reached) (c .call) in
+      let number = number-is ∙ ap (λ b. firstFailed (b else 11 ∷ netTests net (c .call))) h ∙ e in
+      let answer = sym (ap (λ k. stepBy k net (accepted net (c .call)) .answer) e) ∙ agrees .answers in
+      let left = sym (ap (λ k. stepBy k net (accepted net (c .call)) .left) e) ∙ agrees .nets in
+      let places = places-by (suc j) number in
+      record {
+        returned = returned-is (answer-by (suc j) number ∙ answer) (found-by (suc j) number ∙ ap (λ a. putAt 0 (pointValues a) (c .found)) answer) ∙ sym (expected-by true h);
+        stands = subst (λ l. Stands f (next .left) l) (sym places) (record { net = here .net ∙ left; enough = here .enough; reached = agrees .reached });
+        kept = ap (otherPlaces f) places;
+      }
+
+  done : Done f frames lent c
+  done = by (room (c .call) (c .found)) refl
+    where
+      by : (b : Bool) → room (c .call) (c .found) ≡ b → Done f frames lent c
+      by true h = with-room h (firstFailed (netTests net (c .call))) refl
+      by false h = no-room h
+
+-- ---- a list of calls
+
+record Along (f : Polynomials) (frames : Frames) (lent : List ℤ) (calls : List LentCall) : Type 0 where
+  returned : answers lentStep lent calls ≡ zipWith expected calls (answers (machineStep f) frames (map (λ c. c .call) calls))
+  stands : Stands f (after (machineStep f) frames (map (λ c. c .call) calls)) (after lentStep lent calls)
+  kept : otherPlaces f (after lentStep lent calls) ≡ otherPlaces f lent
+
+along : (f : Polynomials) (frames : Frames) (lent : List ℤ) → Stands f frames lent → (calls : List LentCall) → Along f frames lent calls
+unfolding after answers zipWith
+along f frames lent here [] = record { returned = refl; stands = here; kept = refl }
+along f frames lent here (c ∷ cs) =
+    let one = done f frames lent here c in
+    let rest = along f (machineStep f frames (c .call) .left) (lentStep lent c .left) (one .stands) cs in
+    record { returned = ap₂ _∷_ (one .returned) (rest .returned); stands = rest .stands; kept = rest .kept ∙ one .kept }
+
+-- ---- the theorem
+
+-- from any first net that was put into the places
+module _ (f : Polynomials) (numbers lent places : List ℤ) (ok : firstRefusal f numbers ≡ 0) (enough : wide lent ≡ true) (is : places ≡ put (firstNet f numbers) lent)
+    (calls : List LentCall) where
+  abbrev frames : Frames
+  frames = framesOf (groups f) numbers
+
+  all : Along f frames places calls
+  all = along f frames places (subst (λ l. Stands f frames l) (sym is) (put-stands f frames lent enough (start-reached f numbers ok))) calls
+
+  pub carried : LentGuaranteed f numbers lent places calls
+  carried =
+      record {
+        net = all .stands .net;
+        returned = all .returned;
+        kept = all .kept ∙ ap (otherPlaces f) is ∙ put-kept f frames lent enough (start-reached f numbers ok);
+      }
+
+  -- and what comes back from a further call
+  pub carried-further : (c : LentCall) → lentStep (after lentStep places calls) c .answer ≡ expected c (machineStep f (framesReached f numbers (map (λ x. x .call) calls)) (c .call) .answer)
+  carried-further c = done f (framesReached f numbers (map (λ x. x .call) calls)) (after lentStep places calls) (all .stands) c .returned
+
+pub demand-3-lent : Demand3Lent
+unfolding madeNumber madePlaces firstRefusal firstTests
+demand-3-lent kind degree second frame coefficients lent ok calls =
+    let f = polynomialsFrom kind degree second coefficients in
+    let numbers = take 9 frame in
+    let tests = leb 9 (length frame) else 11 ∷ leb 180 (length coefficients) else 11 ∷ wide lent else 11 ∷ firstTests f numbers in
+    let passed = none-failed tests refl .0 ok in
+    carried f numbers lent (madePlaces kind degree second frame coefficients lent)
+    (none-failed (firstTests f numbers) refl .1 (rest-passes tests passed 3)) (row-passes tests passed 2)
+    (ap (λ k. unlessRefused k (put (firstNet f numbers) lent) lent) ok)
+    calls

@@ -1,0 +1,129 @@
+-- The size rule of a point over groups is the code's: the first group's levels, and then the rule of the groups after it on the one row that the last level leaves.
+-- The polar values that entries fix depend on nothing but the entries and the weights of the vertices.
+use Prim.Native.Nat.{ℕ, zero, suc, _+_, _*_, _-_, _<_}
+use native.Mathlib.Nat.{zero-add, suc-add, add-suc}
+use native.Mathlib.Omega.{arith}
+use mathlib.Core.Path.{_≡_, refl, sym, ap, ap₂, _∙_, fun-ext, subst}
+use mathlib.Core.Bool.{_&&_}
+use mathlib.Core.List.{List, [], _∷_, map}
+use lib.IntN.{ℤ, pos, _*ℤ_}
+use lib.ListN.{length, getD, take, replicate}
+use lib.Seq.{getD-take}
+use Rattle.integers.specs.Sum.{upto}
+use Rattle.integers.specs.Test.{all}
+use Rattle.integers.proofs.Sums.{sum-upto-cong, upto-below}
+use Rattle.integers.proofs.All.{all-append, all-map, all-cong, and-one}
+use Rattle.polar.specs.Order.{total, counts}
+use Rattle.polar.specs.Groups.{Group, head, tail, pairs}
+use Rattle.polar.proofs.Order.{counts-total}
+use Rattle.projection.specs.Projection.{inRange}
+use Rattle.entries.specs.Entries.{placeOf, fixed, raise, numberCount, placeOver, entryOver, fixedOver}
+use Rattle.entries.specs.Rows.{entryAt, size}
+use Rattle.entries.proofs.Form.{total-raise, length-raise}
+use Rattle.entries.proofs.Groups.{Counted, Named}
+use Rattle.entries.proofs.Places.{placed, member-counts}
+use Rattle.entries.proofs.Listed.{digits-below}
+use Rattle.entries.proofs.ListedOver.{place-over}
+use Rattle.machine.specs.Sizes.{namedByReplace, namedByPoint, allNamed}
+use Rattle.machine.proofs.Over.{by-point}
+use Rattle.nets.specs.Levels.{valuesOf, namedAt, allNamedAt}
+use Rattle.nets.proofs.GroupRows.{row-entry, named-rows}
+
+-- ---- what polar values depend on
+
+-- entries that agree, with weights that agree on the vertices, fix the same polar values
+pub fixed-cong : (d m : ℕ) (ws us : List ℤ) → ((v : ℕ) → v < d → getD ws v (pos 0) ≡ getD us v (pos 0)) → (f g : List ℕ → ℤ) → ((e : List ℕ) → length e ≡ d → total e ≡ m → f e ≡ g e)
+    → (h : ℕ) (e : List ℕ) → length e ≡ d → h + total e ≡ m → fixed d ws f h e ≡ fixed d us g h e
+unfolding fixed
+fixed-cong d m ws us same f g agree zero e l t = agree e l (sym (zero-add (total e)) ∙ t)
+fixed-cong d m ws us same f g agree (suc h) e l t =
+    sum-upto-cong d
+    (λ v p.
+    ap₂ (λ w z. w *ℤ z) (same v p)
+    (fixed-cong d m ws us same f g agree h (raise v e) (length-raise v e (subst (λ k. v < k) (sym l) p) ∙ l) (ap (λ k. h + k) (total-raise v e) ∙ add-suc h (total e) ∙ sym (suc-add h (total e)) ∙ t)))
+
+pub fixed-over-cong : (gs : List Group) (weights : List (List ℤ)) (f g : List (List ℕ) → ℤ) → ((es : List (List ℕ)) → Counted gs es → f es ≡ g es)
+    → (es : List (List ℕ)) → Named gs es → fixedOver gs weights f es ≡ fixedOver gs weights g es
+unfolding fixedOver
+fixed-over-cong [] weights f g agree [] named = agree [] tt
+fixed-over-cong [] weights f g agree (e ∷ es) named = absurd named
+fixed-over-cong (k ∷ gs) weights f g agree [] named = absurd named
+fixed-over-cong (k ∷ gs) weights f g agree ([] ∷ es) named = absurd (wrong (named .0))
+  where
+    wrong : 0 ≡ suc (suc (k .dimension)) → ⊥
+    wrong w = omega arith
+fixed-over-cong (k ∷ gs) weights f g agree ((h ∷ e) ∷ es) named =
+    fixed-over-cong gs (tail weights) (λ rest. fixed (suc (k .dimension)) (head weights) (λ r. f (r ∷ rest)) h e) (λ rest. fixed (suc (k .dimension)) (head weights) (λ r. g (r ∷ rest)) h e)
+    (λ rest p.
+    fixed-cong (suc (k .dimension)) (k .degree) (head weights) (head weights) (λ v q. refl) (λ r. f (r ∷ rest)) (λ r. g (r ∷ rest)) (λ r l t. agree (r ∷ rest) (l, t, p)) h e (shorter (named .0)) (named .1))
+    es (named .2)
+  where
+    shorter : suc (length e) ≡ suc (suc (k .dimension)) → length e ≡ suc (k .dimension)
+    shorter p = omega arith
+
+-- the numbers past the entries are no entries
+pub entry-used : (w n m : ℕ) (xs : List ℤ) (c : ℕ) (e : List ℕ) → c < w → length e ≡ suc n → total e ≡ m → entryAt w n m (take (size w n m) xs) c e ≡ entryAt w n m xs c e
+unfolding entryAt
+entry-used w n m xs c e k l t =
+    getD-take (size w n m) xs (w * placeOf e (counts n m) + c) (pos 0) (digits-below w (placeOf e (counts n m)) c (length (counts n m)) (placed e (counts n m) (member-counts n m e l t) .0) k)
+
+-- ---- the part of the places and of the weights that is used
+
+-- us is ws, or as much of it as there are vertices
+module _ (w n m : ℕ) (us ws xs : List ℤ) (same : (v : ℕ) → v < suc n → getD us v (pos 0) ≡ getD ws v (pos 0)) where
+  -- the numbers past the entries, and the weights past the vertices, fix nothing
+  pub values-used : (c h : ℕ) (e : List ℕ) → c < w → length e ≡ suc n → h + total e ≡ m → valuesOf w n m us (take (size w n m) xs) c h e ≡ valuesOf w n m ws xs c h e
+  values-used c h e k =
+      fixed-cong (suc n) m us ws same (entryAt w n m (take (size w n m) xs) c) (entryAt w n m xs c) (λ r l t. entry-used w n m xs c r k l t) h e
+
+  pub named-used : allNamedAt w n m us (take (size w n m) xs) ≡ allNamedAt w n m ws xs
+  unfolding allNamedAt
+  named-used =
+      all-cong (namedAt w n m us (take (size w n m) xs)) (namedAt w n m ws xs) (upto (suc m))
+      (λ h i.
+      all-cong (λ e. all (λ c. inRange (valuesOf w n m us (take (size w n m) xs) c h e)) (upto w)) (λ e. all (λ c. inRange (valuesOf w n m ws xs c h e)) (upto w)) (counts n (m - h))
+      (λ e j.
+      let r = counts-total n (m - h) e j in
+      let below = upto-below (suc m) h i in
+      all-cong (λ c. inRange (valuesOf w n m us (take (size w n m) xs) c h e)) (λ c. inRange (valuesOf w n m ws xs c h e)) (upto w)
+      (λ c k. ap inRange (values-used c h e (upto-below w c k) (r .0) (omega (arith, r .1))))))
+
+-- ---- the size rule of a point
+
+-- `left` begins with what the first group's levels leave: its one row, the numbers of a net over the groups after it
+module _ (g : Group) (gs : List Group) (ws : List ℤ) (weights : List (List ℤ)) (xs left : List ℤ)
+    (last : (i : ℕ) → i < numberCount gs → getD left i (pos 0) ≡ valuesOf (numberCount gs) (g .dimension) (g .degree) ws xs i (g .degree) (replicate (suc (g .dimension)) 0)) where
+  row-left : (c : ℕ) (es : List (List ℕ)) → c < 4 → Counted gs es
+      → fixed (suc (g .dimension)) ws (λ e. entryOver (g ∷ gs) xs c (e ∷ es)) (g .degree) (replicate (suc (g .dimension)) 0) ≡ entryOver gs left c es
+  unfolding entryOver
+  row-left c es k counted =
+      let place = place-over gs es counted .0 in
+      ap (λ F. fixed (suc (g .dimension)) ws F (g .degree) (replicate (suc (g .dimension)) 0)) (fun-ext (λ e. row-entry g gs xs c e es))
+      ∙ sym (last (4 * placeOver gs es + c) (omega arith))
+
+  abbrev all-q : List ℕ
+  all-q = g .degree ∷ replicate (suc (g .dimension)) 0
+
+  abbrev P : ℕ → List (List ℕ) → ℤ
+  P c es = fixedOver (g ∷ gs) (ws ∷ weights) (entryOver (g ∷ gs) xs c) es
+
+  -- with the first group's points all q, the values are those of the row that is left
+  pub values-left : (c : ℕ) (es : List (List ℕ)) → c < 4 → Named gs es → P c (all-q ∷ es) ≡ fixedOver gs weights (entryOver gs left c) es
+  unfolding fixedOver
+  values-left c es k named =
+      fixed-over-cong gs weights (λ rest. fixed (suc (g .dimension)) ws (λ e. entryOver (g ∷ gs) xs c (e ∷ rest)) (g .degree) (replicate (suc (g .dimension)) 0)) (entryOver gs left c)
+      (λ rest p. row-left c rest k p) es named
+
+  pub named-point : allNamed (namedByPoint (g ∷ gs)) P
+      ≡ (allNamedAt (numberCount gs) (g .dimension) (g .degree) ws xs && allNamed (namedByPoint gs) (λ c es. fixedOver gs weights (entryOver gs left c) es))
+  unfolding allNamed namedByPoint
+  named-point =
+      all-append (λ es. all (λ c. inRange (P c es)) (upto 4)) (namedByReplace (g ∷ gs) 0) (pairs (all-q ∷ []) (namedByPoint gs))
+      ∙ ap₂ _&&_ (named-rows g gs ws weights xs)
+      (all-append (λ es. all (λ c. inRange (P c es)) (upto 4)) (map (λ ys. all-q ∷ ys) (namedByPoint gs)) []
+      ∙ and-one (all (λ es. all (λ c. inRange (P c es)) (upto 4)) (map (λ ys. all-q ∷ ys) (namedByPoint gs)))
+      ∙ all-map (λ es. all (λ c. inRange (P c es)) (upto 4)) (λ ys. all-q ∷ ys) (namedByPoint gs)
+      ∙ all-cong (λ es. all (λ c. inRange (P c (all-q ∷ es))) (upto 4)) (λ es. all (λ c. inRange (fixedOver gs weights (entryOver gs left c) es)) (upto 4)) (namedByPoint gs)
+      (λ es m.
+      all-cong (λ c. inRange (P c (all-q ∷ es))) (λ c. inRange (fixedOver gs weights (entryOver gs left c) es)) (upto 4)
+      (λ c k. ap inRange (values-left c es (upto-below 4 c k) (by-point gs es m)))))

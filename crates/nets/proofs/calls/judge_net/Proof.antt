@@ -1,0 +1,72 @@
+-- `judge_net` meets its contract: the two rows of a handed net's table. A kind that is known has room for its entries in the part that is lent.
+use borrow.Author.Needs.{needs}
+use borrow.Author.Tests.{not-true, not-false}
+use mathlib.Core.Path.{_≡_, sym, _∙_}
+use mathlib.Core.Bool.{Bool, true, false}
+use mathlib.Core.List.{[], _∷_}
+use lib.ListN.{length}
+use Rattle.kinds.specs.Kinds.{known}
+use Rattle.machine.specs.Refusals.{_else_, firstFailed}
+use Rattle.machine.specs.Nets.{handedTests}
+use Rattle.nets.specs.Calls.{netFrom}
+use Rattle.nets.proofs.Steps.{handed-unknown, handed-range, entries-long}
+use Rattle.nets.proofs.calls.judge_net.Statement.{statement}
+use Rattle.nets.proofs.calls.judge_net.Tie as tie
+
+known-kind-requires : tie.Need-known-kind-requires
+known-kind-requires c κs = search needs
+
+returns : tie.Need-returns
+returns c =
+    let a = c .before .before .args in
+    handed-unknown (a .kind) (a .degree) (a .second) (a .entries .now) (sym (c .before .known-kind .ensures) ∙ not-true (c .before .known-kind .result) (c .if1 .taken))
+
+-- the kind and the degrees passed
+right : (c : tie.Else1) → let a = c .before .before .args in known (a .kind) (a .degree) (a .second) ≡ true
+right c = sym (c .before .known-kind .ensures) ∙ not-false (c .before .known-kind .result) (c .if1 .left)
+
+number-count-requires : tie.Need-number-count-requires
+number-count-requires c κs = search needs
+
+sub-all-within : tie.Need-sub-all-within
+sub-all-within c = search needs
+
+part-all-within-start : tie.Need-part-all-within-start
+part-all-within-start c = search needs
+
+part-all-within-end : tie.Need-part-all-within-end
+part-all-within-end c =
+    let s = c .before .before .before in
+    entries-long (s .args .kind) (s .args .degree) (s .args .second) (c .number-count .result) (length (s .args .entries .now)) (right (c .before)) (c .number-count .ensures .entries) (s .pre)
+
+all-within-requires : tie.Need-all-within-requires
+all-within-requires c κs = search needs
+
+-- what the test of the numbers says
+by-range : (c : tie.After-all-within) (b : Bool) → c .all-within .result ≡ b
+    → let a = c .before .before .before .before .before .args in
+    firstFailed (b else 10 ∷ []) ≡ firstFailed (handedTests (netFrom (a .kind) (a .degree) (a .second) (a .entries .now)))
+by-range c b h =
+    let a = c .before .before .before .before .before .args in
+    let n = c .before .before .number-count in
+    handed-range (a .kind) (a .degree) (a .second) (a .entries .now) (right (c .before .before .before)) (n .result) (n .ensures .entries) b (sym (c .all-within .ensures) ∙ h)
+
+returns-2 : tie.Need-returns-2
+returns-2 c = by-range (c .before) false (not-true (c .before .all-within .result) (c .if2 .taken))
+
+returns-3 : tie.Need-returns-3
+returns-3 c = by-range (c .before) true (not-false (c .before .all-within .result) (c .if2 .left))
+
+pub judge-net-spec : {M : Type 1} → statement M
+judge-net-spec =
+    tie.close
+    (tie.spec
+    known-kind-requires
+    returns
+    number-count-requires
+    sub-all-within
+    part-all-within-start
+    part-all-within-end
+    all-within-requires
+    returns-2
+    returns-3)

@@ -1,0 +1,52 @@
+-- What the private functions that make calls and first nets promise. They work on the part of the lent places that holds the entries.
+use Prim.Native.Nat.{ℕ, suc}
+use mathlib.Core.Path.{_≡_}
+use mathlib.Core.Bool.{Bool, _&&_}
+use mathlib.Core.List.{List}
+use lib.IntN.{ℤ}
+use lib.ListN.{length, take, drop}
+use Rattle.integers.specs.Test.{within, all}
+use Rattle.projection.specs.Projection.{isZero}
+use Rattle.entries.specs.Entries.{numberCount}
+use Rattle.kinds.specs.Kinds.{groupsOf}
+use Rattle.machine.specs.Refusals.{Test, firstFailed}
+use Rattle.machine.specs.Calls.{beforeSize}
+use Rattle.machine.specs.Steps.{pointValues}
+use Rattle.machine.specs.Nets.{Net, handedTests, netTests, accepted}
+use Rattle.machine.specs.Comparison.{Polynomials}
+use Rattle.machine.specs.First.{firstTests}
+use Rattle.machine.specs.Lent.{putAt, unlessRefused}
+use Rattle.machine.specs.declared.Call.{Call}
+
+-- the net of a kind and degrees whose entries are the first numbers of some places
+abbrev pub netFrom : ℕ → ℕ → ℕ → List ℤ → Net
+netFrom kind degree second places =
+    record { kind = kind; degree = degree; second = second; entries = take (numberCount (groupsOf kind degree second)) places }
+
+-- what the making of a call asks for: the places of the entries, a net that is not refused, and a call that is not refused for its arguments
+pub record InOrder (kind degree second : ℕ) (places : List ℤ) (call : Call) : Type 0 where
+  pub long : length places ≡ 180
+  pub net-passes : firstFailed (handedTests (netFrom kind degree second places)) ≡ 0
+  pub call-passes : firstFailed (beforeSize (groupsOf kind degree second) call) ≡ 0
+
+-- every weight is within its limit, and those past the vertices of the only group are 0: the tests of number 8 that speak of weights
+abbrev pub weightsFit : ℕ → List ℤ → Bool
+weightsFit n ws = all (within 4096) ws && all isZero (drop (suc n) ws)
+
+-- a call's number, and the places of the entries after it
+pub record Stepped (net : Net) (call : Call) (number : ℕ) (before after : List ℤ) : Type 0 where
+  pub number-is : number ≡ firstFailed (netTests net call)
+  pub places : after ≡ unlessRefused number (putAt 0 (accepted net call .left .entries) before) before
+
+-- a call's number, and the places lent for the numbers of a point after it
+pub record Pointed (net : Net) (call : Call) (number : ℕ) (before after : List ℤ) : Type 0 where
+  pub number-is : number ≡ firstFailed (netTests net call)
+  pub places : after ≡ unlessRefused number (putAt 0 (pointValues (accepted net call .answer)) before) before
+
+-- the tests of polynomials and the numbers of a frame before a net is made: those of a first net but for the last, which is of the net itself
+unfoldable pub beforeFirst : Polynomials → List ℤ → List Test
+beforeFirst f numbers = take 3 (firstTests f numbers)
+
+-- none of them fails
+abbrev pub FirstAccepted : Polynomials → List ℤ → Type 0
+FirstAccepted f numbers = firstFailed (beforeFirst f numbers) ≡ 0
