@@ -1,14 +1,30 @@
-/* Exact control nets of rational curves and triangular patches: the functions of libexports.a.
+/* Exact control nets of rational curves and triangular patches: the functions of libgadwemosh.a.
  *
- * Every function takes any numbers and any bytes, and answers with a number: 0 where nothing is
- * refused, or the cause (below). What it answers and writes is proved; the definitions are in
- * crates/machine/specs/Lent.antt, for records in crates/opening/specs/Opening.antt.
+ * TO BUILD, in the repository (Linux, x86-64):
  *
- * A buffer is a pointer with the number of its elements. What the proof takes for granted, the
- * caller sees to: the pointers are not null (also where a length is 0), they lead to as many
- * elements as are named, and a place that is written is in no other buffer of the same call.
+ *     rt staticlib gadwemosh
+ *     gcc -std=c11 -O2 -Iinclude your.c target/staticlib/libgadwemosh.a -o your
  *
- * A net is a run of GADWEMOSH_NET numbers or more that the caller lends:
+ * tests/callers/circle.c is a program to begin with. The library needs nothing but memcpy and memset of the
+ * C library. It allocates nothing and keeps nothing between calls, so threads may call it at the same time,
+ * each with buffers of its own.
+ *
+ * ANSWERS. Every function takes any numbers and any bytes, and answers with a number: 0 where nothing is
+ * refused, or the cause (GADWEMOSH_REFUSED_..., below). A refused call changes no net and writes no point,
+ * no projection and no text. What each function answers and writes is proved for all inputs; the definitions
+ * are in crates/machine/specs/Lent.antt, for records in crates/opening/specs/Opening.antt, for projections in
+ * crates/gadwemosh/specs/Projections.antt and for the text in crates/text/specs/Text.antt.
+ *
+ * BUFFERS. A buffer is a pointer with the number of its elements; the other pointers lead to one number
+ * each. What the proof takes for granted, the caller sees to: no pointer is null (a buffer of length 0 needs
+ * a pointer that is not null too), a pointer leads to as many elements as are named, and a place that is
+ * written is in no other buffer of the same call. Places past what a call writes keep their values.
+ *
+ * STACK. A call takes at most GADWEMOSH_STACK bytes of stack. Seen were 15 KB for a text, 11 KB for a field,
+ * 9 KB for opening, 7 KB for a first net and below 2 KB for the others (tests/callers/stack.c). At the first
+ * call the dynamic linker may take 3 KB more, when it looks up memcpy and memset.
+ *
+ * A NET is a run of GADWEMOSH_NET numbers or more that the caller lends:
  *
  *   place      number
  *   0          kind: 1 curve, 2 patch
@@ -19,12 +35,23 @@
  *   192        kept free for the largest component: not read, not written
  *   193 on     the caller's, where the run is longer
  *
- *   kind       entries              their numbers      order
- *   1 curve    m + 1                4 (m + 1)          copies of s rising, the others are r
- *   2 patch    (m + 1)(m + 2) / 2   2 (m + 1)(m + 2)   copies of r falling, then those of s falling
+ *   kind       entries              their numbers      the entry's first place
+ *   1 curve    m + 1                4 (m + 1)          12 + 4 j, with j copies of s and m - j of r
+ *   2 patch    (m + 1)(m + 2) / 2   2 (m + 1)(m + 2)   12 + 4 ((j + k)(j + k + 1) / 2 + k), with j copies of
+ *                                                      s, k of t and m - j - k of r
  *
- * Only kind, degrees and the numbers of the entries are read and written. All other places, those
- * between the last entry and 192 too, hold anything and keep their values. */
+ *   m                  1   2   3   4   5   6   7   8   9  10
+ *   entries of a curve 2   3   4   5   6   7   8   9  10  11
+ *   entries of a patch 3   6  10  15  21  28  36  45
+ *
+ * So the copies of s rise in a curve's net; in a patch's the copies of r fall, and for each of them those of
+ * s fall. The entries of a patch of degree 2 have the copies (2, 0, 0), (1, 1, 0), (1, 0, 1), (0, 2, 0),
+ * (0, 1, 1), (0, 0, 2) of r, s, t. Only kind, degrees and the numbers of the entries are read and written.
+ * All other places, those between the last entry and 192 too, hold anything and keep their values.
+ *
+ * LIMITS. Numbers of a net and of a point are at most GADWEMOSH_LARGEST, weights at most 4096, numbers of a
+ * first frame at most 4, coefficients at most 1048576, all of either sign. docs/RECORDS.md says more of
+ * all this, and what the bytes of a record mean. */
 #ifndef GADWEMOSH_H
 #define GADWEMOSH_H
 
@@ -39,29 +66,60 @@ extern "C" {
 #define GADWEMOSH_NET 193
 #define GADWEMOSH_ENTRIES 12
 
+/* How many entries a net of degree m has; this is also the number of monomials. */
+#define GADWEMOSH_CURVE_ENTRIES(m) ((m) + 1)
+#define GADWEMOSH_PATCH_ENTRIES(m) (((m) + 1) * ((m) + 2) / 2)
+
+/* The first of an entry's four places: with j copies of s, and k copies of t for a patch. */
+#define GADWEMOSH_CURVE_PLACE(j) (GADWEMOSH_ENTRIES + 4 * (j))
+#define GADWEMOSH_PATCH_PLACE(j, k) (GADWEMOSH_ENTRIES + 4 * (((j) + (k)) * ((j) + (k) + 1) / 2 + (k)))
+
+/* How many numbers of a frame and how many coefficients gadwemosh_first wants at least. */
+#define GADWEMOSH_FRAME 9
+#define GADWEMOSH_COEFFICIENTS 180
+
+/* The largest number of a net or a point, 2 to the 48th. */
+#define GADWEMOSH_LARGEST INT64_C(281474976710656)
+
+/* No accepted record and no text has more bytes, and no call takes more bytes of stack. */
+#define GADWEMOSH_LONGEST_RECORD 1017
+#define GADWEMOSH_LONGEST_TEXT 4096
+#define GADWEMOSH_STACK 16384
+
 /* Kinds. */
 #define GADWEMOSH_CURVE 1
 #define GADWEMOSH_PATCH 2
 
-/* Operations of a move. */
+/* Operations of a move, and vertices. */
 #define GADWEMOSH_REPLACE 1
 #define GADWEMOSH_FLIP 2
+#define GADWEMOSH_R 1
+#define GADWEMOSH_S 2
+#define GADWEMOSH_T 3 /* of a patch */
 
-/* Refusals (docs/RECORDS.md says more): 1 to 7 of a record, 4 to 7 of a first net, 4 and 8 to 10 of a
- * call on a net, 10 of a projection, 11 of every function. */
-#define GADWEMOSH_CUT_SHORT 1   /* the bytes end within a field */
-#define GADWEMOSH_TAG 2         /* a field that must not stand there, or a missing one */
-#define GADWEMOSH_LENGTH 3      /* a length that the field cannot have */
-#define GADWEMOSH_KIND 4        /* kind or a degree outside */
-#define GADWEMOSH_FRAME 5       /* a number of the frame outside, or determinant 0 */
-#define GADWEMOSH_COEFFICIENT 6 /* a coefficient outside */
-#define GADWEMOSH_FIRST_NET 7   /* a first net with a number beyond 2 to the 48th */
-#define GADWEMOSH_ARGUMENT 8    /* operation, vertex or weight outside, or an unused weight not 0 */
-#define GADWEMOSH_NO_WEIGHT 9   /* the replaced vertex, or every vertex of a point, has weight 0 */
-#define GADWEMOSH_RANGE 10      /* a number handed over, or a polar value, beyond 2 to the 48th */
-#define GADWEMOSH_SHORT 11      /* a buffer with too few places */
+/* Tags of the fields of a record. */
+#define GADWEMOSH_FIELD_KIND 1
+#define GADWEMOSH_FIELD_FRAME 2
+#define GADWEMOSH_FIELD_COEFFICIENTS 3
+#define GADWEMOSH_FIELD_MOVES 4
+#define GADWEMOSH_FIELD_POINT 5
 
-/* Answers of a projection besides 10 and 11. */
+/* Refusals: 1 to 7 of a record, 4 to 7 of a first net, 4 and 8 to 10 of a call on a net, 10 of a projection,
+ * 11 of every function but gadwemosh_field. Where several causes hold, 11 goes first; a record is judged from
+ * front to back, a first net in the order 4, 5, 6, 7, a call in the order 4, 10 of the net, 8, 9, 10. */
+#define GADWEMOSH_REFUSED_CUT_SHORT 1   /* the bytes end within a field */
+#define GADWEMOSH_REFUSED_TAG 2         /* a field that must not stand there, or a missing one */
+#define GADWEMOSH_REFUSED_LENGTH 3      /* a length that the field cannot have */
+#define GADWEMOSH_REFUSED_KIND 4        /* kind or a degree outside */
+#define GADWEMOSH_REFUSED_FRAME 5       /* a number of the frame beyond 4, or determinant 0 */
+#define GADWEMOSH_REFUSED_COEFFICIENT 6 /* a coefficient beyond 1048576 */
+#define GADWEMOSH_REFUSED_FIRST_NET 7   /* a first net with a number beyond GADWEMOSH_LARGEST */
+#define GADWEMOSH_REFUSED_ARGUMENT 8    /* operation, vertex or weight outside, or an unused weight not 0 */
+#define GADWEMOSH_REFUSED_NO_WEIGHT 9   /* the replaced vertex, or every vertex of a point, has weight 0 */
+#define GADWEMOSH_REFUSED_RANGE 10      /* a number handed over, or a polar value, beyond GADWEMOSH_LARGEST */
+#define GADWEMOSH_REFUSED_SHORT 11      /* a buffer with too few places */
+
+/* Outcomes of a projection. */
 #define GADWEMOSH_FINITE 1
 #define GADWEMOSH_DIRECTION 2
 #define GADWEMOSH_NOWHERE 3
@@ -71,17 +129,36 @@ extern "C" {
 uint8_t gadwemosh_open(const uint8_t *record, size_t record_length, int64_t *net, size_t net_length,
                        uint64_t *offset);
 
-/* Makes the first net of polynomials over a frame, without a record. The frame has nine numbers, of
- * which a curve takes the first four; the coefficients are 180, four to a monomial in the record's
- * order, of which the kind and degree take as many as their entries have numbers. What is not taken
- * holds anything. A refusal is 4, 5, 6 or 7, or 11 where one of the three buffers is too short, and
- * writes nothing. */
+/* Finds a field of a record. The answer is the record's refusal, as that of gadwemosh_open to a net of
+ * enough places: each lookup judges the whole record. The field's value has `length` bytes and begins at the
+ * byte `start` of the record. Where the record is refused or has no field of this tag, `start` is the record's
+ * length and `length` is 0.
+ *
+ *   tag            value, numbers with the high byte first, in two's complement
+ *   1 kind         a byte for the kind and a byte for the degree
+ *   2 frame        r and s as T, Z, or r, s and t as U, V, Z, of two bytes each
+ *   3 coefficients x, y, z, w of each monomial, of four bytes each
+ *   4 moves        for each of up to 32 moves a byte for the operation, a byte for the vertex, and the weights
+ *                  of r, s and t, of two bytes each
+ *   5 point        the weights of r and s, and for a patch of t, of two bytes each
+ *
+ * The moves and the point of a record were not judged when it was opened: they are refused, or not, when
+ * they are made. Fields 4 and 5 may be absent. */
+uint8_t gadwemosh_field(const uint8_t *record, size_t record_length, uint8_t tag, uint64_t *start,
+                        uint64_t *length);
+
+/* Makes the first net of polynomials over a frame, without a record. The frame is r, s as T, Z, four numbers,
+ * or r, s, t as U, V, Z, nine numbers. The coefficients are x, y, z, w of each monomial: the exponent of T
+ * rising for a curve, so Z^m is first; for a patch the exponent of U rising and for each of them that of V
+ * rising, so Z^2, VZ, V^2, UZ, UV, U^2 in degree 2. The buffers have GADWEMOSH_FRAME and
+ * GADWEMOSH_COEFFICIENTS numbers or more; what kind and degree do not use holds anything. A refusal is 4, 5, 6
+ * or 7, or 11 where one of the three buffers is too short, and writes nothing. */
 uint8_t gadwemosh_first(uint8_t kind, uint8_t degree, const int64_t *frame, size_t frame_length,
                         const int64_t *coefficients, size_t coefficients_length, int64_t *net,
                         size_t net_length);
 
-/* Replaces (1) or flips (2) a vertex: 1 is r, 2 is s, 3 is the t of a patch. The weights are those of
- * r, s and t; unused ones are 0. A refused move leaves the net as it was. */
+/* Replaces (1) a vertex by the point at the weights, or flips (2) it. The weights are those of r, s and t;
+ * unused ones are 0: the third of a curve, all of a flip. A refused move leaves the net as it was. */
 uint8_t gadwemosh_move(int64_t *net, size_t net_length, uint8_t operation, uint8_t vertex, int64_t r,
                        int64_t s, int64_t t);
 
@@ -90,14 +167,16 @@ uint8_t gadwemosh_move(int64_t *net, size_t net_length, uint8_t operation, uint8
 uint8_t gadwemosh_point(const int64_t *net, size_t net_length, int64_t r, int64_t s, int64_t t,
                         int64_t *found, size_t found_length);
 
-/* Projects four numbers. A finite point (1) is written to `bits`, as the bit patterns of three doubles;
- * a direction (2) is written to `direction`, as three whole numbers; nowhere (3) writes nothing. Both
- * buffers have three places or more. */
-uint8_t gadwemosh_project(int64_t x, int64_t y, int64_t z, int64_t w, uint64_t *bits,
+/* Projects four numbers. `outcome` says where they lie: a finite point (1) is written to `bits`, as the bit
+ * patterns of three doubles; a direction (2) is written to `direction`, as three whole numbers; nowhere (3)
+ * writes nothing else. Both buffers have three places or more. Beside a refusal, which is 10 or 11, `outcome`
+ * is 0 and nothing else is written. */
+uint8_t gadwemosh_project(int64_t x, int64_t y, int64_t z, int64_t w, uint8_t *outcome, uint64_t *bits,
                           size_t bits_length, int64_t *direction, size_t direction_length);
 
-/* Writes the text that the program netprint prints for a record. `length` is how many bytes it has, and
- * 0 where the answer is 11, which writes no text. A text never has more than 4096 bytes. */
+/* Writes the text that the program netprint prints for a record, accepted or refused. `length` is how many
+ * bytes it has, at most GADWEMOSH_LONGEST_TEXT; there is no 0 byte at its end. Where the answer is 11 `out` has
+ * fewer bytes than the text, none of it is written, and `length` is 0. */
 uint8_t gadwemosh_text(const uint8_t *record, size_t record_length, uint8_t *out, size_t out_length,
                        uint64_t *length);
 

@@ -1,32 +1,16 @@
 //! Times of the static library beside the plain Rust version, in one run: each row alternates the two
 //! and takes the best of many rounds. The figure is the ratio of the two times.
+#[allow(dead_code)]
 mod plain;
 mod records;
 
+use gadwemosh::raw;
 use plain::NET;
 use records::record;
 use std::fs::File;
 use std::hint::black_box;
 use std::process::{Command, Stdio};
 use std::time::Instant;
-
-#[link(name = "exports", kind = "static")]
-extern "C" {
-    fn gadwemosh_open(input: *const u8, input_len: usize, net: *mut i64, net_len: usize, offset: *mut u64) -> u8;
-    fn gadwemosh_move(net: *mut i64, net_len: usize, operation: u8, vertex: u8, r: i64, s: i64, t: i64) -> u8;
-    fn gadwemosh_point(net: *const i64, net_len: usize, r: i64, s: i64, t: i64, found: *mut i64, found_len: usize) -> u8;
-    fn gadwemosh_first(
-        kind: u8,
-        degree: u8,
-        frame: *const i64,
-        frame_len: usize,
-        coefficients: *const i64,
-        coefficients_len: usize,
-        net: *mut i64,
-        net_len: usize,
-    ) -> u8;
-    fn gadwemosh_text(input: *const u8, input_len: usize, out: *mut u8, out_len: usize, length: *mut u64) -> u8;
-}
 
 /// The best time of a call in nanoseconds, of both, in turn.
 fn both(mut ours: impl FnMut(), mut theirs: impl FnMut()) -> (f64, f64) {
@@ -72,16 +56,14 @@ fn main() {
         let (mut lent, mut net) = ([0i64; NET], [0i64; NET]);
         let mut offset = 0u64;
         let mut layout = plain::Layout::default();
-        unsafe {
-            assert_eq!(gadwemosh_open(s.as_ptr(), s.len(), lent.as_mut_ptr(), NET, &mut offset), 0);
-        }
+        assert_eq!(raw::open(&s, &mut lent, &mut offset), 0);
         assert_eq!(plain::open(&s, &mut net, &mut layout), (0, 0));
         assert_eq!(lent, net);
         row(
             &format!("open {word} {degree}"),
             both(
-                || unsafe {
-                    black_box(gadwemosh_open(black_box(s.as_ptr()), s.len(), lent.as_mut_ptr(), NET, &mut offset));
+                || {
+                    black_box(raw::open(black_box(&s), &mut lent, &mut offset));
                 },
                 || {
                     black_box(plain::open(black_box(&s), &mut net, &mut layout));
@@ -94,17 +76,8 @@ fn main() {
         row(
             &format!("first net {word} {degree}"),
             both(
-                || unsafe {
-                    black_box(gadwemosh_first(
-                        kind,
-                        degree,
-                        black_box(frame.as_ptr()),
-                        9,
-                        coefficients.as_ptr(),
-                        180,
-                        lent.as_mut_ptr(),
-                        NET,
-                    ));
+                || {
+                    black_box(raw::first(kind, degree, black_box(&frame), &coefficients, &mut lent));
                 },
                 || {
                     black_box(plain::first_of(kind, degree, black_box(&frame), &coefficients, &mut made));
@@ -119,8 +92,8 @@ fn main() {
             row(
                 &format!("replace {word} {degree} vertex {vertex}"),
                 both(
-                    || unsafe {
-                        black_box(gadwemosh_move(black_box(a.as_mut_ptr()), NET, 1, vertex, w[0], w[1], w[2]));
+                    || {
+                        black_box(raw::make_move(black_box(&mut a), raw::REPLACE, vertex, w));
                     },
                     || {
                         black_box(plain::replace(black_box(&mut b), vertex, black_box(w)));
@@ -134,8 +107,8 @@ fn main() {
         row(
             &format!("point {word} {degree}"),
             both(
-                || unsafe {
-                    black_box(gadwemosh_point(black_box(lent.as_ptr()), NET, 1, 1, t, f.as_mut_ptr(), 4));
+                || {
+                    black_box(raw::point(black_box(&lent), [1, 1, t], &mut f));
                 },
                 || {
                     black_box(plain::point(black_box(&net), black_box([1, 1, t]), &mut g));
@@ -148,8 +121,8 @@ fn main() {
         row(
             &format!("text {word} {degree}"),
             both(
-                || unsafe {
-                    black_box(gadwemosh_text(black_box(s.as_ptr()), s.len(), o.as_mut_ptr(), 4096, &mut n));
+                || {
+                    black_box(raw::text(black_box(&s), &mut o, &mut n));
                 },
                 || {
                     black_box(plain::text(black_box(&s), &mut p));

@@ -1,28 +1,12 @@
 //! Each call once, by the library and in plain Rust, for counting instructions:
 //! `one KIND DEGREE OPERATION VERTEX`. The functions with C names are what the counter looks for.
+#[allow(dead_code)]
 mod plain;
 mod records;
 
+use gadwemosh::raw;
 use plain::{NET, PLACES};
 use std::hint::black_box;
-
-#[link(name = "exports", kind = "static")]
-extern "C" {
-    fn gadwemosh_open(input: *const u8, input_len: usize, net: *mut i64, net_len: usize, offset: *mut u64) -> u8;
-    fn gadwemosh_first(
-        kind: u8,
-        degree: u8,
-        frame: *const i64,
-        frame_len: usize,
-        coefficients: *const i64,
-        coefficients_len: usize,
-        net: *mut i64,
-        net_len: usize,
-    ) -> u8;
-    fn gadwemosh_move(net: *mut i64, net_len: usize, operation: u8, vertex: u8, r: i64, s: i64, t: i64) -> u8;
-    fn gadwemosh_point(net: *const i64, net_len: usize, r: i64, s: i64, t: i64, found: *mut i64, found_len: usize) -> u8;
-    fn gadwemosh_text(input: *const u8, input_len: usize, out: *mut u8, out_len: usize, length: *mut u64) -> u8;
-}
 
 #[no_mangle]
 #[inline(never)]
@@ -66,13 +50,11 @@ fn main() {
 
     let (mut lent, mut made, mut found, mut out) = ([0i64; NET], [0i64; NET], [0i64; 4], [0u8; 4096]);
     let (mut offset, mut length) = (0u64, 0u64);
-    let number = unsafe {
-        gadwemosh_open(s.as_ptr(), s.len(), lent.as_mut_ptr(), NET, &mut offset)
-            + gadwemosh_first(kind, degree, frame.as_ptr(), 9, coefficients.as_ptr(), PLACES, made.as_mut_ptr(), NET)
-            + gadwemosh_point(lent.as_ptr(), NET, point[0], point[1], point[2], found.as_mut_ptr(), 4)
-            + gadwemosh_move(lent.as_mut_ptr(), NET, operation, vertex, weights[0], weights[1], weights[2])
-            + gadwemosh_text(s.as_ptr(), s.len(), out.as_mut_ptr(), 4096, &mut length)
-    };
+    let number = raw::open(&s, &mut lent, &mut offset)
+        + raw::first(kind, degree, &frame, &coefficients, &mut made)
+        + raw::point(&lent, point, &mut found)
+        + raw::make_move(&mut lent, operation, vertex, weights)
+        + raw::text(&s, &mut out, &mut length);
     assert_eq!(number, 0);
 
     let (mut net, mut first, mut same, mut text) = ([0i64; NET], [0i64; NET], [0i64; 4], [0u8; 4096]);

@@ -1,5 +1,5 @@
 /* Calls each function at the edges of what it takes: short and long buffers, refused calls, places that
- * must stay. Prints how many answers were right, and each wrong one. */
+ * must stay. Prints how many answers were right, and each wrong one. Standard input is the circle's record. */
 #include "gadwemosh.h"
 
 #include <stdio.h>
@@ -198,19 +198,116 @@ static void test_point(void) {
     EXPECT(found[0] == 6 && found[1] == 6 && found[2] == 2 && found[3] == 18 && found[4] == -5);
 }
 
-static void test_project(void) {
+/* A refused projection: the number, outcome 0, and every other place as it was. */
+static void test_no_projection(int number, int64_t w, size_t bits_length, size_t direction_length) {
+    uint8_t outcome = 77;
     uint64_t bits[4] = {1, 2, 3, 4};
-    int64_t direction[4] = {1, 2, 3, 4};
-    EXPECT(gadwemosh_project(6, 8, 0, 10, bits, 2, direction, 4) == 11);
-    EXPECT(gadwemosh_project(6, 8, 0, 10, bits, 4, direction, 2) == 11);
-    EXPECT(gadwemosh_project(6, 8, 0, INT64_MIN, bits, 4, direction, 4) == 10);
-    EXPECT(gadwemosh_project(0, 0, 0, 0, bits, 4, direction, 4) == 3);
-    EXPECT(bits[0] == 1 && bits[1] == 2 && bits[2] == 3 && direction[0] == 1);
-    EXPECT(gadwemosh_project(6, 8, 0, 10, bits, 4, direction, 4) == 1);
+    int64_t direction[4] = {5, 6, 7, 8};
+    EXPECT(gadwemosh_project(6, 8, 0, w, &outcome, bits, bits_length, direction, direction_length) == number);
+    EXPECT(outcome == 0);
+    EXPECT(bits[0] == 1 && bits[1] == 2 && bits[2] == 3 && bits[3] == 4);
+    EXPECT(direction[0] == 5 && direction[1] == 6 && direction[2] == 7 && direction[3] == 8);
+}
+
+static void test_project(void) {
+    uint8_t outcome = 77;
+    uint64_t bits[4] = {1, 2, 3, 4};
+    int64_t direction[4] = {5, 6, 7, 8};
+    test_no_projection(11, 10, 2, 4);
+    test_no_projection(11, 10, 0, 4);
+    test_no_projection(11, 10, 4, 2);
+    test_no_projection(11, 0, 4, 0);
+    test_no_projection(10, INT64_MIN, 4, 4);
+    test_no_projection(10, GADWEMOSH_LARGEST + 1, 3, 3);
+    test_no_projection(10, -GADWEMOSH_LARGEST - 1, 3, 3);
+    /* a short buffer comes before a number out of range */
+    test_no_projection(11, INT64_MIN, 2, 3);
+    EXPECT(gadwemosh_project(0, 0, 0, 0, &outcome, bits, 4, direction, 4) == 0 && outcome == GADWEMOSH_NOWHERE);
+    EXPECT(bits[0] == 1 && bits[1] == 2 && bits[2] == 3 && bits[3] == 4);
+    EXPECT(direction[0] == 5 && direction[1] == 6 && direction[2] == 7 && direction[3] == 8);
+    EXPECT(gadwemosh_project(6, 8, 0, 10, &outcome, bits, 3, direction, 3) == 0 && outcome == GADWEMOSH_FINITE);
     EXPECT(bits[0] == UINT64_C(0x3fe3333333333333) && bits[1] == UINT64_C(0x3fe999999999999a));
-    EXPECT(bits[2] == 0 && bits[3] == 4 && direction[0] == 1);
-    EXPECT(gadwemosh_project(-9, 9, 0, 0, bits, 4, direction, 4) == 2);
-    EXPECT(direction[0] == 1 && direction[1] == -1 && direction[2] == 0 && direction[3] == 4);
+    EXPECT(bits[2] == 0 && bits[3] == 4);
+    EXPECT(direction[0] == 5 && direction[1] == 6 && direction[2] == 7 && direction[3] == 8);
+    /* 0 over a negative w is positive zero */
+    EXPECT(gadwemosh_project(0, 0, GADWEMOSH_LARGEST, -GADWEMOSH_LARGEST, &outcome, bits, 4, direction, 4) == 0);
+    EXPECT(outcome == GADWEMOSH_FINITE && bits[0] == 0 && bits[1] == 0 && bits[2] == UINT64_C(0xbff0000000000000));
+    bits[0] = 1;
+    EXPECT(gadwemosh_project(-9, 9, 0, 0, &outcome, bits, 4, direction, 4) == 0 && outcome == GADWEMOSH_DIRECTION);
+    EXPECT(direction[0] == 1 && direction[1] == -1 && direction[2] == 0 && direction[3] == 8);
+    EXPECT(bits[0] == 1 && bits[1] == 0 && bits[3] == 4);
+}
+
+/* What a lookup must answer and tell. */
+static void test_field(const uint8_t *bytes, size_t size, int tag, int number, uint64_t at, uint64_t long_is) {
+    uint64_t start = 7777, value = 7777;
+    EXPECT(gadwemosh_field(bytes, size, (uint8_t)tag, &start, &value) == number && start == at && value == long_is);
+}
+
+/* No field, whatever the tag. */
+static void test_no_fields(const uint8_t *bytes, size_t size, int number) {
+    for (int tag = 0; tag < 256; tag++)
+        test_field(bytes, size, tag, number, size, 0);
+}
+
+static void test_fields(void) {
+    uint8_t bytes[2048];
+    size_t size = 0;
+    /* the circle's record: fields 1, 2, 3 and 5 */
+    test_field(record, length, GADWEMOSH_FIELD_KIND, 0, 3, 2);
+    test_field(record, length, GADWEMOSH_FIELD_FRAME, 0, 8, 8);
+    test_field(record, length, GADWEMOSH_FIELD_COEFFICIENTS, 0, 19, 48);
+    test_field(record, length, GADWEMOSH_FIELD_MOVES, 0, length, 0);
+    test_field(record, length, GADWEMOSH_FIELD_POINT, 0, 70, 4);
+    test_field(record, length, 0, 0, length, 0);
+    for (int tag = 6; tag < 256; tag++)
+        test_field(record, length, tag, 0, length, 0);
+    /* without the point, with moves of no bytes, and with two moves */
+    test_field(record, 67, GADWEMOSH_FIELD_POINT, 0, 67, 0);
+    memcpy(bytes, record, 67);
+    memcpy(bytes + 67, "\4\0\0\5\0\4\0\1\0\1", 10);
+    test_field(bytes, 70, GADWEMOSH_FIELD_MOVES, 0, 70, 0);
+    test_field(bytes, 77, GADWEMOSH_FIELD_MOVES, 0, 70, 0);
+    test_field(bytes, 77, GADWEMOSH_FIELD_POINT, 0, 73, 4);
+    bytes[69] = 16;
+    memset(bytes + 70, 255, 16);
+    test_field(bytes, 86, GADWEMOSH_FIELD_MOVES, 0, 70, 16);
+    test_field(bytes, 86, GADWEMOSH_FIELD_POINT, 0, 86, 0);
+    /* 32 moves: a length of two bytes */
+    bytes[68] = 1, bytes[69] = 0;
+    memset(bytes + 70, 255, 256);
+    memcpy(bytes + 326, "\5\0\4\0\1\0\1", 7);
+    test_field(bytes, 333, GADWEMOSH_FIELD_MOVES, 0, 70, 256);
+    test_field(bytes, 333, GADWEMOSH_FIELD_POINT, 0, 329, 4);
+    /* refused records: empty, cut, a tag too many, a length, a kind, a frame, a coefficient */
+    test_no_fields(record, 0, 2);
+    test_no_fields(record, 30, 1);
+    test_no_fields(record, 16, 2);
+    memcpy(bytes, record, length);
+    bytes[67] = 6;
+    test_no_fields(bytes, length, 2);
+    bytes[67] = 5, bytes[69] = 6;
+    test_no_fields(bytes, length, 3);
+    bytes[69] = 4, bytes[3] = 3;
+    test_no_fields(bytes, length, 4);
+    bytes[3] = 1, bytes[9] = 5;
+    test_no_fields(bytes, length, 5);
+    bytes[9] = 0, bytes[19] = 1;
+    test_no_fields(bytes, length, 6);
+    /* refused 7: degree 10, all coefficients 1048576 over (4, 3), (4, 4), with a move and a point */
+    memcpy(bytes, "\1\0\2\1\12\2\0\10\0\4\0\3\0\4\0\4\3\0\260", 19);
+    for (size = 19; size < 19 + 176; size += 4)
+        memcpy(bytes + size, "\0\20\0\0", 4);
+    memcpy(bytes + size, "\4\0\10\2\1\0\0\0\0\0\0\5\0\4\0\1\0\1", 18);
+    test_no_fields(bytes, size, 7);
+    test_no_fields(bytes, size + 11, 7);
+    test_no_fields(bytes, size + 18, 7);
+    /* the same with small coefficients has all five */
+    for (size = 19; size < 19 + 176; size += 4)
+        bytes[size + 1] = 0;
+    test_field(bytes, size + 18, GADWEMOSH_FIELD_COEFFICIENTS, 0, 19, 176);
+    test_field(bytes, size + 18, GADWEMOSH_FIELD_MOVES, 0, size + 3, 8);
+    test_field(bytes, size + 18, GADWEMOSH_FIELD_POINT, 0, size + 14, 4);
 }
 
 static void test_text(void) {
@@ -223,6 +320,28 @@ static void test_text(void) {
     EXPECT(size == 0 && out[0] == '-');
     EXPECT(gadwemosh_text(record, length, out, sizeof out, &size) == 0);
     EXPECT(size == strlen(text) && memcmp(out, text, size) == 0 && out[size] == '-');
+    memset(out, '-', sizeof out);
+    EXPECT(gadwemosh_text(record, length, out, strlen(text), &size) == 0);
+    EXPECT(size == strlen(text) && memcmp(out, text, size) == 0 && out[size] == '-');
+    /* a refused record has a text too */
+    memset(out, '-', sizeof out);
+    EXPECT(gadwemosh_text(record, 0, out, 0, &size) == 11 && size == 0 && out[0] == '-');
+    EXPECT(gadwemosh_text(record, 0, out, 14, &size) == 11 && size == 0 && out[0] == '-');
+    EXPECT(gadwemosh_text(record, 0, out, 15, &size) == 0 && size == 15);
+    EXPECT(memcmp(out, "refused 2 at 0\n-", 16) == 0);
+}
+
+/* The header's own arithmetic: entries follow each other in order, four places each. */
+static void test_places(void) {
+    for (int m = 1; m <= 10; m++) {
+        EXPECT(GADWEMOSH_CURVE_PLACE(m) == GADWEMOSH_ENTRIES + 4 * (GADWEMOSH_CURVE_ENTRIES(m) - 1));
+        int place = GADWEMOSH_ENTRIES;
+        for (int i = m; i >= 0; i--)
+            for (int j = m - i; j >= 0; j--, place += 4)
+                EXPECT(GADWEMOSH_PATCH_PLACE(j, m - i - j) == place);
+        EXPECT(place == GADWEMOSH_ENTRIES + 4 * GADWEMOSH_PATCH_ENTRIES(m));
+    }
+    EXPECT(GADWEMOSH_PATCH_PLACE(0, 8) + 4 == GADWEMOSH_NET - 1);
 }
 
 int main(void) {
@@ -233,7 +352,9 @@ int main(void) {
     test_move();
     test_point();
     test_project();
+    test_fields();
     test_text();
+    test_places();
     printf("%d right, %d wrong\n", right, wrong);
     return wrong != 0;
 }

@@ -325,6 +325,21 @@ def record(kind, degree, frame, coeffs, moves=None, point=None):
     return out
 
 
+def hexlines(b):
+    """One field per paragraph line, value wrapped at 32 bytes."""
+    out, p = [], 0
+    while p < len(b):
+        if len(b) - p < 3:
+            out.append(b[p:].hex())
+            break
+        ln = int.from_bytes(b[p + 1:p + 3], "big")
+        out.append(b[p:p + 3].hex())
+        v = b[p + 3:p + 3 + ln]
+        out += [v[i:i + 32].hex() for i in range(0, len(v), 32)]
+        p += 3 + ln
+    return "".join(l + "\n" for l in out if l)
+
+
 # -------------------------------------------------------------------- selftest
 
 def net_move(kind, m, entries_of, frame_size, vertex, weights):

@@ -1,5 +1,5 @@
 #!/usr/bin/env python3
-"""Reads published.txt, records/, expected*/ and samples/ back and checks them.
+"""Reads published.txt, records/, expected*/ and ../samples back and checks them.
 
     python3 check.py                 against calculator.py
     python3 check.py ./netprint      also runs that program on every record
@@ -14,6 +14,7 @@ from fractions import Fraction as Fr
 import calculator as calc
 
 HERE = os.path.dirname(os.path.abspath(__file__))
+SAMPLES = os.path.join("..", "samples")     # seen from here
 
 
 def load(folder, name, ext):
@@ -113,9 +114,9 @@ def main(argv):
                       for f in os.listdir(os.path.join(HERE, d))}
     for k in sorted(count):
         print("%3d  net %-8s polynomials %-8s %s" % ((count[k],) + k))
-    names = sorted(f[:-4] for f in os.listdir(os.path.join(HERE, "samples")) if f.endswith(".hex"))
+    names = sorted(f[:-4] for f in os.listdir(os.path.join(HERE, SAMPLES)) if f.endswith(".hex"))
     for name in names:
-        same(name, hexbytes(load("samples", name, ".hex")), load("samples", name, ".txt"))
+        same(name, hexbytes(load(SAMPLES, name, ".hex")), load(SAMPLES, name, ".txt"))
     print("%d published nets, %d samples, %d texts compared, %d failed"
           % (len(labels), len(names), runs, fails))
     return 1 if fails else 0

@@ -389,21 +389,6 @@ def judge(n):
              votes=votes)
 
 
-def hexlines(b):
-    """One field per paragraph line, value wrapped at 32 bytes."""
-    out, p = [], 0
-    while p < len(b):
-        if len(b) - p < 3:
-            out.append(b[p:].hex())
-            break
-        ln = int.from_bytes(b[p + 1:p + 3], "big")
-        out.append(b[p:p + 3].hex())
-        v = b[p + 3:p + 3 + ln]
-        out += [v[i:i + 32].hex() for i in range(0, len(v), 32)]
-        p += 3 + ln
-    return "".join(l + "\n" for l in out if l)
-
-
 def text(n, rows, atbits):
     """netprint's text from printed rows times the factor."""
     ls = ["%s %d %d" % ("curve" if n["kind"] == 1 else "patch", n["degree"],
@@ -480,7 +465,7 @@ def main():
         rec = calc.record(n["kind"], n["degree"], n["frame"], n["coeffs"],
                           n["moves"] or None, n["point"])
         with open(os.path.join(HERE, "records", n["label"] + ".hex"), "w") as f:
-            f.write(hexlines(rec))
+            f.write(calc.hexlines(rec))
         verdict = "misprint" if n["bad"] else "equal"
         rows = [list(p) for p in n["ints"]]
         for i, c, _, should in n["bad"]:

@@ -1,5 +1,5 @@
 #!/usr/bin/env python3
-"""Packs samples/ and the published nets for the program `vectors` of the gate.
+"""Packs tests/samples and the published nets for the program `vectors` of the gate.
 
     python3 pack.py            writes crates/vectors/stdin and crates/vectors/stdout
     python3 pack.py --check    writes nothing; says whether the two files are up to date
@@ -8,7 +8,7 @@ Run it after make_samples.py or make_published.py has changed a record or a text
 
 A vector is a label (one byte with its length, then its letters), a record and
 the expected text (each: two bytes with its length, the high one first, then its
-bytes).  Samples come first, in the order of samples/INDEX, then the published
+bytes).  Samples come first, in the order of their INDEX, then the published
 nets, chapter after chapter, in the order of published.txt.
 
 Nothing here runs the program or the library.  For every vector but one kind the
@@ -24,7 +24,7 @@ import sys
 from fractions import Fraction
 
 import calculator as calc
-from check import HERE, blocks, hexbytes, load
+from check import HERE, SAMPLES, blocks, hexbytes, load
 
 CRATE = os.path.join(HERE, "..", "..", "crates", "vectors")
 MOST = 4096          # the program's buffers for a record and for a text
@@ -32,7 +32,7 @@ MOST = 4096          # the program's buffers for a record and for a text
 
 def index():
     """The samples' names, in the order of INDEX."""
-    for line in open(os.path.join(HERE, "samples", "INDEX")):
+    for line in open(os.path.join(HERE, SAMPLES, "INDEX")):
         if line.strip() and not line.startswith("#"):
             yield line.split()[0]
 
@@ -66,7 +66,7 @@ def first_difference(a, b):
 def vectors():
     """(label, record, expected text, what the program must say of it)."""
     for name in index():
-        yield name, hexbytes(load("samples", name, ".hex")), load("samples", name, ".txt"), "equal"
+        yield name, hexbytes(load(SAMPLES, name, ".hex")), load(SAMPLES, name, ".txt"), "equal"
     for b in published():
         name = b["net"]
         record = hexbytes(load("records", name, ".hex"))

@@ -24,9 +24,11 @@ use Rattle.bytes.specs.Numbers.{item, unsignedOf, twosComplement, signed
 pub from-start : (l : List ℕ) (at : ℕ) → at ≤ length l → take (length l - at) (drop at l) ≡ drop at l
 from-start l at h = take-all (length l - at) (drop at l) (simp length-drop (omega arith))
 
+pub none-left : (l : List ℕ) → take (length l - length l) (drop (length l) l) ≡ []
+none-left l = ap (take (length l - length l)) (drop-length l) ∙ take-nil (length l - length l)
+
 pub past-end : (l : List ℕ) (at : ℕ) → length l < at → take (length l - length l) (drop (length l) l) ≡ drop at l
-past-end l at h =
-    ap (take (length l - length l)) (drop-length l) ∙ take-nil (length l - length l) ∙ sym (drop-of-length-le l {i = at} (omega arith))
+past-end l at h = none-left l ∙ sym (drop-of-length-le l {i = at} (omega arith))
 
 -- ---- items
 

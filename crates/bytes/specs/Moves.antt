@@ -1,4 +1,4 @@
--- The moves and the point of a record (document 01, 'The record', tags 4 and 5), decoded. Nothing is refused here: that is left to the making of them.
+-- The moves and the point of a record (docs/RECORDS.md, 'The bytes', fields 4 and 5), decoded. Nothing is refused here: that is left to the making of them.
 use Prim.Native.Nat.{ℕ}
 use mathlib.Core.Bool.{Bool, _&&_, _||_, cond}
 use mathlib.Core.List.{List}

@@ -1,4 +1,4 @@
--- Numbers in a record (document 01, 'The record'): how bytes make a number, without a sign or with one.
+-- Numbers in a record (docs/RECORDS.md, 'The bytes'): how bytes make a number, without a sign or with one.
 -- A part of a record is a list of bytes. It holds items of n bytes each, one after the other, and item 0 begins where the part begins.
 use Prim.Native.Nat.{ℕ, _+_, _-_, _*_, _/_, _^_}
 use mathlib.Core.Bool.{cond}

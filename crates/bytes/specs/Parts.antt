@@ -1,5 +1,5 @@
 -- Parts of a slice: a part is no copy, and lies where the slice does.
-use Prim.Native.Nat.{ℕ, _+_}
+use Prim.Native.Nat.{ℕ, _+_, _*_, _/_}
 use mathlib.Core.Path.{_≡_}
 use mathlib.Core.Bool.{cond}
 use mathlib.Core.List.{List}
@@ -14,3 +14,7 @@ pub record Lies (place whole : ℕ × ℕ) (k : ℕ) : Type 0 where
 -- an offset, or the end where it is past the end
 abbrev pub toEnd : List ℕ → ℕ → ℕ
 toEnd s at = cond (ltb (length s) at) (length s) at
+
+-- where item k of n bytes lies; the end where the part does not have all its bytes
+abbrev pub itemPlace : ℕ → List ℕ → ℕ → ℕ
+itemPlace n part k = cond (ltb k (length part / n)) (n * k) (length part)

@@ -5,7 +5,7 @@
 // Moves (how bytes make a move or the weights of a point).
 ghost use mathlib.Core.Path.{_≡_};
 ghost use mathlib.Core.Bool.{cond};
-ghost use Prim.Native.Nat.{ℕ, _+_, _-_, _*_, _/_, _<_, _≤_};
+ghost use Prim.Native.Nat.{_+_, _-_, _*_, _/_, _<_, _≤_};
 ghost use lib.Dec.{ltb};
 ghost use lib.IntN.{pos, negℤ};
 ghost use lib.ListN.{length, drop, take, getD};
@@ -18,7 +18,7 @@ ghost use Rattle.bytes.specs.Numbers.{
   numbersTo,
   frameNumbers,
 };
-ghost use Rattle.bytes.specs.Parts.{Lies, toEnd};
+ghost use Rattle.bytes.specs.Parts.{Lies, toEnd, itemPlace};
 ghost use Rattle.bytes.specs.Moves.{weightsOf, proper, moveAt, callAt, callOf};
 use machine::Weights;
 
@@ -71,12 +71,13 @@ pub fn byte_at(part: &[u8], k: usize) -> u8
     part[k]
 }
 
-// The eight bytes of move k; none where the part does not have them all.
+// The eight bytes of move k; where the part does not have them all, the empty part at its end.
 fn move_bytes(part: &[u8], k: usize) -> &[u8]
-    ensures { λ r. ⌜ now r ≡ item 8 (now (part .entry)) k ⌝ }
+    ensures bytes { λ r. ⌜ now r ≡ item 8 (now (part .entry)) k ⌝ }
+    ensures place { λ r. ⌜ Lies (r .ptr) (part .entry .ptr) (itemPlace 8 (now (part .entry)) k) ⌝ }
 {
     if part.len() / 8 <= k {
-        return &part[0..0];
+        return &part[part.len()..];
     }
     let start = 8 * k;
     &part[start..start + 8]

@@ -10,7 +10,7 @@ use lib.IntN.{ℤ}
 use lib.ListN.{length, getD, length-append, length-map, List·getD-append}
 use lib.Seq.{getD-append-add}
 use Rattle.polar.specs.Order.{counts}
-use Rattle.polar.specs.Groups.{Group, head, pairs, countsOver}
+use Rattle.polar.specs.Groups.{Group, pairs, countsOver}
 use Rattle.polar.proofs.Order.{counts-total}
 use Rattle.polar.proofs.Value.{of-pairs}
 use Rattle.entries.specs.Entries.{placeOf, numberCount, placeOver, entryOver, listedOver}

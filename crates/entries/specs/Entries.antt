@@ -1,4 +1,4 @@
--- The entries of a net as a list of numbers, and the polar values that they fix (document 01, 'Frame and first net' and 'Moves and points').
+-- The entries of a net as a list of numbers, and the polar values that they fix (docs/SPECIFICATION.md, 'Frames and first nets' and 'Moves and points').
 -- A net holds four numbers, x, y, z, w, for each of its entries, in the order of `countsOver`.
 use Prim.Native.Nat.{ℕ, zero, suc, _+_, _*_}
 use mathlib.Core.Bool.{Bool, true, false, not, cond}

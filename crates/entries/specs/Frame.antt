@@ -1,4 +1,4 @@
--- Frames, the points that an entry takes from a frame, and the point that weights name (document 01, 'Frame and first net' and 'Moves and points').
+-- Frames, the points that an entry takes from a frame, and the point that weights name (docs/SPECIFICATION.md, 'Frames and first nets' and 'Moves and points').
 -- A group's frame is the list of its vertices, or a function from the vertex number, r being 0, s 1 and t 2, to a parameter point. A net has a frame for each group.
 use Prim.Native.Nat.{ℕ, zero, suc}
 use mathlib.Core.Bool.{cond}

@@ -71,14 +71,11 @@ count-low kind {m} q b =
     none : (k : ℕ) → (k ≡ 1 → ⊥) → (k ≡ 2 → ⊥) → numberCount (groupsOf k m q) ≤ 131584
     none k x y = subst (λ c. c ≤ 131584) (other-count k m q x y) (omega arith)
 
--- the entries of a known kind have room in a net's 180 places, and so have its coefficients
+-- the entries of a known kind have room in a net's 180 places
 pub entries-fit : (kind p q : ℕ) → known kind p q ≡ true → numberCount (groupsOf kind p q) ≤ 180
 entries-fit = by-known (λ kind p q. numberCount (groupsOf kind p q) ≤ 180)
     (λ p low high. subst (λ c. c ≤ 180) (curve-count 1 p 0 refl) (omega arith))
     (λ p low high. subst (λ c. c ≤ 180) (patch-count 2 p 0 refl) (patch-low {n = 9} (omega arith)))
-
-pub coefficients-fit : (kind p q : ℕ) → known kind p q ≡ true → 4 * length (monomialsOver (groupsOf kind p q)) ≤ 180
-coefficients-fit kind p q h = subst (λ c. c ≤ 180) (sym (coefficients-entries (groupsOf kind p q))) (entries-fit kind p q h)
 
 -- the rows of its only group
 pub known-size : (kind p q : ℕ) → known kind p q ≡ true → numberCount (groupsOf kind p q) ≡ size 4 (dimensionOf kind) p

@@ -1,4 +1,4 @@
--- Tables of the code, and the rows of scales. A test over a whole table is computed, and a law turns it into the rule at each place; so one proof shows that each number
+-- The rows of scales. A test over both rows is computed, and a law turns it into the rule at each place; so one proof shows that each number
 -- of both rows is the least common multiple of the multinomials of its degree (polar/proofs/Scale.antt says what that means: `multinomial-divides`, `scale-least`).
 use Prim.Native.Nat.{ℕ, zero, suc, _-_, _≤_, _<_}
 use native.Mathlib.Nat.{mul-one}
@@ -20,13 +20,6 @@ use Rattle.kinds.specs.Scales.{scaleOf}
 use Rattle.kinds.proofs.Limits.{by-known, one-group-of}
 
 -- ---- any table
-
--- the entry at each place is the rule's
-abbrev follows : (ℕ → ℕ) → List ℕ → ℕ → Bool
-follows rule table k = eqb (getD table k 0) (rule k)
-
-pub entry-follows : (rule : ℕ → ℕ) (table : List ℕ) (n : ℕ) → all (follows rule table) (upto n) ≡ true → (k : ℕ) → k < n → getD table k 0 ≡ rule k
-entry-follows rule table n h k b = eqb-true (getD table k 0) (rule k) (all-at (follows rule table) (upto n) h k (below-upto n k b))
 
 -- no entry of a table is past a bound
 pub up-to : (bound : ℕ) (f : ℕ → ℕ) (n : ℕ) → all (λ k. leb (f k) bound) (upto n) ≡ true → (k : ℕ) → k < n → f k ≤ bound

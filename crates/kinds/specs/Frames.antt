@@ -1,4 +1,4 @@
--- Frames from the numbers of a record, and which of them are accepted (document 01, 'Frame and first net', refusal 5). The numbers of the groups follow each other.
+-- Frames from the numbers of a record, and which of them are accepted (docs/SPECIFICATION.md, 'Frames and first nets', refusal 5). The numbers of the groups follow each other.
 use Prim.Native.Nat.{ℕ, zero, suc, _+_, _*_}
 use mathlib.Core.Bool.{Bool, true, _&&_, not, cond}
 use mathlib.Core.List.{List, [], _∷_, _++_, map}

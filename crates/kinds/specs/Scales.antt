@@ -1,4 +1,4 @@
--- The scale L of a kind with its degrees (document 01, 'Polynomials and polar values'), for any three numbers.
+-- The scale L of a kind with its degrees (docs/SPECIFICATION.md, 'Polynomials and polar values'), for any three numbers.
 use Prim.Native.Nat.{ℕ}
 use mathlib.Core.Bool.{cond}
 use Rattle.polar.specs.Scale.{scaleOver}

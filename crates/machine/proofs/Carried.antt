@@ -1,15 +1,18 @@
 -- Demand 3 carried to lent places: the net read out of them is always the net over the comparison machine's frames, since every net that is put there is read back.
 use Prim.Native.Nat.{ℕ, zero, suc}
+use native.Mathlib.Omega.{arith}
 use mathlib.Core.Path.{_≡_, refl, sym, ap, ap₂, _∙_, subst}
 use mathlib.Core.Bool.{Bool, true, false, cond}
 use mathlib.Core.List.{List, [], _∷_, map, zipWith}
 use lib.Dec.{leb}
-use lib.IntN.{ℤ}
-use lib.ListN.{length, take}
+use lib.IntN.{ℤ, pos}
+use lib.ListN.{length, getD, take}
+use Rattle.projection.specs.Projection.{projectionOf}
+use Rattle.projection.specs.declared.Projection.{Projection}
 use Rattle.entries.specs.Entries.{numberCount}
 use Rattle.entries.proofs.ListedOver.{length-listed-over}
 use Rattle.machine.specs.Refusals.{_else_, firstFailed}
-use Rattle.machine.specs.Steps.{Answer, Refused, pointValues, foundAt, Step, stepBy, after, answers}
+use Rattle.machine.specs.Steps.{Answer, Found, Refused, pointValues, foundAt, Step, stepBy, after, answers}
 use Rattle.machine.specs.Nets.{Net, netTests, accepted, stepOf}
 use Rattle.machine.specs.Sizes.{callTests}
 use Rattle.machine.specs.Comparison.{Polynomials, groups, machinePolar, machineAccepted, machineStep, netOver}
@@ -53,6 +56,20 @@ accepted-heard : (net : Net) (c : Call) (found : List ℤ) → answerBy 0 c (put
 unfolding accepted answerBy foundAt
 accepted-heard net (call.Move operation vertex weights) found = refl
 accepted-heard net (call.Point weights) found = refl
+
+-- a found point, as the caller has it, has the projection of the numbers in the places
+pub found-projection : (k : ℕ) (c : Call) (found : List ℤ) {x y z w : ℤ} {at : Projection} → answerBy k c found ≡ Found x y z w at
+    → projectionOf (getD found 0 (pos 0)) (getD found 1 (pos 0)) (getD found 2 (pos 0)) (getD found 3 (pos 0)) ≡ at
+unfolding answerBy foundAt
+found-projection (suc k) c found h = absurd (let z : _≡_ {A = ℕ} 0 1 = cc in omega arith)
+found-projection zero (call.Move operation vertex weights) found h = absurd (let z : _≡_ {A = ℕ} 0 1 = cc in omega arith)
+found-projection zero (call.Point weights) found h = cc
+
+-- what has to come back, by whether there is room for a point's numbers
+pub expected-by : (c : LentCall) (answer : Answer) (b : Bool) → room (c .call) (c .found) ≡ b
+    → expected c answer ≡ cond b (record { answer = answer; found = putAt 0 (pointValues answer) (c .found) }) (record { answer = Refused 11; found = c .found })
+unfolding expected
+expected-by c answer b h = ap (λ r. cond r (record { answer = answer; found = putAt 0 (pointValues answer) (c .found) }) (record { answer = Refused 11; found = c .found })) h
 
 -- what leaves the state where it is accepted leaves it
 step-leaves : {S : Type 0} (k : ℕ) (state : S) (step : Step Answer S) → step .left ≡ state → stepBy k state step .left ≡ state
@@ -102,17 +119,12 @@ module _ (f : Polynomials) (frames : Frames) (lent : List ℤ) (here : Stands f 
   unfolding lentStep
   answer-by k e = ap₂ (λ j l. answerBy j (c .call) l) e (found-by k e)
 
-  expected-by : (b : Bool) → room (c .call) (c .found) ≡ b
-      → expected c (next .answer) ≡ cond b (record { answer = next .answer; found = putAt 0 (pointValues (next .answer)) (c .found) }) (record { answer = Refused 11; found = c .found })
-  unfolding expected
-  expected-by b h = ap (λ r. cond r (record { answer = next .answer; found = putAt 0 (pointValues (next .answer)) (c .found) }) (record { answer = Refused 11; found = c .found })) h
-
   no-room : room (c .call) (c .found) ≡ false → Done f frames lent c
   unfolding lentStep answerBy
   no-room h =
       let eleven = number-is ∙ ap (λ b. firstFailed (b else 11 ∷ netTests net (c .call))) h in
       record {
-        returned = returned-is (answer-by 11 eleven) (found-by 11 eleven) ∙ sym (expected-by false h);
+        returned = returned-is (answer-by 11 eleven) (found-by 11 eleven) ∙ sym (expected-by c (next .answer) false h);
         stands = subst (λ l. Stands f (next .left) l) (sym (places-by 11 eleven)) (subst (λ fr. Stands f fr lent) (sym (point-leaves f frames (c .call) (c .found) h)) here);
         kept = ap (otherPlaces f) (places-by 11 eleven);
       }
@@ -128,7 +140,7 @@ module _ (f : Polynomials) (frames : Frames) (lent : List ℤ) (here : Stands f 
       record {
         returned =
             returned-is (answer-by 0 number ∙ accepted-heard net (c .call) (c .found) ∙ answer) (found-by 0 number ∙ ap (λ a. putAt 0 (pointValues a) (c .found)) answer)
-            ∙ sym (expected-by true h);
+            ∙ sym (expected-by c (next .answer) true h);
         stands = subst (λ l. Stands f (next .left) l) (sym places) (put-stands f (next .left) lent (here .enough) (agrees .reached));
         kept = ap (otherPlaces f) places ∙ put-kept f (next .left) lent (here .enough) (agrees .reached);
       }
@@ -139,7 +151,7 @@ module _ (f : Polynomials) (frames : Frames) (lent : List ℤ) (here : Stands f 
       let left = sym (ap (λ k. stepBy k net (accepted net (c .call)) .left) e) ∙ agrees .nets in
       let places = places-by (suc j) number in
       record {
-        returned = returned-is (answer-by (suc j) number ∙ answer) (found-by (suc j) number ∙ ap (λ a. putAt 0 (pointValues a) (c .found)) answer) ∙ sym (expected-by true h);
+        returned = returned-is (answer-by (suc j) number ∙ answer) (found-by (suc j) number ∙ ap (λ a. putAt 0 (pointValues a) (c .found)) answer) ∙ sym (expected-by c (next .answer) true h);
         stands = subst (λ l. Stands f (next .left) l) (sym places) (record { net = here .net ∙ left; enough = here .enough; reached = agrees .reached });
         kept = ap (otherPlaces f) places;
       }

@@ -1,12 +1,12 @@
 -- A net that is put into lent places is read back from them, and no other place changes. By the list that `put` gives, and the limits of the kinds.
-use Prim.Native.Nat.{ℕ, _+_, _-_, _≤_, _<_}
+use Prim.Native.Nat.{ℕ, zero, suc, _+_, _≤_, _<_}
 use native.Mathlib.Omega.{arith}
 use mathlib.Core.Path.{_≡_, refl, sym, ap, ap₂, _∙_, subst}
 use mathlib.Core.Bool.{Bool, true, false, cond}
 use mathlib.Core.List.{List, [], _∷_, _++_, append-assoc}
 use lib.Dec.{leb}
 use lib.IntN.{ℤ, pos, negsuc}
-use lib.ListN.{length, take, drop, length-append, length-drop, take-append-drop}
+use lib.ListN.{length, set, take, drop, length-append, length-drop, take-append-drop}
 use lib.Seq.{take-at, drop-at, take-take, drop-drop, drop-append-le, length-take-le}
 use borrow.Author.Tests.{leb-true, le-leb}
 use Rattle.entries.specs.Entries.{numberCount}
@@ -15,12 +15,24 @@ use Rattle.integers.proofs.All.{clash}
 use Rattle.kinds.specs.Kinds.{groupsOf, known}
 use Rattle.kinds.proofs.Limits.{limits}
 use Rattle.kinds.proofs.Counts.{entries-fit}
-use Rattle.machine.specs.Nets.{Net, netGroups, withEntries, accepted}
-use Rattle.machine.specs.Lent.{byteOf, netAt, putAt, put, wide}
+use Rattle.machine.specs.Refusals.{_else_}
+use Rattle.machine.specs.Calls.{beforeSize}
+use Rattle.machine.specs.Sizes.{callTests}
+use Rattle.machine.specs.Nets.{Net, netGroups, handedTests, netTests, withEntries, accepted}
+use Rattle.machine.specs.Lent.{byteOf, netAt, putAt, put, wide, unlessRefused, room, callNumber, callPlaces}
+use Rattle.machine.specs.declared.Weights.{Weights}
 use Rattle.machine.specs.declared.Call.{Call}
 use Rattle.machine.specs.declared.Call.the-variants as call
+use Rattle.machine.proofs.Refusals.{none-failed, row-passes}
 
 -- ---- places
+
+-- three numbers written one by one at the front, seen by taking the list apart
+pub three-put : {A : Type 0} (xs : List A) (a b c : A) → 3 ≤ length xs → set (set (set xs 0 a) 1 b) 2 c ≡ putAt 0 (a ∷ b ∷ c ∷ []) xs
+three-put [] a b c h = absurd (omega arith)
+three-put (x ∷ []) a b c h = absurd (omega arith)
+three-put (x ∷ y ∷ []) a b c h = absurd (omega arith)
+three-put (x ∷ y ∷ z ∷ xs) a b c h = refl
 
 byte-back : (n : ℕ) → n < 256 → byteOf (pos n) ≡ n
 byte-back n h = ap (λ b. cond b n 255) (le-leb n 255 (omega arith))
@@ -115,6 +127,40 @@ put-entries (x ∷ y ∷ z ∷ lent) entries enough right =
     let p = byte-stood y (omega arith) in
     let q = byte-stood z (omega arith) in
     λ i. putAt 12 entries (sym k i ∷ sym p i ∷ sym q i ∷ lent)
+
+-- ---- a point leaves all places
+
+-- numbers put where they were read
+put-taken : (n : ℕ) (lent : List ℤ) → 12 + n ≤ length lent → putAt 12 (take n (drop 12 lent)) lent ≡ lent
+put-taken n lent h =
+    ap (λ k. take 12 lent ++ (take n (drop 12 lent) ++ drop (12 + k) lent)) (length-take-le n (drop 12 lent) (simp length-drop (omega arith)))
+    ∙ ap (λ l. take 12 lent ++ (take n (drop 12 lent) ++ l)) (sym (drop-drop n 12 lent))
+    ∙ ap (λ l. take 12 lent ++ l) (take-append-drop n (drop 12 lent))
+    ∙ take-append-drop 12 lent
+
+-- a net put where it was read
+pub put-read : (lent : List ℤ) → wide lent ≡ true → known (netAt lent .kind) (netAt lent .degree) (netAt lent .second) ≡ true → put (netAt lent) lent ≡ lent
+unfolding netAt
+put-read lent enough right =
+    let long = leb-true 193 (length lent) enough in
+    let fit = entries-fit (netAt lent .kind) (netAt lent .degree) (netAt lent .second) right in
+    put-entries lent (netAt lent .entries) enough right ∙ put-taken (numberCount (netGroups (netAt lent))) lent (omega arith)
+
+-- a point that is found puts back the net that it read, and a refused one puts nothing
+point-taken : (w : Weights) (lent found : List ℤ) → callNumber (call.Point w) lent found ≡ 0 → put (accepted (netAt lent) (call.Point w) .left) lent ≡ lent
+unfolding callNumber netTests handedTests callTests beforeSize accepted
+point-taken w lent found none =
+    let tests = wide lent else 11 ∷ room (call.Point w) found else 11 ∷ netTests (netAt lent) (call.Point w) in
+    let passed = none-failed tests refl .0 none in
+    put-read lent (row-passes tests passed 0) (row-passes tests passed 2)
+
+pub point-stands : (w : Weights) (lent found : List ℤ) → callPlaces (call.Point w) lent found ≡ lent
+unfolding callPlaces
+point-stands w lent found = by (callNumber (call.Point w) lent found) refl
+  where
+    by : (k : ℕ) → callNumber (call.Point w) lent found ≡ k → unlessRefused k (put (accepted (netAt lent) (call.Point w) .left) lent) lent ≡ lent
+    by zero e = point-taken w lent found e
+    by (suc k) e = refl
 
 -- ---- the part of the places that holds the entries, which the code lends on
 

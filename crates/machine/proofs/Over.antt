@@ -1,6 +1,6 @@
 -- The net over frames, seen by the net machine: its entries fix the polar values of its polynomials, so it refuses what the comparison machine refuses,
 -- and an accepted call leaves the net over the frames that the comparison machine reaches.
-use Prim.Native.Nat.{ℕ, zero, suc, pred, _+_, _-_, _<_, _≤_}
+use Prim.Native.Nat.{ℕ, zero, suc, pred, _-_, _<_}
 use native.Mathlib.Nat.{le-of-suc-le-suc, not-suc-le-zero}
 use native.Mathlib.Omega.{arith}
 use mathlib.Core.Path.{_≡_, refl, sym, ap, ap₂, _∙_, subst}

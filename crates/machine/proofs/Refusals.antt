@@ -51,6 +51,12 @@ passed-first [] rest h = refl
 passed-first (true else k ∷ before) rest h = passed-first before rest h
 passed-first (false else k ∷ before) rest h = absurd (clash h refl)
 
+-- where the first refuses, it decides
+pub refused-first : (before rest : List Test) → (firstFailed before ≡ 0 → ⊥) → firstFailed (before ++ rest) ≡ firstFailed before
+refused-first [] rest h = absurd (h refl)
+refused-first (true else k ∷ before) rest h = refused-first before rest h
+refused-first (false else k ∷ before) rest h = refl
+
 pub all-pass-append : (before rest : List Test) → allPass (before ++ rest) ≡ (allPass before && allPass rest)
 all-pass-append [] rest = refl
 all-pass-append (test else k ∷ before) rest = ap (λ b. test && b) (all-pass-append before rest) ∙ sym (and-assoc test (allPass before) (allPass rest))

@@ -12,7 +12,7 @@ use Rattle.polar.specs.Scale.{multinomial, leastCommonMultiple, scale}
 use Rattle.polar.specs.Groups.{monomialsOver, countsOver}
 use Rattle.polar.specs.Polar.{polarOver, valueOver}
 use Rattle.entries.specs.Entries.{listedOver, fixed, fixedOver, entryOver}
-use Rattle.projection.specs.Projection.{projectionOf}
+use Rattle.projection.specs.Projection.{projectionOf, coordinateBits}
 use Rattle.integers.proofs.All.{all-at, and-parts, clash}
 use Rattle.kinds.specs.Frames.{frameOf, frameAllowed, framesOf, framesAllowed}
 use Rattle.machine.specs.Calls.{beforeSize}
@@ -64,7 +64,7 @@ module _ (s : Sample) where
       }
 
 table-checked : all checked samples ≡ true
-unfolding netOver after answers stepBy machineStep machineAccepted machinePolar pointsOf polarOf scaledValue beforeSize namedBy namedByReplace namedByPoint allNamed callTests foundAt firstRefusal firstTests frameOf frameAllowed framesOf framesAllowed σ monomials counts monomialsOver countsOver multinomial leastCommonMultiple scale polarOver valueOver listedOver projectionOf
+unfolding netOver after answers stepBy machineStep machineAccepted machinePolar pointsOf polarOf scaledValue beforeSize namedBy namedByReplace namedByPoint allNamed callTests foundAt firstRefusal firstTests frameOf frameAllowed framesOf framesAllowed σ monomials counts monomialsOver countsOver multinomial leastCommonMultiple scale polarOver valueOver listedOver projectionOf coordinateBits
 table-checked = refl
 
 -- every row of the table holds

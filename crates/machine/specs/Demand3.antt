@@ -1,4 +1,4 @@
--- Demand 3 of the letter, as one statement about every list of calls, for all kinds together.
+-- Demand 3 (docs/SPECIFICATION.md, 'The three demands'), as one statement about every list of calls, for all kinds together.
 --
 -- f are a record's polynomials and `numbers` those of its frame; they are accepted when `firstRefusal` is 0. `calls` is any list of replaces, flips, points and
 -- broken calls of every sort, the empty list among them. `stepOf` is what the library's functions are proved to do; `machineStep` is the comparison machine, which

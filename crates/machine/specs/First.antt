@@ -1,4 +1,4 @@
--- The first net of polynomials over a frame, and what is refused of them (document 01, 'Frame and first net', with the refusals 4, 5, 6 and 7).
+-- The first net of polynomials over a frame, and what is refused of them (docs/SPECIFICATION.md, 'Frames and first nets', with the refusals 4, 5, 6 and 7).
 use Prim.Native.Nat.{ℕ}
 use mathlib.Core.List.{List, [], _∷_}
 use lib.IntN.{ℤ}

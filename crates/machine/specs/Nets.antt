@@ -1,4 +1,4 @@
--- What a call does to a handed net (document 01, 'Moves and points', with the refusals 4, 8, 9 and 10). The polar values are those that the net's own entries fix.
+-- What a call does to a handed net (docs/SPECIFICATION.md, 'Moves and points', with the refusals 4, 8, 9 and 10). The polar values are those that the net's own entries fix.
 use Prim.Native.Nat.{ℕ, pred}
 use mathlib.Core.Bool.{Bool, cond}
 use mathlib.Core.List.{List, [], _∷_, _++_}
@@ -16,7 +16,7 @@ use Rattle.machine.specs.Steps.{Answer, Taken, foundAt, Step, stepBy}
 use Rattle.machine.specs.declared.Call.{Call}
 use Rattle.machine.specs.declared.Call.the-variants.{Move, Point}
 
--- a net: its kind, its degrees, and four numbers x, y, z, w for each entry, in the document's order
+-- a net: its kind, its degrees, and four numbers x, y, z, w for each entry, in the specification's order
 pub record Net : Type 0 where
   pub kind : ℕ
   pub degree : ℕ

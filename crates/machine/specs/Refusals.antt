@@ -1,4 +1,4 @@
--- Document 01's 'Refused, and with which number': a table is a list of tests in the document's order, each with the number of the refusal where it fails.
+-- Tables of refusals (docs/SPECIFICATION.md, 'Refusals'): a table is a list of tests in the order that is said there, each with the number of the refusal where it fails.
 use Prim.Native.Nat.{ℕ}
 use mathlib.Core.Path.{_≡_}
 use mathlib.Core.Bool.{Bool, true, false, _&&_, not}

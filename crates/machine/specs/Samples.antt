@@ -1,4 +1,4 @@
--- What the definitions must give, as two tables: the samples B1 to B10 of document 01 with the answers to further calls, and single instances. Both machines share the
+-- What the definitions must give, as two tables: the samples B1 to B10 (docs/SPECIFICATION.md, 'Samples') with the answers to further calls, and single instances. Both machines share the
 -- tables of refusals and the names of the size rule, so these rows hold their order, and over two groups what no law holds. proofs/Samples.antt proves every row.
 use Prim.Native.Nat.{ℕ}
 use mathlib.Core.Path.{_≡_}
@@ -13,7 +13,7 @@ use Rattle.polar.specs.Polar.{polarOver, terms}
 use Rattle.entries.specs.Frame.{takenOver, pointsOver, before}
 use Rattle.entries.specs.Entries.{listedOver}
 use Rattle.kinds.specs.Kinds.{group}
-use Rattle.machine.specs.Steps.{Answer, refusalNumber, pointValues, directionValues, answers}
+use Rattle.machine.specs.Steps.{Answer, refusalNumber, answerValues, answers}
 use Rattle.machine.specs.Comparison.{Polynomials, groups, machineStep, netOver}
 use Rattle.kinds.specs.Frames.{Frames, framesOf, framesAllowed}
 use Rattle.machine.specs.Refusals.{firstFailed}
@@ -34,9 +34,9 @@ pub record Sample : Type 0 where
   pub net : List (List ℤ)
   pub answers : List (List ℤ)
 
--- an answer in a row: the number of the refusal or 0, then the point found, then its direction where it has one
+-- an answer in a row: the number of the refusal or 0, and then the answer's values
 abbrev pub answerRow : Answer → List ℤ
-answerRow a = pos (refusalNumber a) ∷ (pointValues a ++ directionValues a)
+answerRow a = pos (refusalNumber a) ∷ answerValues a
 
 -- what a sample says of the definitions
 pub record SampleHolds (s : Sample) : Type 0 where
@@ -80,8 +80,16 @@ refused k = pos k ∷ []
 abbrev taken : List ℤ
 taken = refused 0
 
-abbrev found : List ℤ → List ℤ
-found numbers = pos 0 ∷ numbers
+-- a point found, with its projection's values
+abbrev found : List ℤ → List ℤ → List ℤ
+found numbers projected = pos 0 ∷ (numbers ++ projected)
+
+-- the bit patterns of a finite point: those of the point's quotients, each rounded once; they were worked out from the numbers beside them, not by these definitions
+abbrev finite : ℕ → ℕ → ℕ → List ℤ
+finite x y z = pos x ∷ pos y ∷ pos z ∷ []
+
+abbrev direction : ℤ → ℤ → ℤ → List ℤ
+direction x y z = x ∷ y ∷ z ∷ []
 
 -- ---- the polynomials
 
@@ -110,7 +118,8 @@ samples =
       frame = row 0 1 1 1;
       calls = point (pos 1) (pos 1) (pos 0) (pos 0) ∷ [];
       net = row 2 0 0 2 ∷ row 2 2 0 2 ∷ row 0 4 0 4 ∷ [];
-      answers = found (row 6 8 0 10) ∷ [];
+      -- 0.6, 0.8 and 0, as in the circle's text
+      answers = found (row 6 8 0 10) (finite 0x3fe3333333333333 0x3fe999999999999a 0) ∷ [];
     }
     ∷  -- B3
     record {
@@ -126,7 +135,8 @@ samples =
       frame = row 0 1 1 1;
       calls = flip 1 ∷ point (pos 1) (pos 1) (pos 0) (pos 0) ∷ [];
       net = row 2 0 0 2 ∷ signed (minus 2) (minus 2) (pos 0) (minus 2) ∷ row 0 4 0 4 ∷ [];
-      answers = taken ∷ found (signed (minus 2) (pos 0) (pos 0) (pos 2)) ∷ [];
+      -- -1, 0 and 0
+      answers = taken ∷ found (signed (minus 2) (pos 0) (pos 0) (pos 2)) (finite 0xbff0000000000000 0 0) ∷ [];
     }
     ∷  -- B6 and B7
     record {
@@ -134,7 +144,7 @@ samples =
       frame = row 0 1 1 1;
       calls = point (pos 2) (minus 1) (pos 0) (pos 0) ∷ [];
       net = row 0 0 0 3 ∷ row 3 0 0 3 ∷ row 6 3 0 3 ∷ row 9 9 0 6 ∷ [];
-      answers = found (signed (minus 9) (pos 9) (pos 0) (pos 0) ++ (pos 1 ∷ minus 1 ∷ pos 0 ∷ [])) ∷ [];
+      answers = found (signed (minus 9) (pos 9) (pos 0) (pos 0)) (direction (pos 1) (minus 1) (pos 0)) ∷ [];
     }
     ∷  -- B8 and B9
     record {
@@ -142,7 +152,8 @@ samples =
       frame = pos 1 ∷ pos 0 ∷ pos 1 ∷ pos 0 ∷ pos 1 ∷ pos 1 ∷ pos 0 ∷ pos 0 ∷ pos 1 ∷ [];
       calls = point (pos 1) (pos 1) (pos 1) (pos 0) ∷ [];
       net = row 2 0 0 2 ∷ row 1 1 1 2 ∷ row 1 0 0 2 ∷ row 0 2 0 2 ∷ row 0 1 0 2 ∷ row 0 0 0 2 ∷ [];
-      answers = found (row 6 6 2 18) ∷ [];
+      -- 1/3, 1/3 and 1/9
+      answers = found (row 6 6 2 18) (finite 0x3fd5555555555555 0x3fd5555555555555 0x3fbc71c71c71c71c) ∷ [];
     }
     ∷  -- B10, taken with 16 and refused with 17
     record {
@@ -186,6 +197,18 @@ samples =
           ∷ [];
       net = row 2 0 0 2 ∷ row 1 1 1 2 ∷ row 1 0 0 2 ∷ row 0 2 0 2 ∷ row 0 1 0 2 ∷ row 0 0 0 2 ∷ [];
       answers = refused 8 ∷ refused 8 ∷ refused 8 ∷ refused 8 ∷ refused 8 ∷ refused 8 ∷ refused 8 ∷ refused 9 ∷ [];
+    }
+    ∷  -- every case of a projection: x = -4T², y = 3TZ + 6T², z = 0, w = -2TZ is nowhere, in a direction, and at 2, -4.5 and positive zero over a weight below 0
+    record {
+      polynomials = polynomials 1 2 0 (row 0 0 0 0 ∷ signed (pos 0) (pos 3) (pos 0) (minus 2) ∷ signed (minus 4) (pos 6) (pos 0) (pos 0) ∷ []);
+      frame = row 0 1 1 0;
+      calls = point (pos 1) (pos 0) (pos 0) (pos 0) ∷ point (pos 0) (pos 1) (pos 0) (pos 0) ∷ point (pos 1) (pos 1) (pos 0) (pos 0) ∷ [];
+      net = row 0 0 0 0 ∷ signed (pos 0) (pos 3) (pos 0) (minus 2) ∷ signed (minus 8) (pos 12) (pos 0) (pos 0) ∷ [];
+      answers =
+          found (row 0 0 0 0) []
+          ∷ found (signed (minus 8) (pos 12) (pos 0) (pos 0)) (direction (pos 2) (minus 3) (pos 0))
+          ∷ found (signed (minus 8) (pos 18) (pos 0) (minus 4)) (finite 0x4000000000000000 0xc012000000000000 0)
+          ∷ [];
     }
     ∷ []
 

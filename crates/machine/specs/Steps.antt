@@ -1,8 +1,9 @@
 -- Answers, and machines that go from call to call: each call gets the state that the one before it left.
 use Prim.Native.Nat.{ℕ, zero, suc}
-use mathlib.Core.List.{List, [], _∷_}
-use lib.IntN.{ℤ}
-use Rattle.projection.specs.Projection.{projectionOf, directionNumbers}
+use mathlib.Core.List.{List, [], _∷_, _++_, map}
+use lib.IntN.{ℤ, pos}
+use lib.ListN.{take}
+use Rattle.projection.specs.Projection.{projectionOf, coordinateBits, directionNumbers}
 use Rattle.projection.specs.declared.Projection.{Projection}
 
 -- ---- answers: the move is taken, or the point found (x, y, z, w) with its projection, or the number of the refusal
@@ -15,23 +16,25 @@ pub data Answer : Type 0 where
 unfoldable pub foundAt : (ℕ → ℤ) → Answer
 foundAt p = Found (p 0) (p 1) (p 2) (p 3) (projectionOf (p 0) (p 1) (p 2) (p 3))
 
--- the document's number, 0 where nothing is refused
+-- the table's number, 0 where nothing is refused
 abbrev pub refusalNumber : Answer → ℕ
 refusalNumber Taken = 0
 refusalNumber (Found x y z w at) = 0
 refusalNumber (Refused k) = k
 
--- the document's values: the components of a found point
-abbrev pub pointValues : Answer → List ℤ
-pointValues Taken = []
-pointValues (Found x y z w at) = x ∷ y ∷ z ∷ w ∷ []
-pointValues (Refused k) = []
+-- the values of a projection: the three bit patterns of a finite point, or the three numbers of a direction; nowhere has none
+abbrev pub projectionValues : Projection → List ℤ
+projectionValues p = map pos (coordinateBits p) ++ directionNumbers p
 
--- and the numbers of a direction, where the point found has one
-abbrev pub directionValues : Answer → List ℤ
-directionValues Taken = []
-directionValues (Found x y z w at) = directionNumbers at
-directionValues (Refused k) = []
+-- the values of an answer: the four components of a found point, and then its projection's values
+abbrev pub answerValues : Answer → List ℤ
+answerValues Taken = []
+answerValues (Found x y z w at) = x ∷ y ∷ z ∷ w ∷ projectionValues at
+answerValues (Refused k) = []
+
+-- those that a call writes into lent places: the components
+abbrev pub pointValues : Answer → List ℤ
+pointValues answer = take 4 (answerValues answer)
 
 -- ---- steps
 

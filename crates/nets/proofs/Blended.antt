@@ -20,7 +20,8 @@ use Rattle.machine.specs.Calls.{weightList}
 use Rattle.machine.specs.declared.Weights.{Weights}
 use Rattle.nets.specs.Rows.{written, mixed, ranged, Bounded, rowsBlended, blended, Leaves}
 use Rattle.nets.proofs.Lists.{length-written, written-outside, written-at, ranged-written, ranged-list}
-use Rattle.nets.proofs.Ranks.{rank-curve, rank-patch, by-two, by-three, tri-suc, size-mono, size-curve, size-patch}
+use Rattle.entries.proofs.Lengths.{tri-suc}
+use Rattle.nets.proofs.Ranks.{rank-curve, rank-patch, by-two, by-three, size-mono, size-curve, size-patch}
 use Rattle.nets.proofs.PatchRows.{tri, row-end, length-rows, rows-still, rows-at}
 
 -- the numbers of an entry of degree 1 + m with one more copy of a vertex

@@ -35,7 +35,7 @@ use Rattle.machine.specs.Nets.{Net, netInRange}
 use Rattle.machine.specs.Comparison.{Polynomials, groups, polarOf, netOver}
 use Rattle.machine.specs.First.{firstTests, firstNet}
 use Rattle.machine.specs.Lent.{putAt, put, wide, unlessRefused, polynomialsFrom, madeNumber, madePlaces}
-use Rattle.machine.proofs.Refusals.{none-failed, passed-first, row-passes}
+use Rattle.machine.proofs.Refusals.{none-failed, passed-first, refused-first, row-passes}
 use Rattle.machine.proofs.Lent.{part-put}
 use Rattle.nets.specs.Rows.{written}
 use Rattle.nets.specs.Coordinates.{groupPolar, Limited}
@@ -44,7 +44,6 @@ use Rattle.nets.specs.Calls.{beforeFirst}
 use Rattle.nets.proofs.Lists.{length-written, written-at, written-outside}
 use Rattle.nets.proofs.GroupRows.{one-listed}
 use Rattle.nets.proofs.OneGroup.{known-sized}
-use Rattle.nets.proofs.Steps.{refused-first}
 use Rattle.nets.proofs.FirstRows.{values-listed}
 
 -- ---- what is accepted

@@ -17,7 +17,7 @@ pub mod Descent
 pub mod Renaming
 pub mod Signs
 pub mod Writes
-pub mod Tables
+pub mod Factorials
 pub mod Through
 pub mod FirstRows
 pub mod Scaled

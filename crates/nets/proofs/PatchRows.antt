@@ -15,7 +15,8 @@ use Rattle.entries.specs.Rows.{size, offset}
 use Rattle.machine.specs.declared.Weights.{Weights}
 use Rattle.nets.specs.Rows.{written, mixed, ranged, Bounded, rowsBlended}
 use Rattle.nets.proofs.Lists.{length-written, written-outside, written-at, ranged-cong, ranged-part, ranged-list}
-use Rattle.nets.proofs.Ranks.{offset-mono, tri-suc, size-patch}
+use Rattle.entries.proofs.Lengths.{tri-suc}
+use Rattle.nets.proofs.Ranks.{offset-mono, size-patch}
 
 -- how many entries stand before row i
 abbrev pub tri : ℕ → ℕ

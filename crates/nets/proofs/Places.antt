@@ -14,7 +14,8 @@ use Rattle.entries.proofs.Places.{length-counts, placed, place-rank, member-cou
 use Rattle.entries.proofs.Listed.{rank-below}
 use Rattle.nets.specs.Rows.{Sized, placeAt}
 use Rattle.nets.specs.Flips.{countsAt}
-use Rattle.nets.proofs.Ranks.{rank-curve, rank-patch, length-one, tri-suc, tri-most, size-mono, size-curve, size-patch}
+use Rattle.entries.proofs.Lengths.{length-one, tri-suc}
+use Rattle.nets.proofs.Ranks.{rank-curve, rank-patch, tri-most, size-mono, size-curve, size-patch}
 
 -- ---- two vertices or three
 

@@ -5,12 +5,13 @@ use native.Mathlib.Nat.{le-refl, add-zero, mul-le-mul-left}
 use native.Mathlib.Numerals.{add-one}
 use native.Mathlib.Omega.{arith}
 use native.Mathlib.Decide.{decLe}
-use mathlib.Core.Path.{_≡_, refl, sym, ap, ap₂, _∙_, subst}
+use mathlib.Core.Path.{_≡_, sym, ap, ap₂, _∙_, subst}
 use mathlib.Core.List.{List, [], _∷_}
 use lib.ListN.{length}
 use Rattle.polar.specs.Order.{counts}
 use Rattle.entries.specs.Rows.{size, offset, rank}
 use Rattle.entries.proofs.Places.{offset-snoc, length-counts}
+use Rattle.entries.proofs.Lengths.{offset-zero, length-one, tri-suc}
 
 -- ---- fewer entries at a lower degree
 
@@ -32,31 +33,7 @@ size-mono w (suc n) a b h =
     let m = offset-mono (counts n) (suc a) (suc b) (suc-le-suc h) in
     mul-le-mul-left w (omega (arith, m, length-counts n a, length-counts n b))
 
--- ---- two vertices
-
-length-zero : (k : ℕ) → length (counts 0 k) ≡ 1
-unfolding counts
-length-zero k = refl
-
-offset-zero : (k : ℕ) → offset (counts 0) k ≡ k
-offset-zero zero = refl
-offset-zero (suc k) = offset-snoc (counts 0) k ∙ ap₂ _+_ (offset-zero k) (length-zero k) ∙ omega arith
-
--- ---- three vertices
-
--- how many entries stand before row n: 0, 1, 3, 6, ..
-pub length-one : (k : ℕ) → length (counts 1 k) ≡ suc k
-length-one k = length-counts 0 k ∙ offset-zero (suc k)
-
-pub tri-suc : (n : ℕ) → offset (counts 1) (suc n) ≡ offset (counts 1) n + suc n
-tri-suc n = offset-snoc (counts 1) n ∙ ap (λ x. offset (counts 1) n + x) (length-one n)
-
-pub tri-double : (n : ℕ) → 2 * offset (counts 1) n ≡ n * (n + 1)
-tri-double zero = refl
-tri-double (suc n) =
-    let rest : 2 * offset (counts 1) n ≡ n * (n + 1) = tri-double n in
-    let next : offset (counts 1) (suc n) ≡ offset (counts 1) n + suc n = tri-suc n in
-    ap (λ x. 2 * x) next ∙ omega arith
+-- ---- rows of a patch
 
 pub tri-most : (n : ℕ) → n ≤ offset (counts 1) n
 tri-most zero = le-refl 0

@@ -24,8 +24,8 @@ use Rattle.nets.specs.Rows.{written, placeAt}
 use Rattle.nets.specs.Flips.{countsAt}
 use Rattle.nets.specs.Coordinates.{exponentsAt, groupPolar, Limited, coordinateAt, Coordinates}
 use Rattle.nets.proofs.Lists.{written-at, written-cong}
-use Rattle.nets.proofs.Places.{by-dimension, spread-most, row-digit, own-digit, row-of, own-of, counts-at-rank, counts-at-place, place-whole}
-use Rattle.nets.proofs.Tables.{factorial-up}
+use Rattle.nets.proofs.Places.{by-dimension, spread-most, row-digit, own-digit, row-of, own-of, counts-at-rank, counts-at-place}
+use Rattle.nets.proofs.Factorials.{factorial-up}
 
 -- ---- multinomials
 
@@ -179,13 +179,13 @@ module _ (n m : ℕ) (numbers : List ℤ) (limited : Limited n m numbers) where
       (abs-*-le (getD numbers (4 * placeOf e (monomials n m) + c) (pos 0)) (pos (scale n m / multinomial m e))
       (limited .each (4 * placeOf e (monomials n m) + c) (omega arith)) (le-trans (div-le-self (scale n m) (multinomial m e)) (limited .scaled)))
 
-  pub coordinates-made : (xs ys : List ℤ) → size 4 n m ≤ length xs → ys ≡ written xs 0 (4 * placeAt n (m + 1) 0) (coordinateAt n m numbers) → Coordinates n m numbers ys
+  pub coordinates-made : (xs ys : List ℤ) → size 4 n m ≤ length xs → ys ≡ written xs 0 (size 4 n m) (coordinateAt n m numbers) → Coordinates n m numbers ys
   unfolding coordinateAt
   coordinates-made xs ys room is = record { entries = entries-are; small = smalls }
     where
       at : (i : ℕ) → i < size 4 n m → getD ys i (pos 0) ≡ coordinateAt n m numbers i
       at i h =
-          ap (λ l. getD l i (pos 0)) (is ∙ ap (λ k. written xs 0 k (coordinateAt n m numbers)) (place-whole 4 n m (limited .sized .low) (limited .sized .high)))
+          ap (λ l. getD l i (pos 0)) is
           ∙ written-at xs 0 (size 4 n m) (coordinateAt n m numbers) i zero-le (subst (λ k. i < k) (sym (zero-add (size 4 n m))) h) (subst (λ k. k ≤ length xs) (sym (zero-add (size 4 n m))) room)
 
       entries-are : (c : ℕ) (e : List ℕ) → c < 4 → length e ≡ suc n → total e ≡ m → getD ys (4 * rank n e + c) (pos 0) ≡ groupPolar n m numbers c (taken (units n) e)

@@ -1,11 +1,11 @@
 -- A call put together from its parts: the tests of a handed net, those of the call's arguments, that of size, and then what the accepted call does. The private functions work
 -- on the part of the places that holds the entries.
-use Prim.Native.Nat.{ℕ, zero, suc, _+_, _-_, _≤_}
+use Prim.Native.Nat.{ℕ, zero, suc, _-_, _≤_}
 use native.Mathlib.Nat.{sub-zero}
 use native.Mathlib.Omega.{arith}
 use mathlib.Core.Path.{_≡_, refl, sym, ap, _∙_}
 use mathlib.Core.Bool.{Bool, true, false}
-use mathlib.Core.List.{List, [], _∷_, _++_}
+use mathlib.Core.List.{List, [], _∷_}
 use lib.IntN.{ℤ}
 use lib.ListN.{take}
 use Rattle.integers.specs.Test.{all}
@@ -15,7 +15,7 @@ use Rattle.entries.specs.Entries.{numberCount}
 use Rattle.kinds.specs.Kinds.{groupsOf, known}
 use Rattle.kinds.proofs.Counts.{entries-fit}
 use Rattle.machine.specs.Refusals.{Test, _else_, firstFailed, allPass, numbered}
-use Rattle.machine.proofs.Refusals.{none-failed, passes, fails, passed-first}
+use Rattle.machine.proofs.Refusals.{none-failed, passes, fails, passed-first, refused-first}
 use Rattle.machine.specs.Calls.{beforeSize}
 use Rattle.machine.specs.Sizes.{namedBy, allNamed, callTests}
 use Rattle.machine.specs.Steps.{pointValues}
@@ -48,12 +48,6 @@ pub entries-long : (kind degree second count long : ℕ) → known kind degree s
 entries-long kind degree second count long right is l = let fit = entries-fit kind degree second right in omega arith
 
 -- ---- two tables, one after the other
-
--- where the first refuses, it decides
-pub refused-first : (before rest : List Test) → (firstFailed before ≡ 0 → ⊥) → firstFailed (before ++ rest) ≡ firstFailed before
-refused-first [] rest h = absurd (h refl)
-refused-first (true else k ∷ before) rest h = refused-first before rest h
-refused-first (false else k ∷ before) rest h = refl
 
 handed-numbered : (net : Net) → numbered (handedTests net) ≡ true
 unfolding handedTests

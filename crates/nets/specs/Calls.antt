@@ -1,5 +1,5 @@
 -- What the private functions that make calls and first nets promise. They work on the part of the lent places that holds the entries.
-use Prim.Native.Nat.{ℕ, suc}
+use Prim.Native.Nat.{ℕ, suc, _≤_}
 use mathlib.Core.Path.{_≡_}
 use mathlib.Core.Bool.{Bool, _&&_}
 use mathlib.Core.List.{List}
@@ -15,7 +15,7 @@ use Rattle.machine.specs.Steps.{pointValues}
 use Rattle.machine.specs.Nets.{Net, handedTests, netTests, accepted}
 use Rattle.machine.specs.Comparison.{Polynomials}
 use Rattle.machine.specs.First.{firstTests}
-use Rattle.machine.specs.Lent.{putAt, unlessRefused}
+use Rattle.machine.specs.Lent.{putAt, unlessRefused, polynomialsFrom}
 use Rattle.machine.specs.declared.Call.{Call}
 
 -- the net of a kind and degrees whose entries are the first numbers of some places
@@ -47,6 +47,15 @@ pub record Pointed (net : Net) (call : Call) (number : ℕ) (before after : List
 unfoldable pub beforeFirst : Polynomials → List ℤ → List Test
 beforeFirst f numbers = take 3 (firstTests f numbers)
 
--- none of them fails
-abbrev pub FirstAccepted : Polynomials → List ℤ → Type 0
-FirstAccepted f numbers = firstFailed (beforeFirst f numbers) ≡ 0
+-- what the making of a first net asks for: none of them fails, there are places for its entries, and the numbers of a frame and of polynomials are lent
+pub record FirstAsked (kind p q : ℕ) (out frame coefficients : List ℤ) : Type 0 where
+  pub accepted : firstFailed (beforeFirst (polynomialsFrom kind p q coefficients) frame) ≡ 0
+  pub places : length out ≡ 180
+  pub nine : length frame ≡ 9
+  pub enough : 180 ≤ length coefficients
+
+-- the rooms in which it is made have places for as many numbers as the entries are
+pub record Rooms (kind p q : ℕ) (work cur base : List ℤ) : Type 0 where
+  pub work-room : numberCount (groupsOf kind p q) ≤ length work
+  pub cur-room : numberCount (groupsOf kind p q) ≤ length cur
+  pub base-room : numberCount (groupsOf kind p q) ≤ length base

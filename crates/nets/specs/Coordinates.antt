@@ -32,7 +32,7 @@ coordinateAt n m numbers i = groupPolar n m numbers (i % 4) (taken (units n) (ge
 abbrev pub CoefficientsIn : List ℤ → ℕ → ℕ → Type 0
 CoefficientsIn numbers lo hi = (i : ℕ) → lo ≤ i → i < hi → natAbs (getD numbers i (pos 0)) ≤ 1048576
 
--- what the making asks for: room, a scale of at most 2520, and coefficients that are there and within the limit of document 01
+-- what the making asks for: room, a scale of at most 2520, and coefficients that are there and within their limit
 pub record Limited (n m : ℕ) (numbers : List ℤ) : Type 0 where
   pub sized : Sized 4 n m
   pub low : 1 ≤ m

@@ -30,9 +30,9 @@ flippedList w n m v xs = listed w n m (λ c. flipped v (entryAt w n m xs c)) ++ 
 abbrev pub InRange : List ℤ → ℕ → ℕ → Type 0
 InRange xs lo hi = (i : ℕ) → lo ≤ i → i < hi → natAbs (getD xs i (pos 0)) ≤ 281474976710656
 
--- what flipping vertex v in the rows of the net xs from place lo on asks for
-pub record Flips (w n m v lo : ℕ) (xs : List ℤ) : Type 0 where
+-- what flipping vertex v in the rows of the net xs asks for
+pub record Flips (w n m v : ℕ) (xs : List ℤ) : Type 0 where
   pub sized : Sized w n m
   pub vertex : v ≤ n
   pub long : size w n m ≤ length xs
-  pub range : InRange xs lo (size w n m)
+  pub range : InRange xs 0 (size w n m)

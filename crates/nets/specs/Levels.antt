@@ -11,7 +11,6 @@ use Rattle.polar.specs.Order.{counts}
 use Rattle.entries.specs.Entries.{fixed}
 use Rattle.entries.specs.Rows.{entryAt, listed, size, replaced, exchanged}
 use Rattle.projection.specs.Projection.{inRange}
-use Rattle.machine.specs.Calls.{weightList}
 use Rattle.machine.specs.declared.Weights.{Weights}
 use Rattle.nets.specs.Rows.{Sized, written, weightSum, level}
 

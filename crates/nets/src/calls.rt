@@ -1,12 +1,13 @@
 // Calls on a net: what is refused of them, and what they do. The functions here get the part of the lent
 // places that holds the entries, beside kind and degrees.
 ghost use mathlib.Core.Path.{_≡_};
-ghost use Prim.Native.Nat.{ℕ, _+_, _≤_};
+ghost use Prim.Native.Nat.{ℕ, _≤_};
 ghost use mathlib.Core.List.{[], _∷_};
 ghost use lib.IntN.{pos};
 ghost use lib.ListN.{length, getD};
 ghost use Rattle.integers.specs.Test.{all};
 ghost use Rattle.projection.specs.Projection.{isZero};
+ghost use Rattle.entries.specs.Rows.{size};
 ghost use Rattle.kinds.specs.Kinds.{group};
 ghost use Rattle.machine.specs.Refusals.{firstFailed};
 ghost use Rattle.machine.specs.Calls.{weightList, beforeSize};
@@ -17,8 +18,10 @@ use crate::flips::flip_entries;
 use crate::levels::descend;
 use crate::levels::rename;
 use crate::levels::renamed_weights;
+use crate::rows::FEW;
 use crate::rows::PLACES;
 use crate::rows::copy;
+use crate::rows::numbers;
 use integers::all_within;
 use integers::is_within;
 use kinds::dimension_of;
@@ -153,8 +156,34 @@ fn judge_net(entries: &[i64], kind: u8, degree: u8, second: u8) -> u8
 // ---- what calls do
 
 // Replaces a vertex, counted from 0, by the point q that the weights name, or leaves the rows as they are
-// where a named polar value is out of range. The work is done in a room of its own, where the vertex
-// comes first.
+// where a named polar value is out of range. The work is done in a room, where the vertex comes first.
+pub(crate) fn replace_in(
+    room: &mut [i64],
+    entries: &mut [i64],
+    dimension: usize,
+    vertex: usize,
+    degree: usize,
+    width: usize,
+    weights: Weights,
+) -> bool
+    requires { ⌜ Descends width dimension degree weights (now entries) × (vertex ≤ dimension) × (size width dimension degree ≤ length (now room)) ⌝ }
+    ensures { λ b. ⌜ Replaces width dimension degree (weightList weights) vertex (now (entries .entry)) b (now (entries .exit)) ⌝ }
+{
+    rename(&mut *room, entries, dimension, vertex, degree, width);
+    if !descend(
+        &mut *room,
+        dimension,
+        degree,
+        width,
+        renamed_weights(vertex, weights),
+    ) {
+        return false;
+    }
+    rename(entries, room, dimension, vertex, degree, width);
+    true
+}
+
+// The same in a room of its own: a small one where it is enough, which takes less time to clear.
 pub(crate) fn replace_entries(
     entries: &mut [i64],
     dimension: usize,
@@ -166,19 +195,28 @@ pub(crate) fn replace_entries(
     requires { ⌜ Descends width dimension degree weights (now entries) × (vertex ≤ dimension) ⌝ }
     ensures { λ b. ⌜ Replaces width dimension degree (weightList weights) vertex (now (entries .entry)) b (now (entries .exit)) ⌝ }
 {
-    let mut cur = [0; PLACES];
-    rename(&mut cur, entries, dimension, vertex, degree, width);
-    if !descend(
-        &mut cur,
+    if numbers(dimension, degree, width) <= FEW {
+        let mut room = [0; FEW];
+        return replace_in(
+            &mut room,
+            entries,
+            dimension,
+            vertex,
+            degree,
+            width,
+            weights,
+        );
+    }
+    let mut room = [0; PLACES];
+    replace_in(
+        &mut room,
+        entries,
         dimension,
+        vertex,
         degree,
         width,
-        renamed_weights(vertex, weights),
-    ) {
-        return false;
-    }
-    rename(entries, &cur, dimension, vertex, degree, width);
-    true
+        weights,
+    )
 }
 
 // What a move that is not refused for its own arguments does: the number 10, or 0 and the move made. A net

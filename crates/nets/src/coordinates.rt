@@ -1,7 +1,7 @@
 // The net of one group over the frame of the coordinates: each entry is the coefficient of its monomial,
 // times L divided by the multinomial of the monomial.
 ghost use mathlib.Core.Path.{_≡_};
-ghost use Prim.Native.Nat.{suc, _+_, _*_, _-_, _/_, _<_, _≤_};
+ghost use Prim.Native.Nat.{_+_, _*_, _-_, _/_, _<_, _≤_};
 ghost use lib.IntN.{pos, natAbs, _*ℤ_};
 ghost use lib.ListN.{length, getD};
 ghost use Rattle.polar.specs.Order.{monomials};
@@ -19,14 +19,18 @@ ghost use Rattle.nets.specs.Coordinates.{
 use crate::levels::spread;
 use crate::rows::place;
 
-// k! for k from 0 to 10.
-const FACTORIALS: [u64; 11] = [1, 1, 2, 6, 24, 120, 720, 5040, 40320, 362880, 3628800];
-
+// k!, for k from 0 to 10.
 pub(crate) fn factorial_of(k: usize) -> u64
     requires { ⌜ k ≤ 10 ⌝ }
     ensures { λ r. ⌜ r ≡ factorial k ⌝ }
 {
-    FACTORIALS[k]
+    let mut product = 1;
+    let mut i = 0;
+    while i < k {
+        i += 1;
+        product = product * i as u64;
+    }
+    product
 }
 
 // ---- scaled coefficients
@@ -105,26 +109,6 @@ pub(crate) fn put_entry(
     put_scaled(out, to, coefficients, from, times);
 }
 
-// The entries with i copies of the vertices after the first.
-pub(crate) fn put_row(
-    out: &mut [i64],
-    all: u64,
-    dimension: usize,
-    degree: usize,
-    coefficients: &[i64],
-    i: usize,
-)
-    requires { ⌜ Limited dimension degree (now coefficients) × (all ≡ scale dimension degree) × (size 4 dimension degree ≤ length (now out)) × (i ≤ degree) ⌝ }
-    ensures { λ _. ⌜ now (out .exit) ≡ written (now (out .entry)) (4 * placeAt dimension i 0) (4 * suc ((dimension - 1) * i)) (coordinateAt dimension degree (now (coefficients .entry))) ⌝ }
-{
-    let last = spread(dimension, i);
-    let mut k = 0;
-    while k <= last {
-        put_entry(&mut *out, all, dimension, degree, coefficients, i, k);
-        k += 1;
-    }
-}
-
 // All entries of the net over the frame of the coordinates; `all` is the scale.
 pub(crate) fn coordinate_numbers(
     out: &mut [i64],
@@ -137,8 +121,13 @@ pub(crate) fn coordinate_numbers(
     ensures { λ _. ⌜ Coordinates dimension degree (now (coefficients .entry)) (now (out .exit)) × (length (now (out .exit)) ≡ length (now (out .entry))) ⌝ }
 {
     let mut i = 0;
+    let mut k = 0;
     while i <= degree {
-        put_row(&mut *out, all, dimension, degree, coefficients, i);
-        i += 1;
+        put_entry(&mut *out, all, dimension, degree, coefficients, i, k);
+        k += 1;
+        if k > spread(dimension, i) {
+            i += 1;
+            k = 0;
+        }
     }
 }

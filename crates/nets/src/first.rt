@@ -22,10 +22,11 @@ ghost use Rattle.nets.specs.FirstNet.{
   RowPut,
   NetPut,
 };
-ghost use Rattle.nets.specs.Calls.{beforeFirst, FirstAccepted};
+ghost use Rattle.nets.specs.Calls.{beforeFirst, FirstAsked, Rooms};
 use crate::coordinates::coordinate_numbers;
 use crate::levels::copy_row;
 use crate::levels::spread;
+use crate::rows::FEW;
 use crate::rows::PLACES;
 use crate::rows::blend;
 use crate::rows::copy;
@@ -107,7 +108,25 @@ pub(crate) fn blend_second(
 // The contracts speak of any form G whose values a net holds: the polar value with some points fixed.
 
 // Puts the entry with i copies of the vertices after the first, k of them of the third, into its place.
-// `cur` is the net with the other points fixed, and stays; `work` is used up.
+// `cur` is the net with the other points fixed; it is used up.
+pub(crate) fn last_entry(
+    out: &mut [i64],
+    cur: &mut [i64],
+    dimension: usize,
+    width: usize,
+    frame: &[i64],
+    i: usize,
+    k: usize,
+)
+    requires { ⌜ Sized width dimension i × (k ≤ (dimension - 1) * i) × Room width dimension i (now out) × Stepping width dimension (i - k) (now frame) (now cur) ⌝ }
+    ensures { λ _. ⌜ EntryPut width dimension i k (now (frame .entry)) (now (cur .entry)) (now (out .entry)) (now (out .exit)) ⌝ }
+{
+    blend_second(&mut *cur, dimension, i - k, width, frame);
+    let p = place(dimension, i, k);
+    copy_row(out, p, cur, 0, width);
+}
+
+// The same, with `cur` as it was and `work` used up.
 pub(crate) fn put_entry(
     out: &mut [i64],
     work: &mut [i64],
@@ -121,12 +140,9 @@ pub(crate) fn put_entry(
     requires { ⌜ Sized width dimension i × (k ≤ (dimension - 1) * i) × Room width dimension i (now out) × Room width dimension i (now work) × Stepping width dimension (i - k) (now frame) (now cur) ⌝ }
     ensures { λ _. ⌜ EntryPut width dimension i k (now (frame .entry)) (now (cur .entry)) (now (out .entry)) (now (out .exit)) ⌝ }
 {
-    let rest = i - k;
-    let count = numbers(dimension, rest, width);
+    let count = numbers(dimension, i - k, width);
     copy(&mut *work, cur, count);
-    blend_second(&mut *work, dimension, rest, width, frame);
-    let p = place(dimension, i, k);
-    copy_row(out, p, work, 0, width);
+    last_entry(out, work, dimension, width, frame, i, k);
 }
 
 // Puts the entries with i copies of the vertices after the first into their places. `cur` is the net
@@ -150,7 +166,7 @@ pub(crate) fn put_row(
         blend_vertex(&mut *cur, dimension, i - k, width, frame, 2);
         k += 1;
     }
-    put_entry(out, work, cur, dimension, width, frame, i, last);
+    last_entry(out, cur, dimension, width, frame, i, last);
 }
 
 // Puts all entries into their places, the last row first. `base` is the net over the frame of the
@@ -206,7 +222,33 @@ pub(crate) fn judge_first(
 }
 
 // Makes the entries of the first net of accepted polynomials over an accepted frame, in the first of 180
-// places, and says whether they are in range. A net of one group has rows of four numbers.
+// places, and says whether they are in range. The work is done in three rooms. A net of one group has rows
+// of four numbers.
+pub(crate) fn make_in(
+    work: &mut [i64],
+    cur: &mut [i64],
+    base: &mut [i64],
+    out: &mut [i64],
+    kind: u8,
+    degree: u8,
+    second: u8,
+    frame: &[i64],
+    coefficients: &[i64],
+) -> bool
+    requires { ⌜ FirstAsked kind degree second (now out) (now frame) (now coefficients) × Rooms kind degree second (now work) (now cur) (now base) ⌝ }
+    ensures made { λ _. ⌜ now (out .exit) ≡ putAt 0 (firstNet (polynomialsFrom kind degree second (now (coefficients .entry))) (now (frame .entry)) .entries) (now (out .entry)) ⌝ }
+    ensures range { λ b. ⌜ b ≡ netInRange (firstNet (polynomialsFrom kind degree second (now (coefficients .entry))) (now (frame .entry))) ⌝ }
+{
+    let n = dimension_of(kind);
+    let m = degree as usize;
+    let all = scale(kind, degree, second);
+    coordinate_numbers(&mut *base, all, n, m, coefficients);
+    put_rows(&mut *out, work, cur, base, n, 4, frame, m);
+    let count = number_count(kind, degree, second);
+    all_within(&out[0..count], LIMIT)
+}
+
+// The same in rooms of its own: small ones where they are enough, which take less time to clear.
 pub(crate) fn make_first(
     out: &mut [i64],
     kind: u8,
@@ -215,18 +257,38 @@ pub(crate) fn make_first(
     frame: &[i64],
     coefficients: &[i64],
 ) -> bool
-    requires { ⌜ FirstAccepted (polynomialsFrom kind degree second (now coefficients)) (now frame) × (length (now out) ≡ 180) × (length (now frame) ≡ 9) × (180 ≤ length (now coefficients)) ⌝ }
+    requires { ⌜ FirstAsked kind degree second (now out) (now frame) (now coefficients) ⌝ }
     ensures made { λ _. ⌜ now (out .exit) ≡ putAt 0 (firstNet (polynomialsFrom kind degree second (now (coefficients .entry))) (now (frame .entry)) .entries) (now (out .entry)) ⌝ }
     ensures range { λ b. ⌜ b ≡ netInRange (firstNet (polynomialsFrom kind degree second (now (coefficients .entry))) (now (frame .entry))) ⌝ }
 {
-    let n = dimension_of(kind);
-    let m = degree as usize;
-    let all = scale(kind, degree, second);
-    let mut base = [0; PLACES];
-    coordinate_numbers(&mut base, all, n, m, coefficients);
-    let mut cur = [0; PLACES];
+    if number_count(kind, degree, second) <= FEW {
+        let mut work = [0; FEW];
+        let mut cur = [0; FEW];
+        let mut base = [0; FEW];
+        return make_in(
+            &mut work,
+            &mut cur,
+            &mut base,
+            out,
+            kind,
+            degree,
+            second,
+            frame,
+            coefficients,
+        );
+    }
     let mut work = [0; PLACES];
-    put_rows(&mut *out, &mut work, &mut cur, &mut base, n, 4, frame, m);
-    let count = number_count(kind, degree, second);
-    all_within(&out[0..count], LIMIT)
+    let mut cur = [0; PLACES];
+    let mut base = [0; PLACES];
+    make_in(
+        &mut work,
+        &mut cur,
+        &mut base,
+        out,
+        kind,
+        degree,
+        second,
+        frame,
+        coefficients,
+    )
 }

@@ -1,20 +1,12 @@
 // Flips: the sign of an entry changes where the vertex is taken an odd number of times. Vertices are
 // counted from 0 here.
 ghost use mathlib.Core.Path.{_≡_};
-ghost use Prim.Native.Nat.{suc, _+_, _*_, _-_, _≤_};
+ghost use Prim.Native.Nat.{_+_, _*_, _-_, _≤_};
 ghost use lib.IntN.{pos, natAbs};
 ghost use lib.ListN.{length, getD};
-ghost use Rattle.nets.specs.Rows.{written, placeAt};
-ghost use Rattle.nets.specs.Flips.{
-  countsAt,
-  signed,
-  signedAt,
-  flippedList,
-  InRange,
-  Flips,
-};
+ghost use Rattle.nets.specs.Rows.{written};
+ghost use Rattle.nets.specs.Flips.{countsAt, signed, flippedList, InRange, Flips};
 use crate::levels::spread;
-use crate::rows::place;
 
 // How often a vertex is taken in the entry with i copies of the vertices after the first, k of them
 // of the third.
@@ -56,29 +48,8 @@ pub(crate) fn sign_row(xs: &mut [i64], p: usize, width: usize, count: usize)
     }
 }
 
-// Flips a vertex in the entries with i copies of the vertices after the first.
-pub(crate) fn flip_row(
-    xs: &mut [i64],
-    dimension: usize,
-    vertex: usize,
-    degree: usize,
-    width: usize,
-    i: usize,
-)
-    requires { ⌜ Flips width dimension degree vertex (width * placeAt dimension i 0) (now xs) × (i ≤ degree) ⌝ }
-    ensures { λ _. ⌜ now (xs .exit) ≡ written (now (xs .entry)) (width * placeAt dimension i 0) (width * suc ((dimension - 1) * i)) (signedAt width dimension degree vertex (now (xs .entry))) ⌝ }
-{
-    let p = place(dimension, i, 0);
-    let last = spread(dimension, i);
-    let mut k = 0;
-    while k <= last {
-        let count = copies(dimension, vertex, degree, i, k);
-        sign_row(&mut *xs, p + k, width, count);
-        k += 1;
-    }
-}
-
-// Flips a vertex in the rows of a net.
+// Flips a vertex in the rows of a net. Entry p has i copies of the vertices after the first, k of them of
+// the third.
 pub(crate) fn flip_entries(
     xs: &mut [i64],
     dimension: usize,
@@ -86,12 +57,20 @@ pub(crate) fn flip_entries(
     degree: usize,
     width: usize,
 )
-    requires { ⌜ Flips width dimension degree vertex 0 (now xs) ⌝ }
+    requires { ⌜ Flips width dimension degree vertex (now xs) ⌝ }
     ensures { λ _. ⌜ now (xs .exit) ≡ flippedList width dimension degree vertex (now (xs .entry)) ⌝ }
 {
+    let mut p = 0;
     let mut i = 0;
+    let mut k = 0;
     while i <= degree {
-        flip_row(&mut *xs, dimension, vertex, degree, width, i);
-        i += 1;
+        let count = copies(dimension, vertex, degree, i, k);
+        sign_row(&mut *xs, p, width, count);
+        p += 1;
+        k += 1;
+        if k > spread(dimension, i) {
+            i += 1;
+            k = 0;
+        }
     }
 }

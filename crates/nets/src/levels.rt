@@ -3,7 +3,7 @@
 // level that has as many copies of q as the entry has of the vertex. Another vertex is first renamed.
 // Vertices are counted from 0 here.
 ghost use mathlib.Core.Path.{_≡_};
-ghost use Prim.Native.Nat.{suc, _+_, _*_, _-_, _<_, _≤_};
+ghost use Prim.Native.Nat.{_+_, _*_, _-_, _<_, _≤_};
 ghost use lib.IntN.{pos};
 ghost use lib.ListN.{length};
 ghost use Rattle.entries.specs.Rows.{size, rank, exchanged};
@@ -45,19 +45,21 @@ pub(crate) fn spread(dimension: usize, m: usize) -> usize
 
 // ---- renaming
 
-// The place of the entry whose counts of the first vertex and of `vertex` are exchanged.
+// The place of the entry whose counts of the first vertex and of `vertex` are exchanged, entry p having i
+// copies of the vertices after the first, k of them of the third.
 pub(crate) fn renamed_place(
     dimension: usize,
     vertex: usize,
     degree: usize,
+    p: usize,
     i: usize,
     k: usize,
 ) -> usize
-    requires { ⌜ (1 ≤ dimension) × (dimension ≤ 2) × (vertex ≤ dimension) × (degree ≤ 180) × (i ≤ degree) × (k ≤ (dimension - 1) * i) ⌝ }
+    requires { ⌜ (1 ≤ dimension) × (dimension ≤ 2) × (vertex ≤ dimension) × (degree ≤ 180) × (i ≤ degree) × (k ≤ (dimension - 1) * i) × (p ≡ placeAt dimension i k) ⌝ }
     ensures { λ r. ⌜ r ≡ rank dimension (exchanged 0 vertex (countsAt dimension degree i k)) ⌝ }
 {
     if vertex == 0 {
-        return place(dimension, i, k);
+        return p;
     }
     if vertex == 1 {
         return place(dimension, degree - i + k, k);
@@ -65,47 +67,8 @@ pub(crate) fn renamed_place(
     place(dimension, degree - k, degree - i)
 }
 
-// Renames the entry with i copies of the vertices after the first, k of them of the third.
-pub(crate) fn rename_entry(
-    out: &mut [i64],
-    xs: &[i64],
-    dimension: usize,
-    vertex: usize,
-    degree: usize,
-    width: usize,
-    i: usize,
-    k: usize,
-)
-    requires { ⌜ Renames width dimension degree vertex (now out) (now xs) × (i ≤ degree) × (k ≤ (dimension - 1) * i) ⌝ }
-    ensures { λ _. ⌜ now (out .exit) ≡ written (now (out .entry)) (width * placeAt dimension i k) width (renamedAt width dimension degree vertex (now (xs .entry))) ⌝ }
-{
-    let to = place(dimension, i, k);
-    let from = renamed_place(dimension, vertex, degree, i, k);
-    copy_row(out, to, xs, from, width);
-}
-
-// Renames the entries with i copies of the vertices after the first.
-pub(crate) fn rename_row(
-    out: &mut [i64],
-    xs: &[i64],
-    dimension: usize,
-    vertex: usize,
-    degree: usize,
-    width: usize,
-    i: usize,
-)
-    requires { ⌜ Renames width dimension degree vertex (now out) (now xs) × (i ≤ degree) ⌝ }
-    ensures { λ _. ⌜ now (out .exit) ≡ written (now (out .entry)) (width * placeAt dimension i 0) (width * suc ((dimension - 1) * i)) (renamedAt width dimension degree vertex (now (xs .entry))) ⌝ }
-{
-    let last = spread(dimension, i);
-    let mut k = 0;
-    while k <= last {
-        rename_entry(&mut *out, xs, dimension, vertex, degree, width, i, k);
-        k += 1;
-    }
-}
-
-// Writes the rows of a net with the first vertex and `vertex` renamed into each other.
+// Writes the rows of a net with the first vertex and `vertex` renamed into each other. Entry p has i copies
+// of the vertices after the first, k of them of the third.
 pub(crate) fn rename(
     out: &mut [i64],
     xs: &[i64],
@@ -117,10 +80,18 @@ pub(crate) fn rename(
     requires { ⌜ Renames width dimension degree vertex (now out) (now xs) ⌝ }
     ensures { λ _. ⌜ now (out .exit) ≡ written (now (out .entry)) 0 (size width dimension degree) (renamedAt width dimension degree vertex (now (xs .entry))) ⌝ }
 {
+    let mut p = 0;
     let mut i = 0;
+    let mut k = 0;
     while i <= degree {
-        rename_row(&mut *out, xs, dimension, vertex, degree, width, i);
-        i += 1;
+        let from = renamed_place(dimension, vertex, degree, p, i, k);
+        copy_row(&mut *out, p, xs, from, width);
+        p += 1;
+        k += 1;
+        if k > spread(dimension, i) {
+            i += 1;
+            k = 0;
+        }
     }
 }
 

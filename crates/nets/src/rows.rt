@@ -28,6 +28,9 @@ use machine::Weights;
 // How many places the entries of a net have.
 pub(crate) const PLACES: usize = 180;
 
+// How many numbers a small net has at most: a curve of degree 5 or a patch of degree 2.
+pub(crate) const FEW: usize = 24;
+
 // ---- copies
 
 // Copies the first `count` numbers.
@@ -70,7 +73,7 @@ pub(crate) fn blend_row(
 {
     let end = from + count;
     let mut f = from;
-    while f < end {
+    while f != end {
         let v = mix(a, xs[f], b, xs[f + d], c, xs[f + e]);
         xs[f] = v;
         if !is_within(v, limit) {

@@ -2,7 +2,7 @@
 -- accepted, so that only its first net is left to be judged.
 use Prim.Native.Nat.{ℕ, zero, suc}
 use native.Mathlib.Omega.{arith}
-use mathlib.Core.Path.{_≡_, refl, sym, ap, ap₂, _∙_}
+use mathlib.Core.Path.{_≡_, refl, sym, ap, ap₂, _∙_, subst}
 use mathlib.Core.Bool.{Bool, true, false, _&&_, cond}
 use mathlib.Core.List.{List, [], _∷_}
 use lib.IntN.{ℤ}
@@ -16,17 +16,19 @@ use Rattle.machine.specs.First.{firstNet, firstTests, firstRefusal}
 use Rattle.machine.specs.Lent.{put, wide, unlessRefused}
 use Rattle.machine.proofs.Refusals.{passed-first}
 use Rattle.records.proofs.Causes.{refused-caused}
-use Rattle.records.proofs.Accepted.{accepted-sound}
-use Rattle.records.specs.Reading.{endExtent, readingOf}
+use Rattle.records.proofs.Accepted.{accepted-sound, found-inside, none-inside}
+use Rattle.records.specs.Table.{slots}
+use Rattle.records.specs.Reading.{noFields, extentIn, extentAmong, Inside, readingOf}
 use Rattle.records.specs.Causes.{Caused, Sound}
 use Rattle.records.specs.declared.Extent.{Extent}
 use Rattle.records.specs.declared.Layout.{Layout}
 use Rattle.records.specs.declared.Refusal.{Refusal}
+use Rattle.records.specs.declared.Slot.{Slot}
 use Rattle.records.specs.declared.Reading.{Reading}
 use Rattle.records.specs.declared.Reading.the-variants.{Accepted, Refused}
 use Rattle.opening.specs.Opening.{
   layoutBy,
-  layoutIn,
+  layoutRead,
   polynomialsAt,
   polynomialsIn,
   numbersAt,
@@ -35,8 +37,10 @@ use Rattle.opening.specs.Opening.{
   refusalAt,
   refusalBy,
   refusalIn,
-  movesExtent,
-  pointExtent,
+  openedWith,
+  layoutIn,
+  fieldExtent,
+  refusalOver,
   openedIn,
   placesIn,
   FirstMade,
@@ -61,58 +65,43 @@ stood : {A : Type 0} (k : ℕ) (written before : A) → (k ≡ 0 → ⊥) → un
 stood zero written before h = absurd (h refl)
 stood (suc k) written before h = refl
 
--- ---- places enough for a net
-
--- the two cases of `openedIn`
-abbrev asSaid : List ℕ → Opened
-asSaid s = record { refusal = refusalIn s; moves = movesExtent s; point = pointExtent s }
-
-abbrev tooFew : List ℕ → Opened
-tooFew s = record { refusal = record { number = 11; offset = 0 }; moves = endExtent s; point = endExtent s }
+-- ---- by the refusal
 
 -- what `open` promises
 abbrev pub Opens : List ℕ → List ℤ → Opened → List ℤ → Type 0
 Opens s lent opened left = (opened ≡ openedIn s lent) × (left ≡ placesIn s lent)
 
-module _ (s : List ℕ) (lent : List ℤ) (enough : wide lent ≡ true) where
-  -- as the record says
-  opened-wide : (moves point : Extent) → movesExtent s ≡ moves → pointExtent s ≡ point → record { refusal = refusalIn s; moves = moves; point = point } ≡ openedIn s lent
-  unfolding openedIn
-  opened-wide moves point m p =
-      (λ i. record { refusal = refusalIn s; moves = sym m i; point = sym p i })
-      ∙ sym (ap (λ b. cond b (asSaid s) (tooFew s)) enough)
+module _ (s : List ℕ) (lent : List ℤ) (r : Refusal) (is : refusalOver s lent ≡ r) where
+  opens : Opens s lent (openedWith r s) (unlessRefused (r .number) (put (firstNetFrom s) lent) lent)
+  unfolding openedIn placesIn
+  opens = (ap (λ x. openedWith x s) (sym is), ap (λ x. unlessRefused (x .number) (put (firstNetFrom s) lent) lent) (sym is))
 
-  -- a refused record has neither moves nor point, and the places stand
-  pub opens-refused : (r : Refusal) → refusalIn s ≡ r → (r .number ≡ 0 → ⊥) → Opens s lent (record { refusal = r; moves = endExtent s; point = endExtent s }) lent
-  unfolding movesExtent pointExtent placesIn
-  opens-refused r is refused =
-      (opened, sym (ap (λ o. unlessRefused (o .refusal .number) (put (firstNetFrom s) lent) lent) (sym opened) ∙ stood (r .number) (put (firstNetFrom s) lent) lent refused))
-    where
-      some : refusalIn s .number ≡ 0 → ⊥
-      some z = refused (sym (ap (λ x. x .number) is) ∙ z)
+  -- a refused record has no fields, and the places stand
+  opens-refused : (r .number ≡ 0 → ⊥) → Opens s lent (record { refusal = r; layout = noFields s }) lent
+  opens-refused some = (
+    ap (λ l. record { refusal = r; layout = l }) (sym (stood (r .number) (layoutRead s) (noFields s) some)) ∙ opens .0,
+    sym (stood (r .number) (put (firstNetFrom s) lent) lent some) ∙ opens .1,
+  )
 
-      opened : record { refusal = r; moves = endExtent s; point = endExtent s } ≡ openedIn s lent
-      opened =
-          ap (λ x. record { refusal = x; moves = endExtent s; point = endExtent s }) (sym is)
-          ∙ opened-wide (endExtent s) (endExtent s) (stood (refusalIn s .number) (layoutIn s .moves) (endExtent s) some) (stood (refusalIn s .number) (layoutIn s .point) (endExtent s) some)
+  -- another one has those that the reader found, and its first net is in the places
+  opens-taken : r .number ≡ 0 → Opens s lent (record { refusal = r; layout = layoutRead s }) (put (firstNetFrom s) lent)
+  opens-taken none = (
+    ap (λ k. record { refusal = r; layout = unlessRefused k (layoutRead s) (noFields s) }) (sym none) ∙ opens .0,
+    ap (λ k. unlessRefused k (put (firstNetFrom s) lent) lent) (sym none) ∙ opens .1,
+  )
 
-  -- an accepted one has its own, and its first net is in the places
-  pub opens-taken : refusalIn s .number ≡ 0 → Opens s lent (record { refusal = refusalIn s; moves = layoutIn s .moves; point = layoutIn s .point }) (put (firstNetFrom s) lent)
-  unfolding movesExtent pointExtent placesIn
-  opens-taken none =
-      (opened, sym (ap (λ k. unlessRefused k (put (firstNetFrom s) lent) lent) (sym (ap (λ o. o .refusal .number) opened) ∙ none)))
-    where
-      opened : record { refusal = refusalIn s; moves = layoutIn s .moves; point = layoutIn s .point } ≡ openedIn s lent
-      opened =
-          opened-wide (layoutIn s .moves) (layoutIn s .point) (ap (λ k. unlessRefused k (layoutIn s .moves) (endExtent s)) none)
-          (ap (λ k. unlessRefused k (layoutIn s .point) (endExtent s)) none)
+-- with places enough the refusal is the record's own
+refusal-wide : (s : List ℕ) (lent : List ℤ) → wide lent ≡ true → refusalOver s lent ≡ refusalIn s
+refusal-wide s lent enough = ap (λ b. cond b (refusalIn s) (record { number = 11; offset = 0 })) enough
+
+pub opened-wide : (s : List ℕ) (lent : List ℤ) → wide lent ≡ true → openedIn s lent ≡ openedWith (refusalIn s) s
+unfolding openedIn
+opened-wide s lent enough = ap (λ r. openedWith r s) (refusal-wide s lent enough)
 
 -- too few
-pub opens-short : (s : List ℕ) (lent : List ℤ) → wide lent ≡ false → Opens s lent (tooFew s) lent
-unfolding openedIn placesIn
+pub opens-short : (s : List ℕ) (lent : List ℤ) → wide lent ≡ false → Opens s lent (record { refusal = record { number = 11; offset = 0 }; layout = noFields s }) lent
 opens-short s lent short =
-    let opened : openedIn s lent ≡ tooFew s = ap (λ b. cond b (asSaid s) (tooFew s)) short in
-    (sym opened, sym (ap (λ o. unlessRefused (o .refusal .number) (put (firstNetFrom s) lent) lent) opened))
+    opens-refused s lent (record { number = 11; offset = 0 }) (ap (λ b. cond b (refusalIn s) (record { number = 11; offset = 0 })) short) (λ z. let e : _≡_ {A = ℕ} 11 0 = z in omega arith)
 
 -- ---- a refused reading
 
@@ -126,15 +115,15 @@ caused-some (Caused.wrongLength b h) z = omega arith
 caused-some (Caused.wrongValue b h k f) z = omega arith
 
 pub reading-refused : (s : List ℕ) (lent : List ℤ) → wide lent ≡ true → (r : Refusal) → readingOf s ≡ Refused r
-    → Opens s lent (record { refusal = r; moves = endExtent s; point = endExtent s }) lent
+    → Opens s lent (record { refusal = r; layout = noFields s }) lent
 unfolding refusalIn
-reading-refused s lent enough r e = opens-refused s lent enough r (ap (λ x. refusalBy x s) e) (caused-some (refused-caused s r e))
+reading-refused s lent enough r e = opens-refused s lent r (refusal-wide s lent enough ∙ ap (λ x. refusalBy x s) e) (caused-some (refused-caused s r e))
 
 -- ---- an accepted reading
 
 module _ (s : List ℕ) (l : Layout) (e : readingOf s ≡ Accepted l) where
-  layout-is : layoutIn s ≡ l
-  unfolding layoutIn
+  layout-is : layoutRead s ≡ l
+  unfolding layoutRead
   layout-is = ap (λ r. layoutBy r s) e
 
   polynomials-are : polynomialsIn s ≡ polynomialsAt l s
@@ -170,19 +159,21 @@ module _ (s : List ℕ) (l : Layout) (e : readingOf s ≡ Accepted l) where
 
   -- the first net as it was made
   module _ (lent left : List ℤ) (enough : wide lent ≡ true) (number : ℕ) (made : FirstMade l s lent number left) where
-    refusal-made : refusalIn s ≡ refusalAt number (l .coefficients .field)
-    refusal-made = refusal-is ∙ ap (λ k. refusalAt k (l .coefficients .field)) (ap₂ firstRefusal polynomials-are numbers-are ∙ sym (made .number))
+    refusal-made : refusalOver s lent ≡ refusalAt number (l .coefficients .field)
+    refusal-made =
+        refusal-wide s lent enough
+        ∙ refusal-is
+        ∙ ap (λ k. refusalAt k (l .coefficients .field)) (ap₂ firstRefusal polynomials-are numbers-are ∙ sym (made .number))
 
-    pub first-refused : (number ≡ 0 → ⊥)
-        → Opens s lent (record { refusal = refusalAt number (l .coefficients .field); moves = endExtent s; point = endExtent s }) left
+    pub first-refused : (number ≡ 0 → ⊥) → Opens s lent (record { refusal = refusalAt number (l .coefficients .field); layout = noFields s }) left
     first-refused some =
-        let opens = opens-refused s lent enough (refusalAt number (l .coefficients .field)) refusal-made (λ z. some (sym (refusal-number number (l .coefficients .field)) ∙ z)) in
+        let opens = opens-refused s lent (refusalAt number (l .coefficients .field)) refusal-made (λ z. some (sym (refusal-number number (l .coefficients .field)) ∙ z)) in
         (opens .0, made .places ∙ stood number _ lent some ∙ opens .1)
 
-    pub first-taken : number ≡ 0 → Opens s lent (record { refusal = refusalAt number (l .coefficients .field); moves = l .moves; point = l .point }) left
+    pub first-taken : number ≡ 0 → Opens s lent (record { refusal = refusalAt number (l .coefficients .field); layout = l }) left
     first-taken none =
-        let opens = opens-taken s lent enough (ap (λ r. r .number) refusal-made ∙ refusal-number number (l .coefficients .field) ∙ none) in (
-          (λ i. record { refusal = sym refusal-made i; moves = sym layout-is i .moves; point = sym layout-is i .point }) ∙ opens .0,
+        let opens = opens-taken s lent (refusalAt number (l .coefficients .field)) refusal-made (refusal-number number (l .coefficients .field) ∙ none) in (
+          ap (λ x. record { refusal = refusalAt number (l .coefficients .field); layout = x }) (sym layout-is) ∙ opens .0,
           made .places
               ∙ ap (λ k. unlessRefused k (put (firstNet (polynomialsAt l s) (numbersAt l s)) lent) lent) none
               ∙ sym (ap₂ (λ f ns. put (firstNet f ns) lent) polynomials-are numbers-are)
@@ -205,6 +196,26 @@ pub opened-none : (s : List ℕ) (lent : List ℤ) → openedIn s lent .refusal 
 unfolding openedIn
 opened-none s lent none = by (wide lent) none
   where
-    by : (b : Bool) → cond b (asSaid s) (tooFew s) .refusal .number ≡ 0 → (b ≡ true) × (refusalIn s .number ≡ 0)
+    by : (b : Bool) → cond b (refusalIn s) (record { number = 11; offset = 0 }) .number ≡ 0 → (b ≡ true) × (refusalIn s .number ≡ 0)
     by true h = (refl, h)
     by false h = absurd (let z : _≡_ {A = ℕ} 11 0 = h in omega arith)
+
+-- ---- the fields of any bytes
+
+-- every value ends within the record
+layout-inside : (s : List ℕ) (slot : Slot) → Inside s (extentIn slot (layoutIn s))
+unfolding layoutIn layoutRead
+layout-inside s slot = by (refusalIn s .number) (readingOf s) refl
+  where
+    by : (k : ℕ) (r : Reading) → readingOf s ≡ r → Inside s (extentIn slot (unlessRefused k (layoutBy r s) (noFields s)))
+    by zero (Accepted l) e = accepted-sound s l e .within slot
+    by zero (Refused r) e = none-inside s slot
+    by (suc k) r e = none-inside s slot
+
+-- what is found in the layout of a record opened in places enough
+pub extent-found : (s : List ℕ) (lent : List ℤ) (tag : ℕ) {o : Opened} {e : Extent} → wide lent ≡ true → o ≡ openedIn s lent → e ≡ extentAmong slots s (o .layout) tag
+    → (e ≡ fieldExtent s tag) × Inside s e
+unfolding fieldExtent layoutIn
+extent-found s lent tag {o} {e} enough opened found =
+    let is : e ≡ fieldExtent s tag = found ∙ ap (λ x. extentAmong slots s (x .layout) tag) (opened ∙ opened-wide s lent enough) in
+    (is, subst (Inside s) (sym is) (found-inside s (layoutIn s) (layout-inside s) tag slots))

@@ -1,4 +1,4 @@
--- Demand 3 of the letter from the bytes of a record on, and row 7 of the table of refusals.
+-- Demand 3 (docs/SPECIFICATION.md, 'The three demands') from the bytes of a record on, and row 7 of the table of refusals.
 --
 -- s are any bytes; they are an accepted record where `refusalIn` has number 0. The first net of its polynomials over its frame is what `open` puts into the lent places.
 use Prim.Native.Nat.{ℕ}

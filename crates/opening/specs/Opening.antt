@@ -1,5 +1,5 @@
--- What the bytes of a record say: its polynomials, its frame, its first net, its moves and its point, or the refusal with its offset
--- (document 01, 'The record' and 'Refused, and with which number': after the end of input comes 7, at the offset of field 3).
+-- What the bytes of a record say: its polynomials, its frame, its first net, its fields, its moves and its point, or the refusal with its offset
+-- (docs/RECORDS.md, 'The bytes' and 'Refusals': after the end of input comes 7, at the offset of field 3).
 use Prim.Native.Nat.{ℕ, zero, suc, _/_}
 use mathlib.Core.Path.{_≡_}
 use mathlib.Core.Bool.{cond}
@@ -17,8 +17,8 @@ use Rattle.machine.specs.declared.Call.{Call}
 use Rattle.machine.specs.declared.Call.the-variants as call
 use Rattle.bytes.specs.Numbers.{frameNumbers}
 use Rattle.bytes.specs.Moves.{weightsOf, callAt}
-use Rattle.records.specs.Table.{polynomialsOf}
-use Rattle.records.specs.Reading.{noFields, bytesOf, endExtent, readingOf}
+use Rattle.records.specs.Table.{slots, polynomialsOf}
+use Rattle.records.specs.Reading.{noFields, extentAmong, bytesOf, readingOf}
 use Rattle.records.specs.declared.Extent.{Extent}
 use Rattle.records.specs.declared.Layout.{Layout}
 use Rattle.records.specs.declared.Refusal.{Refusal}
@@ -28,27 +28,27 @@ use Rattle.opening.specs.declared.Opened.{Opened}
 
 -- ---- what the fields say
 
--- the layout of a record that the reader accepts; another one has none
+-- the layout that the reader finds, also where the first net will be refused; of a record that the reader refuses it finds none
 abbrev pub layoutBy : Reading → List ℕ → Layout
 layoutBy (Accepted l) s = l
 layoutBy (Refused r) s = noFields s
 
-unfoldable pub layoutIn : List ℕ → Layout
-layoutIn s = layoutBy (readingOf s) s
+unfoldable pub layoutRead : List ℕ → Layout
+layoutRead s = layoutBy (readingOf s) s
 
 -- the polynomials by a layout: the coefficients stand in the part of the record where field 3's value begins
 abbrev pub polynomialsAt : Layout → List ℕ → Polynomials
 polynomialsAt l s = polynomialsOf (l .kind) (l .degree) (drop (l .coefficients .start) s)
 
 unfoldable pub polynomialsIn : List ℕ → Polynomials
-polynomialsIn s = polynomialsAt (layoutIn s) s
+polynomialsIn s = polynomialsAt (layoutRead s) s
 
 -- the numbers of the frame, and the frame
 abbrev pub numbersAt : Layout → List ℕ → List ℤ
 numbersAt l s = frameNumbers (bytesOf (l .frame) s)
 
 unfoldable pub numbersIn : List ℕ → List ℤ
-numbersIn s = numbersAt (layoutIn s) s
+numbersIn s = numbersAt (layoutRead s) s
 
 abbrev pub framesFrom : List ℕ → Frames
 framesFrom s = framesOf (groups (polynomialsIn s)) (numbersIn s)
@@ -72,14 +72,23 @@ refusalBy (Accepted l) s = refusalAt (firstRefusal (polynomialsIn s) (numbersIn 
 unfoldable pub refusalIn : List ℕ → Refusal
 refusalIn s = refusalBy (readingOf s) s
 
--- ---- moves and point: a refused record has none, whichever its number is
+-- ---- the fields
 
--- where they stand; 'for an absent field or a refused record it is the empty part at the record's end'
-unfoldable pub movesExtent : List ℕ → Extent
-movesExtent s = unlessRefused (refusalIn s .number) (layoutIn s .moves) (endExtent s)
+-- A record opened with a refusal, of number 0 where there is none. 'for an absent field or a refused record it is the empty part at the record's end': beside a
+-- refusal there are no fields, whichever its number is.
+abbrev pub openedWith : Refusal → List ℕ → Opened
+openedWith r s = record { refusal = r; layout = unlessRefused (r .number) (layoutRead s) (noFields s) }
 
-unfoldable pub pointExtent : List ℕ → Extent
-pointExtent s = unlessRefused (refusalIn s .number) (layoutIn s .point) (endExtent s)
+-- the layout of any bytes
+unfoldable pub layoutIn : List ℕ → Layout
+layoutIn s = openedWith (refusalIn s) s .layout
+
+-- where the value of the field with a tag byte stands in any bytes: at the record's end where the record is refused, where it has no such field, and where the
+-- byte is no tag
+unfoldable pub fieldExtent : List ℕ → ℕ → Extent
+fieldExtent s tag = extentAmong slots s (layoutIn s) tag
+
+-- ---- moves and point
 
 -- the moves in the value of field 4, in their order: 8 bytes each
 abbrev pub movesOf : List ℕ → List Call
@@ -90,19 +99,19 @@ abbrev pub pointOf : List ℕ → List Call
 pointOf value = cond (eqb (length value) 0) [] (call.Point (weightsOf value) ∷ [])
 
 unfoldable pub movesIn : List ℕ → List Call
-movesIn s = movesOf (bytesOf (movesExtent s) s)
+movesIn s = movesOf (bytesOf (layoutIn s .moves) s)
 
 unfoldable pub pointIn : List ℕ → List Call
-pointIn s = pointOf (bytesOf (pointExtent s) s)
+pointIn s = pointOf (bytesOf (layoutIn s .point) s)
 
 -- ---- all of it
 
 -- too few places for a net are 11, before the record is looked at
+abbrev pub refusalOver : List ℕ → List ℤ → Refusal
+refusalOver s lent = cond (wide lent) (refusalIn s) (record { number = 11; offset = 0 })
+
 unfoldable pub openedIn : List ℕ → List ℤ → Opened
-openedIn s lent =
-    cond (wide lent)
-    (record { refusal = refusalIn s; moves = movesExtent s; point = pointExtent s })
-    (record { refusal = record { number = 11; offset = 0 }; moves = endExtent s; point = endExtent s })
+openedIn s lent = openedWith (refusalOver s lent) s
 
 -- the first net put into the places where nothing is refused, and else what stood there
 unfoldable pub placesIn : List ℕ → List ℤ → List ℤ

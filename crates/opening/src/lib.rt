@@ -1,12 +1,14 @@
-// A record opened: its first net, in places that the caller lends, or the refusal with its offset. This is
-// where demand 3 starts: specs/Demand3.antt states it from the bytes of an accepted record on.
+// A record opened: its first net, in places that the caller lends, and its fields, or the refusal with its
+// offset. This is where demand 3 starts: specs/Demand3.antt states it from the bytes of an accepted record on.
 ghost use mathlib.Core.Path.{_≡_};
 ghost use mathlib.Core.Bool.{true};
 ghost use Rattle.kinds.specs.Kinds.{known};
 ghost use Rattle.machine.specs.Lent.{wide};
-ghost use Rattle.records.specs.Reading.{endExtent};
+ghost use Rattle.bytes.specs.Parts.{Lies};
+ghost use Rattle.records.specs.Reading.{noFields, bytesOf, Inside};
 ghost use Rattle.opening.specs.Opening.{
   refusalAt,
+  fieldExtent,
   openedIn,
   placesIn,
   FirstMade,
@@ -21,6 +23,8 @@ use records::Extent;
 use records::Layout;
 use records::Reading;
 use records::Refusal;
+use records::extent_of;
+use records::no_fields;
 use records::read;
 use records::value;
 
@@ -28,11 +32,10 @@ use records::value;
 const COEFFICIENTS: usize = 180;
 
 // What a record gives besides its first net: the refusal, with number 0 where there is none, and where the
-// record's moves and its point stand.
+// record's fields stand. A refused record has none.
 pub struct Opened {
     pub refusal: Refusal,
-    pub moves: Extent,
-    pub point: Extent,
+    pub layout: Layout,
 }
 
 // Makes the first net of a record with this layout, or tells the number of the refusal. The coefficient
@@ -64,26 +67,13 @@ fn refusal_at(number: u8, offset: usize) -> Refusal
     Refusal { number, offset }
 }
 
-// The empty part at the record's end, where an absent field stands.
-fn nothing(input: &[u8]) -> Extent
-    ensures { λ r. ⌜ r ≡ endExtent (now (input .entry)) ⌝ }
-{
-    Extent {
-        field: input.len(),
-        start: input.len(),
-        length: 0,
-    }
-}
-
-// What stands beside a refusal.
+// What stands beside a refusal: no fields.
 fn refuse(input: &[u8], refusal: Refusal) -> Opened
-    ensures { λ r. ⌜ r ≡ record { refusal = refusal; moves = endExtent (now (input .entry)); point = endExtent (now (input .entry)) } ⌝ }
+    ensures { λ r. ⌜ r ≡ record { refusal = refusal; layout = noFields (now (input .entry)) } ⌝ }
 {
-    let end = nothing(input);
     Opened {
         refusal,
-        moves: end,
-        point: end,
+        layout: no_fields(input),
     }
 }
 
@@ -110,13 +100,28 @@ pub fn open(input: &[u8], net: &mut [i64]) -> Opened
             if number != 0 {
                 return refuse(input, refusal);
             }
-            let moves = layout.moves;
-            let point = layout.point;
-            Opened {
-                refusal,
-                moves,
-                point,
-            }
+            Opened { refusal, layout }
         }
     }
+}
+
+// Where the value of the field with the tag stands: nothing, after the last byte, where the record has no
+// such field or is refused, or where the number is no tag. The record is opened for it; `open` hands back
+// where all fields stand.
+pub fn field_extent(input: &[u8], tag: u8) -> Extent
+    ensures extent { λ r. ⌜ r ≡ fieldExtent (now (input .entry)) tag ⌝ }
+    ensures inside { λ r. ⌜ Inside (now (input .entry)) r ⌝ }
+{
+    let mut net = [0i64; NET];
+    let opened = open(input, &mut net);
+    extent_of(opened.layout, input, tag)
+}
+
+// The value of a field, a slice of the record: it begins at the extent's start, where it lies in the
+// record, and is as long as the extent says.
+pub fn field(input: &[u8], tag: u8) -> &[u8]
+    ensures bytes { λ r. ⌜ now r ≡ bytesOf (fieldExtent (now (input .entry)) tag) (now (input .entry)) ⌝ }
+    ensures place { λ r. ⌜ Lies (r .ptr) (input .entry .ptr) (fieldExtent (now (input .entry)) tag .start) ⌝ }
+{
+    value(input, field_extent(input, tag))
 }

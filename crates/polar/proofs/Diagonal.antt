@@ -1,6 +1,6 @@
 -- m copies of one point: σ is the multinomial times the monomial's value at the point.
 -- The idea: multiplied by the factorials of the exponents, σ of m copies is m! times the monomial; each coordinate adds its exponent times that.
--- At the point with all coordinates 1 this says that the factorials divide m!, so the document's quotient is exact.
+-- At the point with all coordinates 1 this says that the factorials divide m!, so the multinomial is an exact quotient.
 use Prim.Native.Nat.{ℕ, zero, suc, _+_, _*_, _-_, _<_, _≤_, zero-le, suc-le-suc}
 use native.Mathlib.Nat.{le-of-suc-le-suc, not-suc-le-zero, mul-pos, mul-zero, div-eq-of-eq-mul-right, mul-comm, add-suc, suc-add, zero-add, add-zero}
 use native.Mathlib.Omega.{arith}

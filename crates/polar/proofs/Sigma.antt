@@ -97,7 +97,7 @@ unfolding σ
     (upto d)
     ∙ sum-neg (λ c. at p c *ℤ lowered c (σ d ps) e) (upto d)
 
--- document 01's two printed rules
+-- the two rules as they are printed
 curve-rule : (t z : ℤ) (ps : List Point) (k : ℕ) → σ 2 ((t ∷ z ∷ []) ∷ ps) (suc k ∷ []) ≡ z *ℤ σ 2 ps (suc k ∷ []) +ℤ t *ℤ σ 2 ps (k ∷ [])
 unfolding σ
 curve-rule t z ps k = ring (t ∷ z ∷ σ 2 ps (suc k ∷ []) ∷ σ 2 ps (k ∷ []) ∷ []) (search ring-rules depth 60) tt

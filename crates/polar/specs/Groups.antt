@@ -1,4 +1,4 @@
--- Kinds as lists of groups of vertices (document 01, and request E3 of document 02). A curve is one group of two vertices, a patch one of three, a rectangular patch
+-- Kinds as lists of groups of vertices (docs/SPECIFICATION.md, 'Polynomials and polar values'). A curve is one group of two vertices, a patch one of three, a rectangular patch
 -- two of two. Each group has a degree, parameter points and monomials of its own; what has a member for each group is a list. Names in `Over` are over a list of groups.
 use Prim.Native.Nat.{ℕ}
 use mathlib.Core.List.{List, [], _∷_, map}

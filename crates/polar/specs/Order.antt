@@ -1,4 +1,4 @@
--- The orders in which document 01 lists monomials and the entries of a net.
+-- The orders in which monomials and the entries of a net are listed (docs/RECORDS.md, 'The bytes', field 3; docs/SPECIFICATION.md, 'Frames and first nets').
 use Prim.Native.Nat.{ℕ, zero, suc, _+_, _-_}
 use mathlib.Core.List.{List, [], _∷_, _++_, map}
 use Rattle.integers.specs.Sum.{upto}

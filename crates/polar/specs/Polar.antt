@@ -1,4 +1,4 @@
--- Polynomials, their values and their scaled polar values (document 01, 'Polynomials and polar values'), for all kinds: over a list of groups.
+-- Polynomials, their values and their scaled polar values (docs/SPECIFICATION.md, 'Polynomials and polar values'), for all kinds: over a list of groups.
 -- A polynomial is the list of its terms, the exponents of each group and the coefficient.
 use Prim.Native.Nat.{ℕ, zero, suc, _-_, _/_}
 use mathlib.Core.List.{List, [], _∷_}

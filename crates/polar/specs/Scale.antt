@@ -1,4 +1,4 @@
--- Multinomials and the scale (document 01: m!/(k!(m−k)!), m!/(h! l! (m−h−l)!) and L).
+-- Multinomials and the scale (docs/SPECIFICATION.md, 'Polynomials and polar values': m!/(k!(m−k)!), m!/(h! l! (m−h−l)!) and L).
 use Prim.Native.Nat.{ℕ, zero, suc, _*_, _-_, _/_, _%_}
 use mathlib.Core.Bool.{Bool, true, false, _&&_}
 use mathlib.Core.List.{List, [], _∷_, map}

@@ -1,4 +1,4 @@
--- Parameter points and the symmetric functions σ of a list of them (document 01, 'Polynomials and polar values').
+-- Parameter points and the symmetric functions σ of a list of them (docs/SPECIFICATION.md, 'Polynomials and polar values').
 -- A parameter point is the list of its coordinates, with Z last: T, Z for a curve and U, V, Z for a patch.
 -- The exponents of a monomial are those of the coordinates before Z: k for a curve and h, l for a patch.
 use Prim.Native.Nat.{ℕ, zero, suc}

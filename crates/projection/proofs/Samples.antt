@@ -1,4 +1,4 @@
--- Document 01's samples of a projection, and one at each edge: a definition of closed numbers computes, so each holds by reflexivity.
+-- Samples of a projection, and one at each edge: a definition of closed numbers computes, so each holds by reflexivity.
 use mathlib.Core.Path.{_≡_, refl}
 use mathlib.Core.List.{[], _∷_}
 use lib.IntN.{pos, negsuc, negℤ}

@@ -1,5 +1,5 @@
 -- The greatest common divisor of whole numbers, defined by its own property: of the numbers that divide each of the given ones it is the largest.
--- A direction of document 01 is reduced by it. How the code finds it is not said here.
+-- A direction is reduced by it (docs/SPECIFICATION.md, 'Projection'). How the code finds it is not said here.
 use Prim.Native.Nat.{ℕ, zero, suc, _%_, min}
 use mathlib.Core.Bool.{Bool, true, _&&_, cond}
 use mathlib.Core.List.{List, [], _∷_}

@@ -1,4 +1,4 @@
--- Document 01's section "Projection": what a found point (x, y, z, w) is projected to, and the document's number and values for each case of the answer.
+-- Projections (docs/SPECIFICATION.md, 'Projection'): what a found point (x, y, z, w) is projected to, and the number and the values of each case of the answer.
 use Prim.Native.Nat.{ℕ}
 use mathlib.Core.Path.{_≡_}
 use mathlib.Core.Bool.{Bool, true, false, not, _&&_, cond}
@@ -94,14 +94,14 @@ projectionBy true false othersZero x y z w = Finite (coordsOf x y z w)
 projectionBy true true false x y z w = Direction (directionOf x y z)
 projectionBy true true true x y z w = Nowhere
 
--- Document 01's "projection" of a found point
+-- the projection of a found point
 unfoldable pub projectionOf : ℤ → ℤ → ℤ → ℤ → Projection
 unfolding projectionBy
 projectionOf x y z w = projectionBy (allInRange x y z w) (isZero w) (allZero x y z) x y z w
 
 -- ---- number and values of each case
 
--- the document's number: 10 for a component out of range, 0 where nothing is refused
+-- the table's number: 10 for a component out of range, 0 where nothing is refused
 abbrev pub refusal : Projection → ℕ
 refusal (Finite p) = 0
 refusal (Direction d) = 0

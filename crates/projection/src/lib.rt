@@ -1,4 +1,4 @@
-// Document 01's projection of a found point (x, y, z, w): a finite point, a direction, nowhere, or
+// The projection of a found point (x, y, z, w) (docs/SPECIFICATION.md, 'Projection'): a finite point, a direction, nowhere, or
 // out of range. `project` is what callers use, and it answers `projectionOf` of
 // specs/Projection.antt for all numbers; `bits` is for the callers who print a coordinate. The other
 // functions are parts of `project`: those that require numbers in range are called after the test
@@ -58,7 +58,7 @@ pub enum Projection {
     Direction(PrimitiveVector),
     // All four components are 0.
     Nowhere,
-    // A component is out of range: the document's refusal 10.
+    // A component is out of range: refusal 10.
     OutOfRange,
 }
 
@@ -199,7 +199,7 @@ fn direction(x: i64, y: i64, z: i64) -> PrimitiveVector
 
 // ---- the projection
 
-// The tests stand in the document's order: the range, the weight, the other components.
+// The tests stand in the specification's order: the range, the weight, the other components.
 pub fn project(x: i64, y: i64, z: i64, w: i64) -> Projection
     ensures { λ r. ⌜ (r ≡ projectionOf x y z w) × Projected x y z w r ⌝ }
 {

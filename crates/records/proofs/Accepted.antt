@@ -3,7 +3,7 @@ use mathlib.Core.Path.{_≡_, refl, sym, _∙_, ap, subst}
 use mathlib.Core.Bool.{Bool, true, false, cond}
 use mathlib.Core.List.{List, [], _∷_}
 use mathlib.Core.Logic.{_⊎_, inl, inr}
-use Prim.Native.Nat.{ℕ, _+_, _*_, _≤_, _<_}
+use Prim.Native.Nat.{ℕ, _+_, _*_, _<_}
 use native.Mathlib.Omega.{arith}
 use borrow.Author.Tests.{eqb-true}
 use lib.ListN.{length, getD, take, drop}
@@ -16,9 +16,9 @@ use Rattle.kinds.specs.Frames.{framesAllowed}
 use Rattle.machine.proofs.Refusals.{none-failed}
 use Rattle.bytes.specs.Numbers.{frameNumbers, coefficientsOf}
 use Rattle.bytes.proofs.Numbers.{coefficients-of-value}
-use Rattle.records.specs.Table.{slots, tagOf, tagsIn, required, headGroups, frameLength, coefficientCount, coefficientsLength, pointLength, movesLengthAllowed, polynomialsOf, fieldRow}
+use Rattle.records.specs.Table.{tagOf, tagsIn, required, headGroups, frameLength, coefficientCount, coefficientsLength, pointLength, movesLengthAllowed, polynomialsOf, fieldRow}
 use Rattle.machine.specs.Refusals.{_else_, firstFailed, numbered}
-use Rattle.records.specs.Reading.{left, bytesAt, headOf, tagAmong, isTag, standing, missingNumber, endExtent, extentAt, extentIn, extentAmong, extentBy, fieldExtent, bytesOf, stay, readStanding, readSlot, readEnd, layoutWith, concluded, readingOf}
+use Rattle.records.specs.Reading.{left, bytesAt, headOf, tagAmong, isTag, standing, missingNumber, endExtent, extentAt, extentIn, extentAmong, noFields, bytesOf, Inside, stay, readStanding, readSlot, readEnd, layoutWith, concluded, readingOf}
 use Rattle.records.specs.Causes.{Sound}
 use Rattle.records.specs.declared.Extent.{Extent}
 use Rattle.records.specs.declared.Layout.{Layout}
@@ -28,7 +28,6 @@ use Rattle.records.specs.declared.Tag.{Tag}
 use Rattle.records.specs.declared.Tag.the-variants.{Kind, Coefficients}
 use Rattle.records.specs.declared.Standing.the-variants.{Field, Nothing}
 use Rattle.records.specs.declared.Progress.{Progress}
-use Rattle.records.specs.declared.Reading.{Reading}
 use Rattle.records.specs.declared.Reading.the-variants.{Accepted, Refused}
 use Rattle.records.proofs.Slots.{long-enough, stands-there, field-passes, missing-refused, Stepped, stepped, all-steps}
 use Rattle.records.proofs.Slots.Stepped.{took, fell, lacked, skipped}
@@ -39,7 +38,7 @@ use Rattle.records.proofs.Slots.Stepped.{took, fell, lacked, skipped}
 record Filled (tag : Tag) (s : List ℕ) (e : Extent) : Type 0 where
   starts : e .start ≡ e .field + 3
   long : fieldRow tag .lengthAllowed (headOf s) (e .length) ≡ true
-  room : e .start + e .length ≤ length s
+  room : Inside s e
   good : firstFailed (fieldRow tag .tests (headOf s) (bytesOf e s)) ≡ 0
 
 -- what a slot has after a step that was not refused, from an offset on
@@ -58,9 +57,9 @@ went (fell h k is) z = absurd (k (sym (ap (λ (y : Progress). y .number) is) ∙
 went {s = s} {at = at} (lacked h q is) z = absurd (missing-refused s at (sym (ap (λ (y : Progress). y .number) is) ∙ z))
 went (skipped h q is) z = empty q (ap (λ (y : Progress). y .extent) is)
 
-inside : {slot : Slot} {s : List ℕ} {at : ℕ} {e : Extent} → Went slot s at e → e .start + e .length ≤ length s
+inside : {slot : Slot} {s : List ℕ} {at : ℕ} {e : Extent} → Went slot s at e → Inside s e
 inside (filled h f t) = t .room
-inside {s = s} (empty r h) = subst (λ (e : Extent). e .start + e .length ≤ length s) (sym h) (omega arith)
+inside {s = s} (empty r h) = subst (Inside s) (sym h) (omega arith)
 
 -- a field that stands in a slot is the slot's own, as yet the only one
 only : {tag t : Tag} (byte : ℕ) → tagAmong (t ∷ []) byte ≡ Field tag → tag ≡ t
@@ -166,11 +165,8 @@ module _ (s : List ℕ) where
       point {at} {e} (filled h f t) = inr (eqb-true (e .length) (pointLength (headGroups (headOf s))) (own Fifth s at h t .long))
       point (empty r h) = inl (ap (λ (e : Extent). e .length) h)
 
-      Within : Extent → Type 0
-      Within e = e .start + e .length ≤ length s
-
-      within-all : (l : Layout) → Within (l .head) → Within (l .frame) → Within (l .coefficients) → Within (l .moves) → Within (l .point)
-          → (slot : Slot) → Within (extentIn slot l)
+      within-all : (l : Layout) → Inside s (l .head) → Inside s (l .frame) → Inside s (l .coefficients) → Inside s (l .moves) → Inside s (l .point)
+          → (slot : Slot) → Inside s (extentIn slot l)
       within-all l a b c d e First = a
       within-all l a b c d e Second = b
       within-all l a b c d e Third = c
@@ -193,26 +189,20 @@ module _ (s : List ℕ) where
 
 -- ---- every field's value lies within the record
 
-module _ (s : List ℕ) (n : ℕ) where
-  extent-inside : fieldExtent s n .start + fieldExtent s n .length ≤ length s
-  unfolding fieldExtent extentBy
-  extent-inside = by (readingOf s) refl
-    where
-      Inside : Extent → Type 0
-      Inside e = e .start + e .length ≤ length s
+-- by a layout that has every slot inside, whatever number is asked for
+module _ (s : List ℕ) (l : Layout) (all-inside : (slot : Slot) → Inside s (extentIn slot l)) (n : ℕ) where
+  either : (a b : Extent) (t : Bool) → Inside s a → Inside s b → Inside s (cond t a b)
+  either a b true h k = h
+  either a b false h k = k
 
-      either : (a b : Extent) (t : Bool) → Inside a → Inside b → Inside (cond t a b)
-      either a b true h k = h
-      either a b false h k = k
+  pub found-inside : (rest : List Slot) → Inside s (extentAmong rest s l n)
+  found-inside [] = omega arith
+  found-inside (slot ∷ rest) = either (extentIn slot l) (extentAmong rest s l n) (isTag (tagAmong (tagsIn slot) n)) (all-inside slot) (found-inside rest)
 
-      among : (l : Layout) → Sound s l → (rest : List Slot) → Inside (extentAmong rest s l n)
-      among l h [] = omega arith
-      among l h (slot ∷ rest) = either (extentIn slot l) (extentAmong rest s l n) (isTag (tagAmong (tagsIn slot) n)) (h .within slot) (among l h rest)
-
-      by : (r : Reading) → readingOf s ≡ r → Inside (extentBy r s n)
-      by (Accepted l) e = among l (accepted-sound s l e) slots
-      by (Refused r) e = omega arith
-
-  -- so does an extent that is the field's
-  pub with-inside : {e : Extent} → e ≡ fieldExtent s n → (e ≡ fieldExtent s n) × (e .start + e .length ≤ length s)
-  with-inside is = (is, subst (λ (e : Extent). e .start + e .length ≤ length s) (sym is) extent-inside)
+-- so has the layout of no fields
+pub none-inside : (s : List ℕ) (slot : Slot) → Inside s (extentIn slot (noFields s))
+none-inside s First = omega arith
+none-inside s Second = omega arith
+none-inside s Third = omega arith
+none-inside s Fourth = omega arith
+none-inside s Fifth = omega arith

@@ -1,4 +1,4 @@
--- Worked records: document 01's circle record, whole, and a table of refusals, a line or more for each fieldRow of its table of causes. One computed test covers the table.
+-- Worked records: the circle's record (docs/RECORDS.md), whole, and a table of refusals, a line or more for each fieldRow of its table of causes. One computed test covers the table.
 use mathlib.Core.Path.{_≡_, refl}
 use mathlib.Core.Bool.{Bool, true, false, _&&_}
 use mathlib.Core.List.{List, [], _∷_, _++_}

@@ -1,4 +1,4 @@
--- Document 01's table 'Refused, and with which number', rows 1 to 6, as propositions about any bytes: where a field begins, and what is wrong there.
+-- The table of refusals (docs/SPECIFICATION.md, 'Refusals'), rows 1 to 6, as propositions about any bytes: where a field begins, and what is wrong there.
 -- proofs/Causes.antt shows that a reading is refused with a number and an offset exactly where the row's cause is there.
 use Prim.Native.Nat.{ℕ, suc, _+_, _≤_, _<_}
 use mathlib.Core.Path.{_≡_}
@@ -13,7 +13,7 @@ use Rattle.kinds.specs.Frames.{framesAllowed}
 use Rattle.machine.specs.Refusals.{firstFailed}
 use Rattle.bytes.specs.Numbers.{frameNumbers}
 use Rattle.records.specs.Table.{slots, tagsIn, required, frameLength, coefficientsLength, pointLength, movesLengthAllowed, polynomialsOf, fieldRow}
-use Rattle.records.specs.Reading.{left, lengthAt, bytesAt, headOf, fieldNumber, tagAmong, isTag, standing, extentIn, bytesOf}
+use Rattle.records.specs.Reading.{left, lengthAt, bytesAt, headOf, fieldNumber, tagAmong, isTag, standing, extentIn, bytesOf, Inside}
 use Rattle.records.specs.declared.Slot.{Slot}
 use Rattle.records.specs.declared.Tag.{Tag}
 use Rattle.records.specs.declared.Standing.the-variants.{Field, Nothing}
@@ -80,4 +80,4 @@ pub record Sound (s : List ℕ) (l : Layout) : Type 0 where
   pub coefficientsGood : all (within 1048576) (polynomialsOf (l .kind) (l .degree) (drop (l .coefficients .start) s) .coefficients) ≡ true
   pub movesLong : movesLengthAllowed (l .moves .length) ≡ true
   pub pointLong : (l .point .length ≡ 0) ⊎ (l .point .length ≡ pointLength (layoutGroups l))
-  pub within : (slot : Slot) → extentIn slot l .start + extentIn slot l .length ≤ length s
+  pub within : (slot : Slot) → Inside s (extentIn slot l)

@@ -1,6 +1,6 @@
--- What the reader makes of any bytes at all (document 01, 'The record' and 'Refused, and with which number'): the layout of an accepted record,
+-- What the reader makes of any bytes at all (docs/RECORDS.md, 'The bytes' and 'Refusals'): the layout of an accepted record,
 -- or the number and the offset of the first cause of refusal. The reader goes from slot to slot; `at` is the offset where it stands.
-use Prim.Native.Nat.{ℕ, _+_, _-_}
+use Prim.Native.Nat.{ℕ, _+_, _-_, _≤_}
 use mathlib.Core.Bool.{Bool, true, false, _||_, not, cond}
 use mathlib.Core.List.{List, [], _∷_, _++_}
 use lib.ListN.{length, getD, take, drop}
@@ -135,7 +135,7 @@ noFields s = let e = endExtent s in record { kind = 0; degree = 0; head = e; fra
 
 -- ---- number and values of each case
 
--- the document's number, 0 where nothing is refused
+-- the table's number, 0 where nothing is refused
 abbrev pub readingNumber : Reading → ℕ
 readingNumber (Accepted l) = 0
 readingNumber (Refused r) = r .number
@@ -164,16 +164,10 @@ abbrev pub extentAmong : List Slot → List ℕ → Layout → ℕ → Extent
 extentAmong [] s l n = endExtent s
 extentAmong (slot ∷ rest) s l n = cond (isTag (tagAmong (tagsIn slot) n)) (extentIn slot l) (extentAmong rest s l n)
 
--- by the reading: in a refused record every field counts as absent
-unfoldable pub extentBy : Reading → List ℕ → ℕ → Extent
-extentBy (Accepted l) s n = extentAmong slots s l n
-extentBy (Refused r) s n = endExtent s
-
--- where the value of the field with a tag byte stands in any bytes
-unfoldable pub fieldExtent : List ℕ → ℕ → Extent
-unfolding extentBy readingOf
-fieldExtent s n = extentBy (readingOf s) s n
-
 -- the part of the record that is the value: its bounds are the extent's start and length
 abbrev pub bytesOf : Extent → List ℕ → List ℕ
 bytesOf e s = take (e .length) (drop (e .start) s)
+
+-- the value ends within the record
+abbrev pub Inside : List ℕ → Extent → Type 0
+Inside s e = e .start + e .length ≤ length s

@@ -1,4 +1,4 @@
--- Document 01's table of fields ('The record'): the slots in their order, what may stand in each, and a row for each field: its tag byte, its lengths and the
+-- The table of fields (docs/RECORDS.md, 'The bytes'): the slots in their order, what may stand in each, and a row for each field: its tag byte, its lengths and the
 -- tests of its value with their refusals. What a kind is and which frames it accepts is said in kinds' specs; here stand only the places of their bytes.
 use Prim.Native.Nat.{ℕ, _*_, _%_}
 use mathlib.Core.Bool.{Bool, true, false, _&&_}

@@ -1,6 +1,8 @@
-// The reader of document 01's record. `read` says of any bytes at all whether they are a record, and
-// gives its layout or the refusal's number and offset; `value` and `field` give a field's value, a
-// slice of the record. All of them are defined for every input.
+// The reader of records (docs/RECORDS.md, 'The bytes'). `read` says of any bytes at all whether they are a record, and
+// gives its layout or the refusal's number and offset; `value` gives a field's value, a slice of the
+// record, by where the layout says that it stands. All of them are defined for every input. A record that
+// the reader accepts may still be refused, 7, by its first net: the fields of any bytes are handed out by
+// the crate opening.
 //
 // The reader goes from slot to slot, and one function takes every slot. The definitions are those of
 // specs/: Table (the slots, and a row for each field: tag, lengths, tests), Reading (one slot, and then
@@ -28,8 +30,8 @@ ghost use Rattle.records.specs.Reading.{
   readingOf,
   readingNumber,
   readingValues,
+  noFields,
   extentAmong,
-  fieldExtent,
   bytesOf,
 };
 ghost use Rattle.records.specs.Causes.{Verdict};
@@ -63,7 +65,7 @@ pub struct Layout {
     pub point: Extent,
 }
 
-// The document's number of a refusal, and the offset that is returned with it.
+// The number of a refusal, and the offset that is returned with it.
 pub struct Refusal {
     pub number: u8,
     pub offset: usize,
@@ -233,7 +235,7 @@ fn length_at(input: &[u8], at: usize) -> usize
 }
 
 // The number that the field at `at`, n bytes long, is refused with; 0 where it is not. The tests go by
-// the document's order: the length, then whether the value is whole, then the value.
+// the specification's order: the length, then whether the value is whole, then the value.
 fn field_number(tag: Tag, head: Head, input: &[u8], at: usize, n: usize) -> u8
     requires { ⌜ (at + 3 ≤ length (now input)) × (n ≡ lengthAt (now input) at) ⌝ }
     ensures { λ r. ⌜ r ≡ fieldNumber tag head (now (input .entry)) at ⌝ }
@@ -396,9 +398,24 @@ pub fn read(input: &[u8]) -> Reading
 
 // ---- one field's value
 
-// Where the field with the tag stands in an accepted record; a number that is no tag is an absent
-// field.
-fn extent_of(layout: Layout, input: &[u8], tag: u8) -> Extent
+// The layout of a refused record: of no kind, with every field absent.
+pub fn no_fields(input: &[u8]) -> Layout
+    ensures { λ r. ⌜ r ≡ noFields (now (input .entry)) ⌝ }
+{
+    let end = end_extent(input);
+    Layout {
+        kind: 0,
+        degree: 0,
+        head: end,
+        frame: end,
+        coefficients: end,
+        moves: end,
+        point: end,
+    }
+}
+
+// Where the field with the tag stands, by a layout; a number that is no tag is an absent field.
+pub fn extent_of(layout: Layout, input: &[u8], tag: u8) -> Extent
     ensures { λ r. ⌜ r ≡ extentAmong slots (now (input .entry)) layout tag ⌝ }
 {
     if tag == 1 {
@@ -419,18 +436,6 @@ fn extent_of(layout: Layout, input: &[u8], tag: u8) -> Extent
     end_extent(input)
 }
 
-// Where the field with the tag stands: nothing, after the last byte, where the record has no such
-// field or is refused, or where the number is no tag.
-pub fn field_extent(input: &[u8], tag: u8) -> Extent
-    ensures extent { λ r. ⌜ r ≡ fieldExtent (now (input .entry)) tag ⌝ }
-    ensures inside { λ r. ⌜ r .start + r .length ≤ length (now (input .entry)) ⌝ }
-{
-    let Reading::Accepted(found) = read(input) else {
-        return end_extent(input);
-    };
-    extent_of(found, input, tag)
-}
-
 // The part of the record that an extent names: no copy, but the bytes from the extent's start on, where
 // they lie in the record. An extent past the end gives the empty part at the end.
 pub fn value(input: &[u8], extent: Extent) -> &[u8]
@@ -440,13 +445,4 @@ pub fn value(input: &[u8], extent: Extent) -> &[u8]
     let start = extent.start;
     let length = extent.length;
     first_part(part_from(input, start), length)
-}
-
-// The value of a field, a slice of the record: it begins at the extent's start, where it lies in the
-// record, and is as long as the extent says.
-pub fn field(input: &[u8], tag: u8) -> &[u8]
-    ensures bytes { λ r. ⌜ now r ≡ bytesOf (fieldExtent (now (input .entry)) tag) (now (input .entry)) ⌝ }
-    ensures place { λ r. ⌜ Lies (r .ptr) (input .entry .ptr) (fieldExtent (now (input .entry)) tag .start) ⌝ }
-{
-    value(input, field_extent(input, tag))
 }

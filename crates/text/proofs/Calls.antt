@@ -24,9 +24,9 @@ use Rattle.bytes.specs.declared.Move.the-variants.{Proper, Improper}
 use Rattle.bytes.proofs.Decoded.{improper-refused, move-call}
 use Rattle.opening.specs.Opening.{movesOf, pointOf}
 use Rattle.text.specs.Text.{moveLine, moveLines, pointRefusedLine, projectionLine, pointLine}
-use Rattle.text.specs.Parts.{Stands, Made}
+use Rattle.text.specs.Parts.{Stands, Answered}
 use Rattle.text.proofs.NetRows.{from, upto-from, from-next, from-none}
-use Rattle.text.proofs.Standing.{refused-early, number-there, number-made, places-made}
+use Rattle.text.proofs.Standing.{refused-early, number-there, answered}
 
 -- ---- the moves one after the other
 
@@ -72,22 +72,20 @@ module _ (net : Net) (value : List ℕ) (count k : ℕ) where
 
 -- ---- one move
 
-module _ (lent : List ℤ) (stands : Stands lent) (value : List ℕ) (k : ℕ) (m : Move) (o v : ℕ) (w : Weights) (is : m ≡ moveAt value k) where
+module _ (lent : List ℤ) (stands : Stands lent) (value : List ℕ) (k : ℕ) {m : Move} (is : m ≡ moveAt value k) {o v : ℕ} {w : Weights} where
   -- an improper one is refused 8 for its arguments, whatever the net is
-  pub improper-made : m ≡ Improper o v w → (8 ≡ refusalNumber (stepOf (netAt lent) (callAt value k) .answer)) × Made (callAt value k ∷ []) lent lent
+  pub improper-made : m ≡ Improper o v w → Answered (callAt value k) lent lent 8
   improper-made e =
       let net = netAt lent in
       let same : callAt value k ≡ call.Move o v w = sym (move-call value k) ∙ ap callOf (sym is ∙ e) in
       let refused = improper-refused value k (net .kind) (net .degree) (net .second) (sym is ∙ e) in
-      let r = refused-early lent stands (callAt value k) (ap (λ c. firstFailed (beforeSize (netGroups net) c)) same ∙ refused) in
-      (sym (r .0), r .1)
+      refused-early lent stands (callAt value k) (ap (λ c. firstFailed (beforeSize (netGroups net) c)) same ∙ refused)
 
   -- a proper one is made as the call that it is
   pub proper-made : {number : ℕ} {left : List ℤ} → m ≡ Proper o v w → number ≡ callNumber (call.Move o v w) lent [] → left ≡ callPlaces (call.Move o v w) lent []
-      → (number ≡ refusalNumber (stepOf (netAt lent) (callAt value k) .answer)) × Made (callAt value k ∷ []) lent left
+      → Answered (callAt value k) lent left number
   proper-made {number} {left} e n p =
-      subst (λ c. (number ≡ refusalNumber (stepOf (netAt lent) c .answer)) × Made (c ∷ []) lent left) (ap callOf (sym e ∙ is) ∙ move-call value k)
-      (number-made lent stands (call.Move o v w) [] refl n, places-made lent stands (call.Move o v w) [] refl p)
+      subst (λ c. Answered c lent left number) (ap callOf (sym e ∙ is) ∙ move-call value k) (answered lent stands (call.Move o v w) [] refl n p)
 
 -- ---- the point
 

@@ -9,7 +9,7 @@ use mathlib.Core.Bool.{Bool, true, false, true≢false, cond}
 use mathlib.Core.List.{List, [], _∷_, _++_}
 use lib.Dec.{ltb}
 use lib.IntN.{ℤ, pos, negsuc, natAbs}
-use lib.ListN.{length, length-append}
+use lib.ListN.{length, take, length-append}
 use lib.Signed.{ltZ}
 use Rattle.io.specs.Digits.{digits, Fewest}
 use Rattle.projection.specs.Projection.{limit}
@@ -118,6 +118,7 @@ sixteen n k fits (places, below, least) = by (ltb 16 k) refl
         absurd (omega (arith, least more))
     by false h = omega (arith, ltb-false 16 k h)
 
-pub hex-digits : (n k : ℕ) → n < 2 ^ 64 → Fewest 16 16 n k → digits 16 k n ≡ hexBits n
+-- and the sixteen that it spells are the pattern's text
+pub hex-digits : (n k : ℕ) (spelled : List ℕ) → n < 2 ^ 64 → Fewest 16 16 n k → take k spelled ≡ digits 16 k n → take 16 spelled ≡ hexBits n
 unfolding hexBits
-hex-digits n k fits f = ap (λ (j : ℕ). digits 16 j n) (sixteen n k fits f)
+hex-digits n k spelled fits f e = let all = sixteen n k fits f in ap (λ j. take j spelled) (sym all) ∙ e ∙ ap (λ j. digits 16 j n) all

@@ -10,9 +10,8 @@ use Rattle.integers.proofs.All.{clash}
 use Rattle.kinds.specs.Kinds.{known, dimensionOf}
 use Rattle.kinds.specs.Scales.{scaleOf}
 use Rattle.text.specs.Words.{decimal, signedDecimal, line}
-use Rattle.text.specs.Text.{word, kindWord, headLine, moveLine, entryLine}
-use Rattle.text.specs.Parts.{restOfLine, numbersText, between, entryCounts, indexText}
-use Rattle.text.proofs.Then.{flat}
+use Rattle.text.specs.Text.{word, refusedLine, headLine, moveLine, entryLine}
+use Rattle.text.specs.Parts.{restOfLine, numbersText, pairText, between, entryCounts, nameText}
 
 -- ---- any line
 
@@ -26,20 +25,15 @@ unfolding line
 line-split w [] more = sym (line-first w more)
 line-split w (v ∷ some) more = append-assoc w (32 ∷ between (v ∷ some)) (restOfLine more) ∙ ap (λ l. w ++ (32 ∷ l)) (line-split v some more)
 
--- ---- the first line
+-- ---- two numbers after their labels
 
-pub head-parts : (kind degree : ℕ) → known kind degree 0 ≡ true
-    → headLine kind degree 0 ≡ flat (kindWord kind ∷ (word " " ++ decimal degree) ∷ (32 ∷ decimal (scaleOf kind degree 0)) ∷ (10 ∷ []) ∷ [])
-unfolding headLine line
-head-parts zero degree h = absurd (clash h refl)
-head-parts (suc zero) degree h = refl
-head-parts (suc (suc zero)) degree h = refl
-head-parts (suc (suc (suc kind))) degree h = absurd (clash h refl)
+pub refused-line : (number offset : ℕ) → refusedLine number offset ≡ pairText (word "refused ") number (word " at ") offset
+unfolding refusedLine line
+refused-line number offset = refl
 
--- ---- a refused move has a line, a taken one has none
-
-pub move-line : (k number : ℕ) → (number ≡ 0 → ⊥) → moveLine k number ≡ line (word "move" ∷ decimal k ∷ word "refused" ∷ decimal number ∷ [])
-unfolding moveLine
+-- a refused move has a line, a taken one has none
+pub move-line : (k number : ℕ) → (number ≡ 0 → ⊥) → moveLine k number ≡ pairText (word "move ") k (word " refused ") number
+unfolding moveLine line
 move-line k zero h = absurd (h refl)
 move-line k (suc number) h = refl
 
@@ -47,19 +41,32 @@ pub move-none : (k number : ℕ) → number ≡ 0 → moveLine k number ≡ []
 unfolding moveLine
 move-none k number h = ap (moveLine k) h
 
+-- the first line, n being the scale
+pub head-curve : (kind degree n : ℕ) → kind ≡ 1 → n ≡ scaleOf kind degree 0 → headLine kind degree 0 ≡ pairText (word "curve ") degree (word " ") n
+unfolding headLine line
+head-curve kind degree n h e = ap (λ k. headLine k degree 0) h ∙ ap (pairText (word "curve ") degree (word " ")) (sym (e ∙ ap (λ k. scaleOf k degree 0) h))
+
+pub head-patch : (kind degree n : ℕ) → known kind degree 0 ≡ true → (kind ≡ 1 → ⊥) → n ≡ scaleOf kind degree 0
+    → headLine kind degree 0 ≡ pairText (word "patch ") degree (word " ") n
+unfolding headLine line
+head-patch zero degree n right h e = absurd (clash right refl)
+head-patch (suc zero) degree n right h e = absurd (h refl)
+head-patch (suc (suc zero)) degree n right h e = ap (pairText (word "patch ") degree (word " ")) (sym e)
+head-patch (suc (suc (suc kind))) degree n right h e = absurd (clash right refl)
+
 -- ---- the name of an entry
 
-pub index-curve : (kind i j k : ℕ) → kind ≡ 1 → decimal j ≡ indexText kind i j k
-index-curve kind i j k h = ap (λ n. indexText n i j k) (sym h)
+pub name-curve : (kind i j k : ℕ) → kind ≡ 1 → decimal j ≡ nameText kind i j k
+name-curve kind i j k h = ap (λ n. nameText n i j k) (sym h)
 
-pub index-patch : (kind i j k : ℕ) → 1 ≤ dimensionOf kind → (kind ≡ 1 → ⊥) → indexText kind i j k ≡ flat (decimal i ∷ (32 ∷ decimal j) ∷ (32 ∷ decimal k) ∷ [])
-index-patch zero i j k low h = absurd (not-suc-le-zero low)
-index-patch (suc zero) i j k low h = absurd (h refl)
-index-patch (suc (suc zero)) i j k low h = refl
-index-patch (suc (suc (suc kind))) i j k low h = absurd (not-suc-le-zero low)
+pub name-patch : (kind i j k : ℕ) → 1 ≤ dimensionOf kind → (kind ≡ 1 → ⊥) → nameText kind i j k ≡ decimal i ++ ((32 ∷ decimal j) ++ (32 ∷ decimal k))
+name-patch zero i j k low h = absurd (not-suc-le-zero low)
+name-patch (suc zero) i j k low h = absurd (h refl)
+name-patch (suc (suc zero)) i j k low h = refl
+name-patch (suc (suc (suc kind))) i j k low h = absurd (not-suc-le-zero low)
 
 -- the entry's name and its numbers are its line
-pub entry-text : (kind i j k : ℕ) → 1 ≤ dimensionOf kind → (xs : List ℤ) → indexText kind i j k ++ numbersText xs ≡ entryLine kind (entryCounts kind i j k) xs
+pub entry-text : (kind i j k : ℕ) → 1 ≤ dimensionOf kind → (xs : List ℤ) → nameText kind i j k ++ numbersText xs ≡ entryLine kind (entryCounts kind i j k) xs
 unfolding entryLine
 entry-text zero i j k low xs = absurd (not-suc-le-zero low)
 entry-text (suc zero) i j k low xs = line-split (decimal j) [] (map signedDecimal xs)

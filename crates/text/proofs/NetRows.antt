@@ -1,22 +1,20 @@
--- The net's lines row by row: the entries in the document's order are the rows one after the other, and each loop writes the front of what is left.
-use Prim.Native.Nat.{ℕ, zero, suc, _+_, _*_, _-_, _≤_, _<_}
+-- The net's lines row by row: the entries in the specification's order are the rows one after the other, and the loop writes the front of what is left.
+use Prim.Native.Nat.{ℕ, zero, suc, _+_, _-_, _≤_, _<_}
 use native.Mathlib.Omega.{arith}
 use mathlib.Core.Path.{_≡_, refl, sym, ap, ap₂, _∙_}
 use mathlib.Core.Bool.{true}
 use mathlib.Core.List.{List, [], _∷_, _++_, map, append-assoc}
 use lib.IntN.{ℤ}
-use lib.ListN.{length, take, drop, length-append, length-map}
+use lib.ListN.{take, drop}
 use lib.Seq.{drop-drop}
 use Rattle.integers.specs.Sum.{upto}
-use Rattle.integers.proofs.Sums.{length-upto}
 use Rattle.integers.proofs.All.{clash}
 use Rattle.polar.specs.Order.{joined, counts}
 use Rattle.polar.specs.Groups.{countsOver}
-use Rattle.entries.specs.Entries.{numberCount}
 use Rattle.entries.proofs.Places.{joined-map}
 use Rattle.kinds.specs.Kinds.{groupsOf, known, dimensionOf}
 use Rattle.text.specs.Text.{entryLine, entryLines}
-use Rattle.text.specs.Parts.{entryCounts, lastOf, rowOf, rowText}
+use Rattle.text.specs.Parts.{entryCounts, lastOf}
 
 -- ---- the numbers from k on
 
@@ -44,36 +42,20 @@ from-none k n h = let none : n - k ≡ 0 = omega (arith, h) in ap (from k) none
 
 -- ---- entries one after the other
 
--- the next entry's numbers, and those after them
-next-numbers : (xs : List ℤ) (p : ℕ) → drop 4 (drop (4 * p) xs) ≡ drop (4 * (p + 1)) xs
-next-numbers xs p = let e : 4 * p + 4 ≡ 4 * (p + 1) = omega arith in drop-drop 4 (4 * p) xs ∙ ap (λ n. drop n xs) e
-
-lines-cons : (kind : ℕ) (es : List (List ℕ)) (more : List (List (List ℕ))) (xs : List ℤ) (p : ℕ)
-    → entryLines kind (es ∷ more) (drop (4 * p) xs) ≡ entryLine kind es (take 4 (drop (4 * p) xs)) ++ entryLines kind more (drop (4 * (p + 1)) xs)
+-- the next entry has the next four numbers
+pub lines-next : (kind : ℕ) (es : List (List ℕ)) (more : List (List (List ℕ))) (xs : List ℤ) (p : ℕ)
+    → entryLines kind (es ∷ more) (drop p xs) ≡ entryLine kind es (take 4 (drop p xs)) ++ entryLines kind more (drop (p + 4) xs)
 unfolding entryLines
-lines-cons kind es more xs p = ap (λ l. entryLine kind es (take 4 (drop (4 * p) xs)) ++ entryLines kind more l) (next-numbers xs p)
+lines-next kind es more xs p = ap (λ l. entryLine kind es (take 4 (drop p xs)) ++ entryLines kind more l) (drop-drop 4 p xs)
 
-lines-none : (kind : ℕ) (xs : List ℤ) → entryLines kind [] xs ≡ []
+pub lines-none : (kind : ℕ) (xs : List ℤ) → entryLines kind [] xs ≡ []
 unfolding entryLines
 lines-none kind xs = refl
 
--- the lines of two runs of entries
-lines-append : (kind : ℕ) (a b : List (List (List ℕ))) (xs : List ℤ) (p : ℕ)
-    → entryLines kind (a ++ b) (drop (4 * p) xs) ≡ entryLines kind a (drop (4 * p) xs) ++ entryLines kind b (drop (4 * (p + length a)) xs)
-lines-append kind [] b xs p =
-    let e : p ≡ p + 0 = omega arith in
-    ap (λ q. entryLines kind b (drop (4 * q) xs)) e ∙ ap (λ l. l ++ entryLines kind b (drop (4 * (p + 0)) xs)) (sym (lines-none kind (drop (4 * p) xs)))
-lines-append kind (e ∷ a) b xs p =
-    let moved : (p + 1) + length a ≡ p + suc (length a) = omega arith in
-    lines-cons kind e (a ++ b) xs p
-    ∙ ap (λ l. first ++ l) (lines-append kind a b xs (p + 1))
-    ∙ sym (append-assoc first (entryLines kind a (drop (4 * (p + 1)) xs)) (entryLines kind b (drop (4 * ((p + 1) + length a)) xs)))
-    ∙ ap₂ _++_ (sym (lines-cons kind e a xs p)) (ap (λ q. entryLines kind b (drop (4 * q) xs)) moved)
-  where
-    first : List ℕ
-    first = entryLine kind e (take 4 (drop (4 * p) xs))
-
 -- ---- rows
+
+abbrev rowOf : ℕ → ℕ → ℕ → List (List (List ℕ))
+rowOf kind m h = map (λ k. entryCounts kind (m - h) (h - k) k) (upto (suc (lastOf (dimensionOf kind) h)))
 
 joined-one : {A B : Type 0} (g : A → B) (xs : List A) → joined (λ x. g x ∷ []) xs ≡ map g xs
 joined-one g [] = refl
@@ -119,10 +101,6 @@ counts-rows (suc zero) m h = rows-by 0 m ∙ joined-cong (λ h. joined one (map 
 counts-rows (suc (suc zero)) m h = rows-by 1 m ∙ joined-cong (λ h. joined one (map (λ e. (m - h) ∷ e) (counts 1 h))) (rowOf 2 m) (patch-row m) (upto (suc m))
 counts-rows (suc (suc (suc kind))) m h = absurd (clash h refl)
 
-length-row : (kind m h : ℕ) → length (rowOf kind m h) ≡ suc (lastOf (dimensionOf kind) h)
-length-row kind m h =
-    length-map (upto (suc (lastOf (dimensionOf kind) h))) (λ k. entryCounts kind (m - h) (h - k) k) ∙ length-upto (suc (lastOf (dimensionOf kind) h))
-
 -- the largest k, by the dimension
 pub last-low : (n h : ℕ) → n < 2 → 0 ≡ lastOf n h
 last-low zero h b = refl
@@ -139,69 +117,54 @@ last-most zero h = omega arith
 last-most (suc zero) h = omega arith
 last-most (suc (suc n)) h = omega arith
 
--- ---- what is left of a row
-
--- from entry k of row h on, the row's first entry being p-th among the numbers
-abbrev pub rowLeft : ℕ → ℕ → ℕ → ℕ → List ℤ → ℕ → ℕ → List ℕ
-rowLeft kind m h last xs p k = entryLines kind (map (λ k. entryCounts kind (m - h) (h - k) k) (from k (suc last - k))) (drop (4 * (p + k)) xs)
-
-module _ (kind m h last : ℕ) (xs : List ℤ) (p : ℕ) where
-  abbrev at : ℕ → List (List ℕ)
-  at k = entryCounts kind (m - h) (h - k) k
-
-  pub row-all : last ≡ lastOf (dimensionOf kind) h → rowText kind m h xs p ≡ rowLeft kind m h last xs p 0
-  row-all e =
-      let same : suc (lastOf (dimensionOf kind) h) ≡ suc last - 0 = omega (arith, e) in
-      let place : p ≡ p + 0 = omega arith in
-      ap₂ (λ ks q. entryLines kind (map at ks) (drop (4 * q) xs)) (upto-from (suc (lastOf (dimensionOf kind) h)) ∙ ap (from 0) same) place
-
-  pub row-next : (k : ℕ) → k ≤ last → rowLeft kind m h last xs p k ≡ entryLine kind (at k) (take 4 (drop (4 * (p + k)) xs)) ++ rowLeft kind m h last xs p (k + 1)
-  row-next k b =
-      let place : p + k + 1 ≡ p + (k + 1) = omega arith in
-      ap (λ ks. entryLines kind (map at ks) (drop (4 * (p + k)) xs)) (from-next k (suc last) (omega (arith, b)))
-      ∙ lines-cons kind (at k) (map at (from (k + 1) (suc last - (k + 1)))) xs (p + k)
-      ∙ ap (λ q. entryLine kind (at k) (take 4 (drop (4 * (p + k)) xs)) ++ entryLines kind (map at (from (k + 1) (suc last - (k + 1)))) (drop (4 * q) xs)) place
-
-  pub row-none : (k : ℕ) → last < k → rowLeft kind m h last xs p k ≡ []
-  row-none k b = ap (λ ks. entryLines kind (map at ks) (drop (4 * (p + k)) xs)) (from-none k (suc last) b) ∙ lines-none kind (drop (4 * (p + k)) xs)
-
 -- ---- what is left of the net
 
--- the entries from row h on, and their lines, the first being p-th among the numbers
-abbrev pub rowsLeft : ℕ → ℕ → ℕ → List (List (List ℕ))
-rowsLeft kind m h = joined (rowOf kind m) (from h (suc m - h))
+-- the entries of row h from k on, and those of n rows from there on
+abbrev rowLeft : ℕ → ℕ → ℕ → ℕ → List (List (List ℕ))
+rowLeft kind m h k = map (λ k. entryCounts kind (m - h) (h - k) k) (from k (suc (lastOf (dimensionOf kind) h) - k))
 
-abbrev pub netLeft : ℕ → ℕ → List ℤ → ℕ → ℕ → List ℕ
-netLeft kind m xs p h = entryLines kind (rowsLeft kind m h) (drop (4 * p) xs)
+abbrev pub entriesLeft : ℕ → ℕ → ℕ → ℕ → ℕ → List (List (List ℕ))
+entriesLeft kind m zero h k = []
+entriesLeft kind m (suc n) h k = rowLeft kind m h k ++ entriesLeft kind m n (suc h) 0
+
+-- what comes after entry k of row h
+abbrev pub afterEntry : ℕ → ℕ → ℕ → ℕ → List (List (List ℕ))
+afterEntry kind m h k = rowLeft kind m h (k + 1) ++ entriesLeft kind m (suc m - (h + 1)) (h + 1) 0
 
 module _ (kind m : ℕ) where
-  rows-next : (h : ℕ) → h ≤ m → rowsLeft kind m h ≡ rowOf kind m h ++ rowsLeft kind m (h + 1)
-  rows-next h b = ap (joined (rowOf kind m)) (from-next h (suc m) (omega (arith, b)))
+  rows-left : (n h : ℕ) → joined (rowOf kind m) (from h n) ≡ entriesLeft kind m n h 0
+  rows-left zero h = refl
+  rows-left (suc n) h =
+      let last = lastOf (dimensionOf kind) h in
+      let all : suc last ≡ suc last - 0 = omega arith in
+      ap₂ (λ ks es. map (λ k. entryCounts kind (m - h) (h - k) k) ks ++ es) (upto-from (suc last) ∙ ap (from 0) all) (rows-left n (suc h))
 
-  rows-all : known kind m 0 ≡ true → countsOver (groupsOf kind m 0) ≡ rowsLeft kind m 0
-  rows-all right =
-      let whole : suc m ≡ suc m - 0 = omega arith in
-      counts-rows kind m right ∙ ap (joined (rowOf kind m)) (upto-from (suc m) ∙ ap (from 0) whole)
+  pub left-whole : known kind m 0 ≡ true → countsOver (groupsOf kind m 0) ≡ entriesLeft kind m (suc m - 0) 0 0
+  left-whole right =
+      let all : suc m ≡ suc m - 0 = omega arith in
+      counts-rows kind m right ∙ ap (joined (rowOf kind m)) (upto-from (suc m) ∙ ap (from 0) all) ∙ rows-left (suc m - 0) 0
 
-  -- how many entries are left
-  pub count-next : (h : ℕ) → h ≤ m → length (rowsLeft kind m h) ≡ suc (lastOf (dimensionOf kind) h) + length (rowsLeft kind m (h + 1))
-  count-next h b =
-      ap length (rows-next h b) ∙ length-append (rowOf kind m h) (rowsLeft kind m (h + 1)) ∙ ap (λ k. k + length (rowsLeft kind m (h + 1))) (length-row kind m h)
+  pub left-over : (h k : ℕ) → m < h → entriesLeft kind m (suc m - h) h k ≡ []
+  left-over h k b = let none : suc m - h ≡ 0 = omega (arith, b) in ap (λ n. entriesLeft kind m n h k) none
 
-  pub count-all : known kind m 0 ≡ true → 4 * length (rowsLeft kind m 0) ≡ numberCount (groupsOf kind m 0)
-  count-all right = ap (λ es. 4 * length es) (sym (rows-all right))
+  module _ (h k : ℕ) (row : h ≤ m) where
+    first-row : (j : ℕ) → entriesLeft kind m (suc m - h) h j ≡ rowLeft kind m h j ++ entriesLeft kind m (suc m - (h + 1)) (h + 1) 0
+    first-row j =
+        let more : suc m - h ≡ suc (suc m - (h + 1)) = omega (arith, row) in
+        let next : suc h ≡ h + 1 = omega arith in
+        ap (λ n. entriesLeft kind m n h j) more ∙ ap (λ i. rowLeft kind m h j ++ entriesLeft kind m (suc m - (h + 1)) i 0) next
 
-  module _ (xs : List ℤ) where
-    pub net-all : known kind m 0 ≡ true → entryLines kind (countsOver (groupsOf kind m 0)) xs ≡ netLeft kind m xs 0 0
-    net-all right = ap (λ es. entryLines kind es xs) (rows-all right)
+    pub entry-next : k ≤ lastOf (dimensionOf kind) h → entriesLeft kind m (suc m - h) h k ≡ entryCounts kind (m - h) (h - k) k ∷ afterEntry kind m h k
+    entry-next b =
+        first-row k
+        ∙ ap (λ ks. map (λ k. entryCounts kind (m - h) (h - k) k) ks ++ entriesLeft kind m (suc m - (h + 1)) (h + 1) 0)
+        (from-next k (suc (lastOf (dimensionOf kind) h)) (omega (arith, b)))
 
-    pub net-next : (p h : ℕ) → h ≤ m → netLeft kind m xs p h ≡ rowText kind m h xs p ++ netLeft kind m xs (p + lastOf (dimensionOf kind) h + 1) (h + 1)
-    net-next p h b =
-        let row = length-row kind m h in
-        let place : p + length (rowOf kind m h) ≡ p + lastOf (dimensionOf kind) h + 1 = omega (arith, row) in
-        ap (λ es. entryLines kind es (drop (4 * p) xs)) (rows-next h b)
-        ∙ lines-append kind (rowOf kind m h) (rowsLeft kind m (h + 1)) xs p
-        ∙ ap (λ q. rowText kind m h xs p ++ entryLines kind (rowsLeft kind m (h + 1)) (drop (4 * q) xs)) place
+    -- after it comes the next of the same row, or the first of the next row where this one is over
+    pub same-row : afterEntry kind m h k ≡ entriesLeft kind m (suc m - h) h (k + 1)
+    same-row = sym (first-row (k + 1))
 
-    pub net-none : (p h : ℕ) → m < h → netLeft kind m xs p h ≡ []
-    net-none p h b = ap (λ hs. entryLines kind (joined (rowOf kind m) hs) (drop (4 * p) xs)) (from-none h (suc m) b) ∙ lines-none kind (drop (4 * p) xs)
+    pub next-row : lastOf (dimensionOf kind) h < k + 1 → afterEntry kind m h k ≡ entriesLeft kind m (suc m - (h + 1)) (h + 1) 0
+    next-row b =
+        ap (λ ks. map (λ k. entryCounts kind (m - h) (h - k) k) ks ++ entriesLeft kind m (suc m - (h + 1)) (h + 1) 0)
+        (from-none (k + 1) (suc (lastOf (dimensionOf kind) h)) (omega (arith, b)))

@@ -7,7 +7,7 @@ use mathlib.Core.Path.{_≡_, sym, ap, ap₂, _∙_}
 use mathlib.Core.List.{List, [], _∷_, _++_, append-assoc}
 use lib.ListN.{length, take, drop, set, length-append, length-drop, take-append-drop}
 use lib.Seq.{length-take-le, take-length, take-at, drop-at, drop-append-add, drop-drop, append-snoc, set-split, take-set-le, paste}
-use Rattle.text.specs.Words.{over, Wrote}
+use Rattle.text.specs.Words.{over, Room, Wrote}
 
 -- ---- an empty text, and the length
 
@@ -82,15 +82,30 @@ over-one old at b room =
 pub nothing-written : (old : List ℕ) (at : ℕ) → Wrote old at [] old at
 nothing-written old at = record { buffer = sym (over-nil old at); place = sym (add-zero at) }
 
+-- where two texts have room, the first has
+pub first-room : {old : List ℕ} {at : ℕ} {a : List ℕ} (b : List ℕ) → Room old at (a ++ b) → Room old at a
+first-room {a = a} b room = let r = room .fits in record { fits = omega (arith, r, length-append a b) }
+
 module _ {old : List ℕ} {at : ℕ} {a mid : List ℕ} {place : ℕ} (first : Wrote old at a mid place) where
   -- a writer leaves the buffer as long as it was
-  pub same-size : at + length a ≤ length old → length mid ≡ length old
-  same-size room = ap length (first .buffer) ∙ length-over old at a room
+  pub same-size : Room old at a → length mid ≡ length old
+  same-size room = ap length (first .buffer) ∙ length-over old at a (room .fits)
+
+  -- when the first is written, the second has room after it
+  pub then-room : {b : List ℕ} → Room old at (a ++ b) → Room mid place b
+  then-room {b} room =
+      let r = room .fits in
+      let size = same-size (first-room b room) in
+      record { fits = omega (arith, r, length-append a b, size, first .place) }
 
   -- what one writes and the next writes after it is written in a row
-  pub in-a-row : {b new : List ℕ} {next : ℕ} → at + length a + length b ≤ length old → Wrote mid place b new next → Wrote old at (a ++ b) new next
-  in-a-row {b} room second =
+  pub in-a-row : {b new : List ℕ} {next : ℕ} → Wrote mid place b new next → Room old at (a ++ b) → Wrote old at (a ++ b) new next
+  in-a-row {b} second room =
+      let r = room .fits in
       record {
-        buffer = second .buffer ∙ ap₂ (λ (l : List ℕ) (k : ℕ). over l k b) (first .buffer) (first .place) ∙ over-over old at a b room;
+        buffer =
+            second .buffer
+            ∙ ap₂ (λ (l : List ℕ) (k : ℕ). over l k b) (first .buffer) (first .place)
+            ∙ over-over old at a b (omega (arith, r, length-append a b));
         place = second .place ∙ ap (λ (k : ℕ). k + length b) (first .place) ∙ add-assoc at (length a) (length b) ∙ ap (λ (k : ℕ). at + k) (sym (length-append a b));
       }

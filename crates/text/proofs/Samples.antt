@@ -10,7 +10,7 @@ pub entry-line : line (decimal 10 ∷ signedDecimal (negsuc 8) ∷ signedDecimal
 unfolding line decimal decimalBy signedDecimal
 entry-line = refl
 
--- the last line of document 01's output for the circle: `at` and three patterns
+-- the last line of the circle's text: `at` and three patterns
 pub at-line : line ((97 ∷ 116 ∷ []) ∷ hexBits 0x3fe3333333333333 ∷ hexBits 0x3fe999999999999a ∷ hexBits 0 ∷ [])
     ≡ 97 ∷ 116 ∷ 32 ∷ 51 ∷ 102 ∷ 101 ∷ 51 ∷ 51 ∷ 51 ∷ 51 ∷ 51 ∷ 51 ∷ 51 ∷ 51 ∷ 51 ∷ 51 ∷ 51 ∷ 51 ∷ 51 ∷ 32 ∷ 51 ∷ 102 ∷ 101 ∷ 57 ∷ 57 ∷ 57 ∷ 57 ∷ 57 ∷ 57 ∷ 57 ∷ 57 ∷ 57 ∷ 57 ∷ 57 ∷ 57 ∷ 97 ∷ 32 ∷ 48 ∷ 48 ∷ 48 ∷ 48 ∷ 48 ∷ 48 ∷ 48 ∷ 48 ∷ 48 ∷ 48 ∷ 48 ∷ 48 ∷ 48 ∷ 48 ∷ 48 ∷ 48 ∷ 10 ∷ []
 unfolding line hexBits

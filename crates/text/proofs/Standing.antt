@@ -2,9 +2,9 @@
 -- stands there after it. Every net that is put into the places is read back from them (`read-back` of the crate machine).
 use Prim.Native.Nat.{ℕ, zero, suc, _+_, _-_, _≤_, _<_}
 use native.Mathlib.Omega.{arith}
-use mathlib.Core.Path.{_≡_, refl, sym, ap, ap₂, _∙_, subst}
-use mathlib.Core.Bool.{true, false}
-use mathlib.Core.List.{List, [], _∷_, _++_}
+use mathlib.Core.Path.{_≡_, refl, sym, ap, ap₂, _∙_}
+use mathlib.Core.Bool.{true}
+use mathlib.Core.List.{List, [], _∷_}
 use lib.IntN.{ℤ, pos}
 use lib.ListN.{length, getD, take, drop, length-drop}
 use lib.Seq.{length-take-le}
@@ -14,7 +14,7 @@ use Rattle.entries.specs.Entries.{numberCount}
 use Rattle.kinds.specs.Kinds.{groupsOf, known}
 use Rattle.kinds.proofs.Limits.{limits}
 use Rattle.kinds.proofs.Counts.{entries-fit}
-use Rattle.machine.specs.Refusals.{Test, _else_, firstFailed, allPass}
+use Rattle.machine.specs.Refusals.{_else_, firstFailed, allPass}
 use Rattle.machine.specs.Calls.{beforeSize}
 use Rattle.machine.specs.Sizes.{callTests}
 use Rattle.machine.specs.Steps.{refusalNumber, foundAt, stepBy, after}
@@ -22,10 +22,10 @@ use Rattle.machine.specs.Nets.{Net, netGroups, netPolar, handedTests, netTests,
 use Rattle.machine.specs.Lent.{byteOf, netAt, put, wide, unlessRefused, room, callNumber, callPlaces}
 use Rattle.machine.specs.declared.Call.{Call}
 use Rattle.machine.specs.declared.Call.the-variants as call
-use Rattle.machine.proofs.Refusals.{none-failed, row-passes, passed-first}
+use Rattle.machine.proofs.Refusals.{none-failed, row-passes, passed-first, refused-first}
 use Rattle.machine.proofs.Lent.{Sound, accepted-sound, read-back, put-long}
-use Rattle.text.specs.Text.{entryLines, netLines}
-use Rattle.text.specs.Parts.{Stands, Made}
+use Rattle.text.specs.Text.{headLine, entryLines, netLines}
+use Rattle.text.specs.Parts.{Stands, Made, Answered, netHead}
 
 module _ (lent : List ℤ) (stands : Stands lent) where
   pub enough : wide lent ≡ true
@@ -40,19 +40,19 @@ module _ (lent : List ℤ) (stands : Stands lent) where
   unfolding handedTests
   right = row-passes (handedTests (netAt lent)) passed 0
 
-  pub second-none : netAt lent .second ≡ 0
+  second-none : netAt lent .second ≡ 0
   second-none = let l = limits (netAt lent .kind) (netAt lent .degree) (netAt lent .second) right in omega arith
 
-  pub one-degree : known (netAt lent .kind) (netAt lent .degree) 0 ≡ true
-  one-degree = subst (λ q. known (netAt lent .kind) (netAt lent .degree) q ≡ true) second-none right
-
-  pub head-below : (byteOf (getD lent 0 (pos 0)) < 255) × (byteOf (getD lent 1 (pos 0)) < 255)
+  -- what stands first are its kind and degree, as bytes
+  head-below : (byteOf (getD lent 0 (pos 0)) < 255) × (byteOf (getD lent 1 (pos 0)) < 255)
   unfolding netAt
   head-below = let l = limits (netAt lent .kind) (netAt lent .degree) (netAt lent .second) right in (omega arith, omega arith)
 
-  -- its entries
-  pub entries-there : (n : ℕ) → n ≡ numberCount (groupsOf (netAt lent .kind) (netAt lent .degree) (netAt lent .second)) → n ≤ 180
-  entries-there n e = let fit = entries-fit (netAt lent .kind) (netAt lent .degree) (netAt lent .second) right in omega (arith, e, fit)
+  pub kind-there : (0 < length lent) × (byteOf (getD lent 0 (pos 0)) < 255)
+  kind-there = (let l = stands .long in omega (arith, l), head-below .0)
+
+  pub degree-there : (1 < length lent) × (byteOf (getD lent 1 (pos 0)) < 255)
+  degree-there = (let l = stands .long in omega (arith, l), head-below .1)
 
   pub sound : Sound (netAt lent)
   unfolding netAt
@@ -60,19 +60,41 @@ module _ (lent : List ℤ) (stands : Stands lent) where
       record {
         right = right;
         exact =
-            let fit = entries-there (numberCount (netGroups (netAt lent))) refl in
+            let fit = entries-fit (netAt lent .kind) (netAt lent .degree) (netAt lent .second) right in
             let l = stands .long in
             length-take-le (numberCount (netGroups (netAt lent))) (drop 12 lent) (simp length-drop (omega arith));
       }
 
-  -- the lines of the net from the numbers in the places, k and d being its kind and degree, and r how many numbers there are
-  pub lines-there : {k d r : ℕ} → k ≡ netAt lent .kind → d ≡ netAt lent .degree → r ≡ numberCount (groupsOf k d 0)
-      → netLines (netAt lent) ≡ entryLines k (countsOver (groupsOf k d 0)) (take (12 + r - 12) (drop 12 lent))
-  unfolding netLines netAt
-  lines-there {k} {d} {r} p q e =
-      let cut : r ≡ 12 + r - 12 = omega arith in
-      sym (λ i. entryLines (p i) (countsOver (groupsOf (p i) (q i) (sym second-none i))) (take (numberCount (groupsOf (p i) (q i) (sym second-none i))) (drop 12 lent)))
-      ∙ ap (λ n. entryLines k (countsOver (groupsOf k d 0)) (take n (drop 12 lent))) (sym e ∙ cut)
+  -- kind and degree as they are read
+  module _ {k d : ℕ} (kind : k ≡ byteOf (getD lent 0 (pos 0))) (degree : d ≡ byteOf (getD lent 1 (pos 0))) where
+    pub one-degree : known k d 0 ≡ true
+    unfolding netAt
+    one-degree = (λ i. known (kind i) (degree i) (sym second-none i)) ∙ right
+
+    pub head-there : netHead (netAt lent) ≡ headLine k d 0
+    unfolding netAt
+    head-there = sym (λ i. headLine (kind i) (degree i) (sym second-none i))
+
+    -- the entries are r numbers, which stand behind the head
+    module _ {r : ℕ} (count : r ≡ numberCount (groupsOf k d 0)) where
+      pub entries-few : r ≤ 180
+      entries-few = let fit = entries-fit k d 0 one-degree in omega (arith, count, fit)
+
+      pub entries-long : length (take (12 + r - 12) (drop 12 lent)) ≡ numberCount (groupsOf k d 0)
+      entries-long =
+          let few = entries-few in
+          let l = stands .long in
+          let cut : 12 + r - 12 ≡ r = omega arith in
+          length-take-le (12 + r - 12) (drop 12 lent) (simp length-drop (omega arith)) ∙ cut ∙ count
+
+      pub lines-there : netLines (netAt lent) ≡ entryLines k (countsOver (groupsOf k d 0)) (take (12 + r - 12) (drop 12 lent))
+      unfolding netLines netAt
+      lines-there =
+          let cut : r ≡ 12 + r - 12 = omega arith in
+          sym
+          (λ i.
+          entryLines (kind i) (countsOver (groupsOf (kind i) (degree i) (sym second-none i))) (take (numberCount (groupsOf (kind i) (degree i) (sym second-none i))) (drop 12 lent)))
+          ∙ ap (λ n. entryLines k (countsOver (groupsOf k d 0)) (take n (drop 12 lent))) (sym count ∙ cut)
 
 -- ---- the number of a step
 
@@ -81,15 +103,6 @@ unfolding stepBy accepted foundAt
 number-by zero net (call.Move operation vertex weights) = refl
 number-by zero net (call.Point weights) = refl
 number-by (suc k) net c = refl
-
--- where the first of two tables refuses, it decides
-refused-first : (before rest : List Test) (k : ℕ) → firstFailed before ≡ suc k → firstFailed (before ++ rest) ≡ suc k
-refused-first [] rest k h = absurd (wrong h)
-  where
-    wrong : 0 ≡ suc k → ⊥
-    wrong w = omega arith
-refused-first (true else j ∷ before) rest k h = refused-first before rest k h
-refused-first (false else j ∷ before) rest k h = h
 
 -- ---- a call on the net
 
@@ -104,23 +117,22 @@ module _ (lent : List ℤ) (stands : Stands lent) (c : Call) where
       record { net = e; stands = record { long = long; handed = λ calls. ap (λ n. firstFailed (handedTests (after stepOf n calls))) e ∙ stands .handed (c ∷ calls) } }
 
   -- a call that is refused for its arguments leaves the places
-  pub refused-early : {k : ℕ} → firstFailed (beforeSize (netGroups net) c) ≡ suc k → (refusalNumber (stepOf net c .answer) ≡ suc k) × Made (c ∷ []) lent lent
+  pub refused-early : {k : ℕ} → firstFailed (beforeSize (netGroups net) c) ≡ suc k → Answered c lent lent (suc k)
   unfolding stepOf stepBy netTests callTests
   refused-early {k} h =
-      let tests = beforeSize (netGroups net) c in
       let number : firstFailed (netTests net c) ≡ suc k
-      = passed-first (handedTests net) (callTests (netGroups net) c (netPolar net c)) (passed lent stands) ∙ refused-first tests _ k h in
-      (ap (λ n. refusalNumber (stepBy n net (accepted net c) .answer)) number, made-by (stands .long) (sym (ap (λ n. stepBy n net (accepted net c) .left) number)))
+      = passed-first (handedTests net) (callTests (netGroups net) c (netPolar net c)) (passed lent stands)
+      ∙ refused-first (beforeSize (netGroups net) c) _ (λ none. let z : 0 ≡ suc k = sym none ∙ h in omega arith)
+      ∙ h in
+      record {
+        numbered = sym (ap (λ n. refusalNumber (stepBy n net (accepted net c) .answer)) number);
+        made = made-by (stands .long) (sym (ap (λ n. stepBy n net (accepted net c) .left) number));
+      }
 
   module _ (found : List ℤ) (roomy : room c found ≡ true) where
     pub number-there : callNumber c lent found ≡ firstFailed (netTests net c)
     unfolding callNumber
     number-there = ap₂ (λ b r. firstFailed (b else 11 ∷ r else 11 ∷ netTests net c)) (enough lent stands) roomy
-
-    -- the number answered is the step's, and the places hold what it leaves
-    pub number-made : {number : ℕ} → number ≡ callNumber c lent found → number ≡ refusalNumber (stepOf net c .answer)
-    unfolding stepOf
-    number-made is = is ∙ number-there ∙ sym (number-by (firstFailed (netTests net c)) net c)
 
     places-by : (k : ℕ) → firstFailed (netTests net c) ≡ k → {left : List ℤ} → left ≡ callPlaces c lent found → Made (c ∷ []) lent left
     unfolding callPlaces stepOf stepBy
@@ -133,5 +145,7 @@ module _ (lent : List ℤ) (stands : Stands lent) (c : Call) where
         let stood : left ≡ lent = is ∙ ap (λ k. unlessRefused k (put (accepted net c .left) lent) lent) (number-there ∙ e) in
         made-by (ap length stood ∙ stands .long) (ap netAt stood ∙ sym (ap (λ k. stepBy k net (accepted net c) .left) e))
 
-    pub places-made : {left : List ℤ} → left ≡ callPlaces c lent found → Made (c ∷ []) lent left
-    places-made is = places-by (firstFailed (netTests net c)) refl is
+    -- the number answered is the step's, and the places hold what it leaves
+    pub answered : {number : ℕ} {left : List ℤ} → number ≡ callNumber c lent found → left ≡ callPlaces c lent found → Answered c lent left number
+    unfolding stepOf
+    answered is e = record { numbered = is ∙ number-there ∙ sym (number-by (firstFailed (netTests net c)) net c); made = places-by (firstFailed (netTests net c)) refl e }

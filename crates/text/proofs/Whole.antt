@@ -1,4 +1,4 @@
--- The whole text: the net machine's answers are the comparison machine's, so the text that the code puts together is the document's; and it always has room.
+-- The whole text: the net machine's answers are the comparison machine's, so the text that the code puts together is the one defined; and it always has room.
 use Prim.Native.Nat.{ℕ, zero, suc, _+_, _/_, _%_, _≤_, _<_}
 use native.Mathlib.Omega.{arith}
 use mathlib.Core.Path.{_≡_, refl, sym, ap, ap₂, _∙_, subst}
@@ -27,17 +27,17 @@ use Rattle.machine.proofs.Demand3.{along, start-reached}
 use Rattle.machine.proofs.Lent.{read-back, put-long}
 use Rattle.machine.proofs.Carried.{reached-sound}
 use Rattle.bytes.specs.Moves.{weightsOf, callAt}
-use Rattle.records.specs.Reading.{bytesOf, readingOf, endExtent}
+use Rattle.records.specs.Reading.{bytesOf, readingOf, noFields}
 use Rattle.records.specs.declared.Reading.{Reading}
 use Rattle.records.specs.declared.Reading.the-variants as reading
 use Rattle.records.proofs.Accepted.{accepted-sound}
-use Rattle.opening.specs.Opening.{layoutBy, layoutIn, polynomialsIn, numbersIn, framesFrom, firstNetFrom, movesExtent, movesOf, movesIn, pointExtent, pointOf, pointIn, refusalIn, openedIn, placesIn}
+use Rattle.opening.specs.Opening.{layoutBy, layoutRead, polynomialsIn, numbersIn, framesFrom, firstNetFrom, openedWith, layoutIn, movesOf, movesIn, pointOf, pointIn, refusalIn, openedIn, placesIn}
 use Rattle.opening.specs.declared.Opened.{Opened}
-use Rattle.opening.proofs.Records.{accepted-numbers}
+use Rattle.opening.proofs.Records.{accepted-numbers, opened-wide}
 use Rattle.text.specs.Words.{over, Wrote}
 use Rattle.text.specs.Text.{refusedLine, headLine, moveLines, netLines, pointLine, acceptedText, textBy, textOf, fits, writtenOf, bufferOf}
 use Rattle.text.specs.Parts.{Stands, netText}
-use Rattle.text.specs.Within.{Within}
+use Rattle.text.specs.Told.{Verdict, written, refused, Told}
 use Rattle.text.specs.declared.Written.the-variants.{Bytes, Refused}
 use Rattle.text.proofs.Room.{accepted-room}
 
@@ -58,31 +58,28 @@ reached-handed f frames at = none-failed (handedTests (netOver f frames)) refl .
 -- ---- how many moves and points a record has
 
 moves-short : (s : List ℕ) → layoutIn s .moves .length ≤ 256
-unfolding layoutIn
-moves-short s = by (readingOf s) refl
+unfolding layoutIn layoutRead
+moves-short s = by (refusalIn s .number) (readingOf s) refl
   where
-    by : (r : Reading) → readingOf s ≡ r → layoutBy r s .moves .length ≤ 256
-    by (reading.Accepted l) e =
+    by : (k : ℕ) (r : Reading) → readingOf s ≡ r → unlessRefused k (layoutBy r s) (noFields s) .moves .length ≤ 256
+    by zero (reading.Accepted l) e =
         leb-true (l .moves .length) 256 (and-parts (eqb (l .moves .length % 8) 0) (leb (l .moves .length) 256) (accepted-sound s l e .movesLong) .1)
-    by (reading.Refused r) e = omega arith
-
--- a refused record has none
-extent-short : (k : ℕ) (s : List ℕ) → unlessRefused k (layoutIn s .moves) (endExtent s) .length ≤ 256
-extent-short zero s = moves-short s
-extent-short (suc k) s = omega arith
+    by zero (reading.Refused r) e = omega arith
+    by (suc k) r e = omega arith
 
 moves-few : (s : List ℕ) → length (movesIn s) ≤ 32
-unfolding movesIn movesExtent
+unfolding movesIn
 moves-few s =
-    let short = extent-short (refusalIn s .number) s in
-    let value = bytesOf (movesExtent s) s in
-    let cut = length-take (movesExtent s .length) (drop (movesExtent s .start) s) in
+    let short = moves-short s in
+    let moves = layoutIn s .moves in
+    let value = bytesOf moves s in
+    let cut = length-take (moves .length) (drop (moves .start) s) in
     let many = length-map (upto (length value / 8)) (callAt value) ∙ length-upto (length value / 8) in
     omega (arith, short, cut, many)
 
 point-few : (s : List ℕ) → length (pointIn s) ≤ 1
 unfolding pointIn
-point-few s = by (eqb (length (bytesOf (pointExtent s) s)) 0) (call.Point (weightsOf (bytesOf (pointExtent s) s)))
+point-few s = let value = bytesOf (layoutIn s .point) s in by (eqb (length value) 0) (call.Point (weightsOf value))
   where
     by : (b : Bool) (c : Call) → length (cond b [] (c ∷ [])) ≤ 1
     by true c = omega arith
@@ -126,15 +123,8 @@ module _ (s : List ℕ) (lent : List ℤ) {net : List ℤ} {o : Opened} (long : 
   enough : wide lent ≡ true
   enough = le-leb 193 (length lent) (omega (arith, long))
 
-  opened-is : o ≡ record { refusal = refusalIn s; moves = movesExtent s; point = pointExtent s }
-  unfolding openedIn
-  opened-is =
-      is .0
-      ∙ ap
-      (λ b.
-      cond b (record { refusal = refusalIn s; moves = movesExtent s; point = pointExtent s })
-      (record { refusal = record { number = 11; offset = 0 }; moves = endExtent s; point = endExtent s }))
-      enough
+  opened-is : o ≡ openedWith (refusalIn s) s
+  opened-is = is .0 ∙ opened-wide s lent enough
 
   number-is : o .refusal .number ≡ refusalIn s .number
   number-is = ap (λ x. x .refusal .number) opened-is
@@ -150,11 +140,11 @@ module _ (s : List ℕ) (lent : List ℤ) {net : List ℤ} {o : Opened} (long : 
     pub opened-stands : Stands net
     opened-stands = subst Stands (sym places-are) (first-stands s accepted lent long enough .1)
 
-    pub opened-text : netText (netAt net) (movesOf (bytesOf (o .moves) s)) (pointOf (bytesOf (o .point) s)) ≡ textOf s
-    unfolding movesIn pointIn
+    pub opened-text : netText (netAt net) (movesOf (bytesOf (o .layout .moves) s)) (pointOf (bytesOf (o .layout .point) s)) ≡ textOf s
+    unfolding movesIn pointIn layoutIn
     opened-text =
         let first : netAt net ≡ firstNetFrom s = ap netAt places-are ∙ first-stands s accepted lent long enough .0 in
-        (λ i. netText (first i) (movesOf (bytesOf (opened-is i .moves) s)) (pointOf (bytesOf (opened-is i .point) s))) ∙ text-of s accepted
+        (λ i. netText (first i) (movesOf (bytesOf (opened-is i .layout .moves) s)) (pointOf (bytesOf (opened-is i .layout .point) s))) ∙ text-of s accepted
 
     pub opened-room : length (textOf s) ≤ 4096
     opened-room = text-room s accepted
@@ -181,23 +171,27 @@ made-front {old} {text} {new} {r} w =
     )
 
 -- a buffer that is shorter than the text
-pub written-short : (text out : List ℕ) (n : ℕ) → n ≡ length text → length out < n → (Refused 11 ≡ writtenOf text out) × (out ≡ bufferOf text out)
+pub written-short : (text out : List ℕ) (n : ℕ) → n ≡ length text → length out < n → (Refused 11 ≡ writtenOf text out) × (Told text out out (Refused 11) × (out ≡ bufferOf text out))
 unfolding writtenOf bufferOf
 written-short text out n long short =
-    let no : fits text out ≡ false = lt-leb (length text) (length out) (omega (arith, long, short)) in
-    (sym (ap (λ b. cond b (Bytes (length text)) (Refused 11)) no), sym (ap (λ b. cond b (text ++ drop (length text) out) out) no))
+    let no : fits text out ≡ false = lt-leb (length text) (length out) (omega (arith, long, short)) in (
+      sym (ap (λ b. cond b (Bytes (length text)) (Refused 11)) no),
+      (record { verdict = refused (omega (arith, long, short)); within = (omega arith, refl) }, sym (ap (λ b. cond b (text ++ drop (length text) out) out) no)),
+    )
 
 -- a buffer that is not
 pub written-whole : (text out part new : List ℕ) (n r : ℕ) → n ≡ length text → n ≤ length out → part ≡ text → Wrote out 0 part new r
-    → (Bytes n ≡ writtenOf text out) × Within (Bytes n) new × (new ≡ bufferOf text out)
+    → (Bytes n ≡ writtenOf text out) × (Told text out new (Bytes n) × (new ≡ bufferOf text out))
 unfolding writtenOf bufferOf over
 written-whole text out part new n r long room same w =
     let yes : fits text out ≡ true = le-leb (length text) (length out) (omega (arith, long, room)) in
-    let whole : 0 + length text ≡ length text = omega arith in
+    let all : 0 + length text ≡ length text = omega arith in
     let front = made-front w in
     let n-is : n ≡ r = long ∙ sym (ap length same) ∙ sym (front .0) in
     let within : n ≤ length new = subst (λ k. k ≤ length new) (sym n-is) (front .2) in (
       ap Bytes long ∙ sym (ap (λ b. cond b (Bytes (length text)) (Refused 11)) yes),
-      (within, sym (length-take-le n new within)),
-      w .buffer ∙ ap (λ t. t ++ drop (0 + length t) out) same ∙ ap (λ k. text ++ drop k out) whole ∙ sym (ap (λ b. cond b (text ++ drop (length text) out) out) yes),
+      (
+        record { verdict = subst (Verdict text out 0) (sym long) (written (omega (arith, long, room))); within = (within, sym (length-take-le n new within)) },
+        w .buffer ∙ ap (λ t. t ++ drop (0 + length t) out) same ∙ ap (λ k. text ++ drop k out) all ∙ sym (ap (λ b. cond b (text ++ drop (length text) out) out) yes),
+      ),
     )

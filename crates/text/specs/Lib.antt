@@ -1,4 +1,4 @@
 pub mod Words
 pub mod Text
 pub mod Parts
-pub mod Within
+pub mod Told

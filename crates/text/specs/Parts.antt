@@ -1,11 +1,10 @@
--- What the private functions promise: parts of lines, the entries of a net in rows, a net in lent places that takes calls, and the text as the net machine
+-- What the private functions promise: parts of lines, the names of a net's entries, a net in lent places that takes calls, and the text as the net machine
 -- answers it. No public contract cites this.
-use Prim.Native.Nat.{ℕ, zero, suc, _+_, _-_, _*_}
+use Prim.Native.Nat.{ℕ, zero, suc}
 use mathlib.Core.Path.{_≡_}
 use mathlib.Core.List.{List, [], _∷_, _++_, map}
 use lib.IntN.{ℤ}
-use lib.ListN.{length, drop}
-use Rattle.integers.specs.Sum.{upto}
+use lib.ListN.{length}
 use Rattle.polar.specs.Order.{joined}
 use Rattle.kinds.specs.Kinds.{dimensionOf}
 use Rattle.machine.specs.Refusals.{firstFailed}
@@ -13,10 +12,9 @@ use Rattle.machine.specs.Steps.{refusalNumber, after, answers}
 use Rattle.machine.specs.Nets.{Net, handedTests, stepOf}
 use Rattle.machine.specs.Lent.{netAt}
 use Rattle.machine.specs.declared.Call.{Call}
-use Rattle.bytes.specs.Moves.{callAt}
 use Rattle.opening.specs.Opening.{movesOf, pointOf}
 use Rattle.text.specs.Words.{decimal, signedDecimal}
-use Rattle.text.specs.Text.{indices, headLine, moveLine, moveLines, entryLines, netLines, pointLine}
+use Rattle.text.specs.Text.{indices, headLine, moveLines, netLines, pointLine}
 
 -- ---- parts of lines
 
@@ -27,6 +25,10 @@ restOfLine (w ∷ words) = (32 ∷ w) ++ restOfLine words
 
 abbrev pub numbersText : List ℤ → List ℕ
 numbersText numbers = restOfLine (map signedDecimal numbers)
+
+-- two numbers, each after its label, and the end of the line
+abbrev pub pairText : List ℕ → ℕ → List ℕ → ℕ → List ℕ
+pairText first n second m = (first ++ decimal n) ++ ((second ++ decimal m) ++ (10 ∷ []))
 
 -- words with a space between two
 abbrev pub between : List (List ℕ) → List ℕ
@@ -46,21 +48,14 @@ countsAt (suc (suc n)) i j k = i ∷ j ∷ k ∷ []
 abbrev pub entryCounts : ℕ → ℕ → ℕ → ℕ → List (List ℕ)
 entryCounts kind i j k = countsAt (dimensionOf kind) i j k ∷ []
 
-abbrev pub indexText : ℕ → ℕ → ℕ → ℕ → List ℕ
-indexText kind i j k = between (map decimal (indices kind (entryCounts kind i j k)))
+abbrev pub nameText : ℕ → ℕ → ℕ → ℕ → List ℕ
+nameText kind i j k = between (map decimal (indices kind (entryCounts kind i j k)))
 
--- row h: the vertices after the first are taken h times together, and k is how often the third is; two vertices leave no third
+-- row h: the vertices after the first are taken h times together, and this is how often the third is at most; two vertices leave no third
 abbrev pub lastOf : ℕ → ℕ → ℕ
 lastOf zero h = 0
 lastOf (suc zero) h = 0
 lastOf (suc (suc n)) h = h
-
-abbrev pub rowOf : ℕ → ℕ → ℕ → List (List (List ℕ))
-rowOf kind m h = map (λ k. entryCounts kind (m - h) (h - k) k) (upto (suc (lastOf (dimensionOf kind) h)))
-
--- the lines of row h, whose first entry is p-th among the numbers
-abbrev pub rowText : ℕ → ℕ → ℕ → List ℤ → ℕ → List ℕ
-rowText kind m h numbers p = entryLines kind (rowOf kind m h) (drop (4 * p) numbers)
 
 -- ---- a net in lent places
 
@@ -74,10 +69,12 @@ pub record Made (calls : List Call) (lent left : List ℤ) : Type 0 where
   pub net : netAt left ≡ after stepOf (netAt lent) calls
   pub stands : Stands left
 
--- the line of move k of a value, counted from 0; the lines of all moves; and the line of the point
-abbrev pub moveText : List ℤ → List ℕ → ℕ → List ℕ
-moveText lent value k = moveLine (k + 1) (refusalNumber (stepOf (netAt lent) (callAt value k) .answer))
+-- one call is made: its number, 0 where it is taken, and the net that it leaves
+pub record Answered (call : Call) (lent left : List ℤ) (number : ℕ) : Type 0 where
+  pub numbered : number ≡ refusalNumber (stepOf (netAt lent) call .answer)
+  pub made : Made (call ∷ []) lent left
 
+-- the lines of all moves, and the line of the point
 abbrev pub movesText : List ℤ → List ℕ → List ℕ
 movesText lent value = moveLines 1 (answers stepOf (netAt lent) (movesOf value))
 
@@ -86,8 +83,11 @@ pointText lent value = joined pointLine (answers stepOf (netAt lent) (pointOf va
 
 -- ---- the text of an accepted record as the net machine answers it
 
+abbrev pub netHead : Net → List ℕ
+netHead net = headLine (net .kind) (net .degree) (net .second)
+
 unfoldable pub netText : Net → List Call → List Call → List ℕ
 netText net moves points =
     let reached = after stepOf net moves in
-    headLine (net .kind) (net .degree) (net .second)
+    netHead net
     ++ (moveLines 1 (answers stepOf net moves) ++ (netLines reached ++ joined pointLine (answers stepOf reached points)))

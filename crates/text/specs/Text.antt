@@ -1,4 +1,4 @@
--- The text of netprint (document 01, 'The program netprint'), line by line, from what the comparison machine answers and from the net over the frames that it reaches.
+-- The text of netprint (docs/RECORDS.md, 'The text of netprint'), line by line, from what the comparison machine answers and from the net over the frames that it reaches.
 use Prim.Native.Nat.{ℕ, zero, suc}
 use Prim.Native.Char.{code}
 use Prim.Native.String.{String, [] as none, _∷_ as _then_}

@@ -1,5 +1,5 @@
 -- Words and numbers as bytes, and a text written into a lent buffer. A text is a list of bytes; 48 is the code of the digit 0.
-use Prim.Native.Nat.{ℕ, zero, suc, _+_, _/_, _%_}
+use Prim.Native.Nat.{ℕ, zero, suc, _+_, _/_, _%_, _≤_}
 use mathlib.Core.Path.{_≡_}
 use mathlib.Core.Bool.{cond}
 use mathlib.Core.List.{List, [], _∷_, _++_}
@@ -13,6 +13,10 @@ use Rattle.io.specs.Digits.{digits}
 -- the buffer with the text written from place `at` on: what stands before the text and after it is as it was
 unfoldable pub over : List ℕ → ℕ → List ℕ → List ℕ
 over old at text = take at old ++ (text ++ drop (at + length text) old)
+
+-- a text has room in the buffer from place `at` on
+pub record Room (old : List ℕ) (at : ℕ) (text : List ℕ) : Type 0 where
+  pub fits : at + length text ≤ length old
 
 -- what a writer leaves: the text is in the buffer from place `at` on, and the answer is the place after it
 pub record Wrote (old : List ℕ) (at : ℕ) (text : List ℕ) (new : List ℕ) (next : ℕ) : Type 0 where

@@ -11,16 +11,15 @@ ghost use lib.ListN.{length};
 ghost use Rattle.machine.specs.Lent.{netAt};
 ghost use Rattle.opening.specs.Opening.{movesOf, pointOf};
 ghost use Rattle.text.specs.Words.{Wrote};
-ghost use Rattle.text.specs.Within.{Within};
+ghost use Rattle.text.specs.Told.{Told};
 ghost use Rattle.text.specs.Parts.{Stands, netText};
 ghost use Rattle.text.specs.Text.{refusedLine, textOf, writtenOf, bufferOf};
-use crate::lines::write_head;
-use crate::lines::write_refused;
 use crate::moves::write_moves;
 use crate::moves::write_point;
-use crate::net::head_byte;
+use crate::net::write_first;
 use crate::net::write_net;
 use crate::words::put;
+use crate::words::put_pair;
 use nets::NET;
 use opening::open;
 use records::Refusal;
@@ -42,7 +41,14 @@ fn write_refusal(out: &mut [u8], refusal: Refusal) -> usize
     requires { ⌜ 4096 ≤ length (now out) ⌝ }
     ensures { λ r. ⌜ Wrote (now (out .entry)) 0 (refusedLine (refusal .number) (refusal .offset)) (now (out .exit)) r ⌝ }
 {
-    write_refused(out, 0, refusal.number, refusal.offset)
+    put_pair(
+        out,
+        0,
+        b"refused ",
+        refusal.number as u64,
+        b" at ",
+        refusal.offset as u64,
+    )
 }
 
 // Makes the text of an accepted record, whose first net stands in the lent places: the first line, the moves
@@ -51,7 +57,7 @@ fn write_accepted(out: &mut [u8], net: &mut [i64], moves: &[u8], point: &[u8]) -
     requires { ⌜ Stands (now net) × (length (netText (netAt (now net)) (movesOf (now moves)) (pointOf (now point))) ≤ length (now out)) ⌝ }
     ensures { λ r. ⌜ Wrote (now (out .entry)) 0 (netText (netAt (now (net .entry))) (movesOf (now (moves .entry))) (pointOf (now (point .entry)))) (now (out .exit)) r ⌝ }
 {
-    let after_head = write_head(out, 0, head_byte(net, 0), head_byte(net, 1));
+    let after_head = write_first(out, 0, net);
     let after_moves = write_moves(out, after_head, net, moves);
     let after_net = write_net(out, after_moves, net);
     write_point(out, after_net, net, point)
@@ -68,8 +74,8 @@ fn make_text(out: &mut [u8], input: &[u8]) -> usize
     if refusal.number != 0 {
         return write_refusal(out, refusal);
     }
-    let moves = value(input, opened.moves);
-    let point = value(input, opened.point);
+    let moves = value(input, opened.layout.moves);
+    let point = value(input, opened.layout.point);
     write_accepted(out, &mut net, moves, point)
 }
 
@@ -77,7 +83,7 @@ fn make_text(out: &mut [u8], input: &[u8]) -> usize
 // first, and put there where it fits.
 fn write_where_it_fits(input: &[u8], out: &mut [u8]) -> Written
     ensures answer { λ r. ⌜ r ≡ writtenOf (textOf (now (input .entry))) (now (out .entry)) ⌝ }
-    ensures within { λ r. ⌜ Within r (now (out .exit)) ⌝ }
+    ensures told { λ r. ⌜ Told (textOf (now (input .entry))) (now (out .entry)) (now (out .exit)) r ⌝ }
     ensures buffer { λ _. ⌜ now (out .exit) ≡ bufferOf (textOf (now (input .entry))) (now (out .entry)) ⌝ }
 {
     let mut text = [0u8; LONGEST];
@@ -93,7 +99,7 @@ fn write_where_it_fits(input: &[u8], out: &mut [u8]) -> Written
 // is as it was. Where the longest text fits, it is made in the buffer itself.
 pub fn write_text(input: &[u8], out: &mut [u8]) -> Written
     ensures answer { λ r. ⌜ r ≡ writtenOf (textOf (now (input .entry))) (now (out .entry)) ⌝ }
-    ensures within { λ r. ⌜ Within r (now (out .exit)) ⌝ }
+    ensures told { λ r. ⌜ Told (textOf (now (input .entry))) (now (out .entry)) (now (out .exit)) r ⌝ }
     ensures buffer { λ _. ⌜ now (out .exit) ≡ bufferOf (textOf (now (input .entry))) (now (out .entry)) ⌝ }
 {
     if out.len() < LONGEST {

@@ -1,13 +1,11 @@
 // The moves and the point of a record: made in their order, with the lines that they leave. The net stands
 // in lent places, and a move changes it there.
-ghost use mathlib.Core.Path.{_≡_};
-ghost use mathlib.Core.List.{[], _∷_};
 ghost use Prim.Native.Nat.{_+_, _≤_};
 ghost use lib.ListN.{length};
 ghost use Rattle.bytes.specs.Moves.{callAt};
 ghost use Rattle.opening.specs.Opening.{movesOf};
-ghost use Rattle.text.specs.Words.{Wrote};
-ghost use Rattle.text.specs.Parts.{Stands, Made, moveText, movesText, pointText};
+ghost use Rattle.text.specs.Words.{Room, Wrote};
+ghost use Rattle.text.specs.Parts.{Stands, Made, Answered, movesText, pointText};
 use crate::lines::write_move;
 use crate::lines::write_point_refused;
 use crate::lines::write_projection;
@@ -18,18 +16,11 @@ use nets::find_point;
 use nets::take_move;
 use projection::project;
 
-// Makes move k of a record's value, the moves being counted from 0. A move that is no proper one is
-// passed over and reported; any other is judged as it is made.
-pub(crate) fn write_made(
-    out: &mut [u8],
-    at: usize,
-    net: &mut [i64],
-    value: &[u8],
-    k: usize,
-) -> usize
-    requires { ⌜ Stands (now net) × (k + 1 ≤ length (now value)) × (at + length (moveText (now net) (now value) k) ≤ length (now out)) ⌝ }
-    ensures line { λ r. ⌜ Wrote (now (out .entry)) at (moveText (now (net .entry)) (now (value .entry)) k) (now (out .exit)) r ⌝ }
-    ensures net { λ _. ⌜ Made (callAt (now (value .entry)) k ∷ []) (now (net .entry)) (now (net .exit)) ⌝ }
+// Makes move k of a record's value, the moves being counted from 0, and answers the number of its refusal, 0
+// where it is taken. A move that is no proper one is passed over; any other is judged as it is made.
+pub(crate) fn make_move(net: &mut [i64], value: &[u8], k: usize) -> u8
+    requires { ⌜ Stands (now net) × (k + 1 ≤ length (now value)) ⌝ }
+    ensures { λ r. ⌜ Answered (callAt (now (value .entry)) k) (now (net .entry)) (now (net .exit)) r ⌝ }
 {
     let Move::Proper {
         operation,
@@ -37,15 +28,14 @@ pub(crate) fn write_made(
         weights,
     } = move_at(value, k)
     else {
-        return write_move(out, at, k + 1, 8);
+        return 8;
     };
-    let number = take_move(net, operation, vertex, weights);
-    write_move(out, at, k + 1, number)
+    take_move(net, operation, vertex, weights)
 }
 
-// Makes the moves of a record's value, one after the other.
+// Makes the moves of a record's value, one after the other, with a line for each that is refused.
 pub(crate) fn write_moves(out: &mut [u8], at: usize, net: &mut [i64], value: &[u8]) -> usize
-    requires { ⌜ Stands (now net) × (at + length (movesText (now net) (now value)) ≤ length (now out)) ⌝ }
+    requires { ⌜ Stands (now net) × Room (now out) at (movesText (now net) (now value)) ⌝ }
     ensures lines { λ r. ⌜ Wrote (now (out .entry)) at (movesText (now (net .entry)) (now (value .entry))) (now (out .exit)) r ⌝ }
     ensures net { λ _. ⌜ Made (movesOf (now (value .entry))) (now (net .entry)) (now (net .exit)) ⌝ }
 {
@@ -53,15 +43,16 @@ pub(crate) fn write_moves(out: &mut [u8], at: usize, net: &mut [i64], value: &[u
     let mut next = at;
     let mut k = 0;
     while k < count {
-        next = write_made(&mut *out, next, &mut *net, value, k);
+        let number = make_move(&mut *net, value, k);
         k += 1;
+        next = write_move(&mut *out, next, k, number);
     }
     next
 }
 
 // Finds the point of a record's value, if there is one, and writes where it is or why it is refused.
 pub(crate) fn write_point(out: &mut [u8], at: usize, net: &[i64], value: &[u8]) -> usize
-    requires { ⌜ Stands (now net) × (at + length (pointText (now net) (now value)) ≤ length (now out)) ⌝ }
+    requires { ⌜ Stands (now net) × Room (now out) at (pointText (now net) (now value)) ⌝ }
     ensures { λ r. ⌜ Wrote (now (out .entry)) at (pointText (now (net .entry)) (now (value .entry))) (now (out .exit)) r ⌝ }
 {
     if value.len() == 0 {

@@ -4,30 +4,16 @@
 //! something is found, and so is a place of a net that was touched and is not in use. Behind each buffer
 //! stand further places that belong to nobody, and here it is asked whether they were touched.
 
+use gadwemosh::raw;
 use independent::calls::Weights;
 use independent::compare::compare_calls;
 use independent::first::Given;
 use independent::handed::Net;
 use independent::library::Library;
-use independent::projection::Projection;
-use independent::record::Refusal;
+use independent::projection::Room;
+use independent::record::{Lookup, Refusal};
 use std::process::ExitCode;
 use std::time::Instant;
-
-#[link(name = "exports", kind = "static")]
-extern "C" {
-    fn gadwemosh_open(input: *const u8, input_length: usize, net: *mut i64, net_length: usize, offset: *mut u64) -> u8;
-    fn gadwemosh_first(
-        kind: u8, degree: u8, frame: *const i64, frame_length: usize, coefficients: *const i64, coefficients_length: usize,
-        net: *mut i64, net_length: usize,
-    ) -> u8;
-    fn gadwemosh_move(net: *mut i64, net_length: usize, operation: u8, vertex: u8, r: i64, s: i64, t: i64) -> u8;
-    fn gadwemosh_point(net: *const i64, net_length: usize, r: i64, s: i64, t: i64, found: *mut i64, found_length: usize) -> u8;
-    fn gadwemosh_project(
-        x: i64, y: i64, z: i64, w: i64, bits: *mut u64, bits_length: usize, direction: *mut i64, direction_length: usize,
-    ) -> u8;
-    fn gadwemosh_text(input: *const u8, input_length: usize, out: *mut u8, out_length: usize, length: *mut u64) -> u8;
-}
 
 /// A lent buffer with places behind it.
 struct Lent<T> {
@@ -39,6 +25,10 @@ struct Lent<T> {
 impl<T: Copy + PartialEq> Lent<T> {
     fn of(own: &[T], behind: [T; 2]) -> Lent<T> {
         Lent { places: [own, &behind].concat(), length: own.len(), behind }
+    }
+
+    fn lend(&mut self) -> &mut [T] {
+        &mut self.places[..self.length]
     }
 
     fn back(self, own: &mut [T]) {
@@ -59,8 +49,7 @@ impl Library for Static {
     fn read(&mut self, record: &[u8], net: &mut Net) -> Result<(), Refusal> {
         let mut lent = Lent::of(&net.0, BEHIND);
         let mut offset = u64::MAX;
-        let number =
-            unsafe { gadwemosh_open(record.as_ptr(), record.len(), lent.places.as_mut_ptr(), lent.length, &mut offset) };
+        let number = raw::open(record, lent.lend(), &mut offset);
         lent.back(&mut net.0);
         assert!(number != 0 || offset == 0, "an accepted record has an offset");
         answer(number).map_err(|number| Refusal { number, offset: offset as usize })
@@ -69,53 +58,47 @@ impl Library for Static {
     fn first(&mut self, given: &Given, net: &mut Net) -> Result<(), u8> {
         let Given { kind, degree, frame, coefficients } = given;
         let mut lent = Lent::of(&net.0, BEHIND);
-        let number = unsafe {
-            gadwemosh_first(
-                *kind, *degree, frame.as_ptr(), frame.len(), coefficients.as_ptr(), coefficients.len(),
-                lent.places.as_mut_ptr(), lent.length,
-            )
-        };
+        let number = raw::first(*kind, *degree, frame, coefficients, lent.lend());
         lent.back(&mut net.0);
         answer(number)
     }
 
-    fn take(&mut self, net: &mut Net, operation: u8, vertex: u8, [r, s, t]: Weights) -> Result<(), u8> {
+    fn take(&mut self, net: &mut Net, operation: u8, vertex: u8, weights: Weights) -> Result<(), u8> {
         let mut lent = Lent::of(&net.0, BEHIND);
-        let number = unsafe { gadwemosh_move(lent.places.as_mut_ptr(), lent.length, operation, vertex, r, s, t) };
+        let number = raw::make_move(lent.lend(), operation, vertex, weights);
         lent.back(&mut net.0);
         answer(number)
     }
 
-    fn find(&mut self, net: &Net, [r, s, t]: Weights, found: &mut [i64]) -> Result<(), u8> {
+    fn find(&mut self, net: &Net, weights: Weights, found: &mut [i64]) -> Result<(), u8> {
         let mut lent = Lent::of(found, BEHIND);
-        let number =
-            unsafe { gadwemosh_point(net.0.as_ptr(), net.0.len(), r, s, t, lent.places.as_mut_ptr(), lent.length) };
+        let number = raw::point(&net.0, weights, lent.lend());
         lent.back(found);
         answer(number)
     }
 
-    fn project(&mut self, [x, y, z, w]: [i64; 4]) -> Result<Projection, u8> {
-        let (mut b, mut d) = ([7u64; 4], [7i64; 4]);
-        let number = unsafe { gadwemosh_project(x, y, z, w, b.as_mut_ptr(), b.len(), d.as_mut_ptr(), d.len()) };
-        assert!(b[3] == 7 && d[3] == 7, "a place behind a projection was written");
-        assert!(number == 1 || b == [7; 4], "bits were written beside another case");
-        assert!(number == 2 || d == [7; 4], "a direction was written beside another case");
-        match number {
-            1 => Ok(Projection::Finite { x: b[0], y: b[1], z: b[2] }),
-            2 => Ok(Projection::Direction { x: d[0], y: d[1], z: d[2] }),
-            3 => Ok(Projection::Nowhere),
-            _ => Err(number),
-        }
+    fn project(&mut self, point: [i64; 4], room: &mut Room) -> u8 {
+        let mut bits = Lent::of(&room.bits, BEHIND.map(|number| number as u64));
+        let mut direction = Lent::of(&room.direction, BEHIND);
+        let number = raw::project(point, &mut room.outcome, bits.lend(), direction.lend());
+        bits.back(&mut room.bits);
+        direction.back(&mut room.direction);
+        number
     }
 
     fn text(&mut self, record: &[u8], buffer: &mut [u8]) -> Result<usize, u8> {
         let mut lent = Lent::of(buffer, *b"->");
         let mut length = u64::MAX;
-        let number =
-            unsafe { gadwemosh_text(record.as_ptr(), record.len(), lent.places.as_mut_ptr(), lent.length, &mut length) };
+        let number = raw::text(record, lent.lend(), &mut length);
         lent.back(buffer);
         assert!(number == 0 || length == 0, "a refused text has a length");
         answer(number).map(|()| length as usize)
+    }
+
+    fn field(&mut self, record: &[u8], tag: u8) -> Lookup {
+        let (mut start, mut length) = (u64::MAX, u64::MAX);
+        let number = raw::field(record, tag, &mut start, &mut length);
+        Lookup { number, start: start as usize, length: length as usize }
     }
 }
 
@@ -132,7 +115,7 @@ fn main() -> ExitCode {
         }
     };
     let seconds = started.elapsed().as_secs_f64();
-    println!("{}; {seconds:.1} s, {:.0} calls a second; disagreements 0", counts.closing_line(11), counts.calls as f64 / seconds);
+    println!("{}; {seconds:.1} s, {:.0} calls a second; disagreements 0", counts.closing_lines(11), counts.calls as f64 / seconds);
     let missing = counts.missing(11);
     if missing.is_empty() {
         return ExitCode::SUCCESS;

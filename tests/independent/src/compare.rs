@@ -3,18 +3,22 @@
 
 use crate::calls::{Answer, Call};
 use crate::counts::Counts;
-use crate::generate::{any_first, any_record, any_run, encode, everywhere, four_numbers, handed, made, Caller, Mood};
+use crate::generate::{any_first, any_record, any_room, any_run, encode, everywhere, four_numbers, handed, made, Caller, Mood};
 use crate::handed::Net;
 use crate::library::{answer, Library};
 use crate::machine::Machine;
-use crate::projection::project;
+use crate::projection::project_into;
 use crate::random::Random;
-use crate::record::{self, read_with_net, Record, Refusal};
+use crate::record::{field_of, read_with_net, Record, Refusal};
 use crate::shape::Shape;
 use crate::text::text;
 
 /// A full sweep of damages, at every byte, once in so many lists.
 const SWEEP_ONCE_IN: usize = 400;
+
+/// Every tag there is, once in so many records; else the five, two beside them, the
+/// largest and any one.
+const ALL_TAGS_ONCE_IN: usize = 32;
 
 /// Bits of a weight.
 const WEIGHT_BITS: u32 = 64;
@@ -160,11 +164,15 @@ impl Run<'_> {
 
     fn check_read(&mut self, bytes: &[u8], net: &mut Net) -> Result<(), String> {
         let mut expected_net = net.clone();
-        let expected = if net.is_short() { Err(Refusal { number: 11, offset: 0 }) } else { read_with_net(bytes) };
-        if let Ok((record, first)) = &expected {
-            expected_net.write(record.shape, first);
-        }
-        let expected = expected.map(|(record, _)| record.shape);
+        let judged = read_with_net(bytes);
+        let expected = match &judged {
+            _ if net.is_short() => Err(Refusal { number: 11, offset: 0 }),
+            Ok((record, first)) => {
+                expected_net.write(record.shape, first);
+                Ok(record.shape)
+            }
+            Err(refusal) => Err(*refusal),
+        };
         let given = self.library.read(bytes, net);
         self.counts.read(expected);
         if given != expected.map(|_| ()) {
@@ -173,7 +181,7 @@ impl Run<'_> {
         if *net != expected_net {
             return Err(format!("read {net:?}, expected {expected_net:?}\nrecord {}", hex(bytes)));
         }
-        self.check_fields(bytes)
+        self.check_fields(bytes, judged.err())
     }
 
     /// A first net without a record.
@@ -193,15 +201,17 @@ impl Run<'_> {
         Ok(())
     }
 
-    fn check_fields(&mut self, bytes: &[u8]) -> Result<(), String> {
-        let tag = self.random.pick(&[0, 1, 2, 3, 4, 5, 6, 255]);
-        let expected = record::field(bytes, tag);
-        match self.library.field(bytes, tag) {
-            Some(given) if given != expected => {
-                Err(format!("field {tag} at {given:?}, expected {expected:?}\nrecord {}", hex(bytes)))
+    fn check_fields(&mut self, bytes: &[u8], refusal: Option<Refusal>) -> Result<(), String> {
+        let few = [0, 1, 2, 3, 4, 5, 6, 255, self.random.next() as u8];
+        let tags = if self.random.once_in(ALL_TAGS_ONCE_IN) { (0..=255).collect() } else { few.to_vec() };
+        for tag in tags {
+            let (expected, given) = (field_of(bytes, refusal, tag), self.library.field(bytes, tag));
+            self.counts.lookup(tag, &expected, bytes.len());
+            if given != expected {
+                return Err(format!("field {tag} is {given:?}, expected {expected:?}\nrecord {}", hex(bytes)));
             }
-            _ => Ok(()),
         }
+        Ok(())
     }
 
     /// The text into buffers of the right length, too long, and too short.
@@ -229,10 +239,13 @@ impl Run<'_> {
 
     fn check_projection(&mut self) -> Result<(), String> {
         let point = four_numbers(&mut self.random);
-        let (expected, given) = (project(point), self.library.project(point));
-        self.counts.projection(&expected);
-        if given != expected {
-            return Err(format!("{point:?} projects to {given:?}, expected {expected:?}"));
+        let mut room = any_room(&mut self.random);
+        let (before, mut wanted) = (room.clone(), room.clone());
+        let expected = project_into(point, &mut wanted);
+        let given = self.library.project(point, &mut room);
+        self.counts.projection(expected, &wanted);
+        if given != expected || room != wanted {
+            return Err(format!("{point:?} into {before:?}: {given} {room:?}, expected {expected} {wanted:?}"));
         }
         Ok(())
     }

@@ -2,8 +2,8 @@
 
 use crate::calls::Answer;
 use crate::handed::{Net, PLACES};
-use crate::projection::Projection;
-use crate::record::Refusal;
+use crate::projection::{Projection, Room, COORDINATES};
+use crate::record::{Lookup, Refusal};
 use crate::shape::{Shape, RANGE};
 use crate::text::Outcome;
 
@@ -32,7 +32,16 @@ pub struct Counts {
     pub second_degrees: u64,
     /// At place N, the first nets without a record refused N, and at 0 those made.
     pub firsts: [u64; 12],
+    /// Lookups of fields, as `LOOKUPS` names them.
+    pub lookups: [u64; 6],
+    /// Projections into too few places, into just enough, and into more.
+    pub rooms: [u64; 3],
 }
+
+/// Of an accepted record: a value, a value of no bytes, an absent field, a tag that no
+/// field has; and of refused records.
+const LOOKUPS: [&str; 6] =
+    ["a value", "an empty value", "an absent field", "no field's tag", "a record refused 1 to 6", "a record refused 7"];
 
 impl Counts {
     pub fn read(&mut self, outcome: Result<Shape, Refusal>) {
@@ -66,12 +75,29 @@ impl Counts {
         }
     }
 
-    pub fn projection(&mut self, projection: &Result<Projection, u8>) {
+    /// What a projection answers and leaves.
+    pub fn projection(&mut self, number: u8, room: &Room) {
         self.calls += 1;
-        match projection {
-            Ok(kind) => self.projected(kind),
-            Err(number) => self.refused(*number),
+        let more = room.bits.len().max(room.direction.len()) > COORDINATES;
+        self.rooms[if room.is_short() { 0 } else { 1 + usize::from(more) }] += 1;
+        match room.told(number).expect("an outcome that there is") {
+            Ok(kind) => self.projected(&kind),
+            Err(number) => self.refused(number),
         }
+    }
+
+    /// What a lookup in a record of so many bytes answers.
+    pub fn lookup(&mut self, tag: u8, lookup: &Lookup, bytes: usize) {
+        self.calls += 1;
+        let place = match (lookup.number, tag) {
+            (7, _) => 5,
+            (1.., _) => 4,
+            (0, 1..=5) if lookup.length > 0 => 0,
+            (0, 1..=5) if lookup.start < bytes => 1,
+            (0, 1..=5) => 2,
+            (0, _) => 3,
+        };
+        self.lookups[place] += 1;
     }
 
     pub fn text(&mut self, answer: &Result<usize, u8>) {
@@ -144,12 +170,15 @@ impl Counts {
         let words = ["a run too short", "a run just long enough", "a longer run"];
         let runs = words.into_iter().map(str::to_string).zip(self.runs);
         let second = [("a second degree".to_string(), self.second_degrees)];
-        let all = firsts.into_iter().chain(runs).chain(second);
+        let lookups = LOOKUPS.map(|word| format!("a lookup of {word}")).into_iter().zip(self.lookups);
+        let words = ["too few places", "just enough places", "more places"];
+        let rooms = words.map(|word| format!("a projection into {word}")).into_iter().zip(self.rooms);
+        let all = firsts.into_iter().chain(runs).chain(second).chain(lookups).chain(rooms);
         all.filter(|word| word.1 == 0).map(|word| word.0).collect()
     }
 
-    /// One line with every count.
-    pub fn closing_line(&self, last: usize) -> String {
+    /// Lines with every count.
+    pub fn closing_lines(&self, last: usize) -> String {
         let refusals: Vec<String> = (1..=last).map(|n| format!("{n}:{}", self.refusals[n])).collect();
         let mut line = format!(
             "calls {}; records accepted {}; taken {}; found {}; refused {}; finite {} direction {} nowhere {}; at 2^48 exactly {}",
@@ -164,6 +193,10 @@ impl Counts {
             line += &format!("; first nets {}", firsts[0]);
             let refused = (1..12).filter(|&n| firsts[n] != 0).map(|n| format!(" {n}:{}", firsts[n]));
             line += &format!(" refused{}", refused.collect::<String>());
+            let lookups = LOOKUPS.iter().zip(self.lookups).map(|(word, count)| format!("{word} {count}"));
+            line += &format!("\nlookups of {}", lookups.collect::<Vec<String>>().join(", "));
+            let [short, exact, longer] = self.rooms;
+            line += &format!("; projections into too few places {short} just enough {exact} more {longer}");
         }
         line
     }

@@ -3,8 +3,8 @@
 use crate::calls::{Answer, Call, Weights};
 use crate::first::Given;
 use crate::handed::Net;
-use crate::projection::{project, Projection};
-use crate::record::{self, Refusal};
+use crate::projection::{project_into, Room};
+use crate::record::{self, Lookup, Refusal};
 use crate::text::text_into;
 
 /// Every buffer is handed over with the length it has; a number that is returned is
@@ -22,16 +22,14 @@ pub trait Library {
     /// Finds a point and writes it into the first four places.
     fn find(&mut self, net: &Net, weights: Weights, found: &mut [i64]) -> Result<(), u8>;
 
-    /// Projects four numbers.
-    fn project(&mut self, point: [i64; 4]) -> Result<Projection, u8>;
+    /// Projects four numbers into the places lent for it; 0 or the refusal's number.
+    fn project(&mut self, point: [i64; 4], room: &mut Room) -> u8;
 
     /// Writes netprint's text; its length.
     fn text(&mut self, record: &[u8], buffer: &mut [u8]) -> Result<usize, u8>;
 
-    /// Where a field's value lies, as offset and length, if the library says so.
-    fn field(&mut self, _record: &[u8], _tag: u8) -> Option<(usize, usize)> {
-        None
-    }
+    /// Looks a field up.
+    fn field(&mut self, record: &[u8], tag: u8) -> Lookup;
 }
 
 /// This package as a library: the self check of the comparison.
@@ -68,16 +66,16 @@ impl Library for Model {
         Ok(())
     }
 
-    fn project(&mut self, point: [i64; 4]) -> Result<Projection, u8> {
-        project(point)
+    fn project(&mut self, point: [i64; 4], room: &mut Room) -> u8 {
+        project_into(point, room)
     }
 
     fn text(&mut self, record: &[u8], buffer: &mut [u8]) -> Result<usize, u8> {
         text_into(record, buffer)
     }
 
-    fn field(&mut self, record: &[u8], tag: u8) -> Option<(usize, usize)> {
-        Some(record::field(record, tag))
+    fn field(&mut self, record: &[u8], tag: u8) -> Lookup {
+        record::field(record, tag)
     }
 }
 
@@ -91,10 +89,16 @@ pub fn answer(library: &mut dyn Library, net: &mut Net, call: &Call, found: &mut
     answered.unwrap_or_else(Answer::Refused)
 }
 
-/// A library that found a point without room for it has not answered it.
+/// A library that found a point without room for it has not answered it, and neither has
+/// one that tells an outcome that there is not.
 fn projected(library: &mut dyn Library, found: &[i64]) -> Result<Answer, u8> {
     let Some(&[x, y, z, w]) = found.first_chunk::<4>() else {
         return Ok(Answer::Taken);
     };
-    Ok(Answer::Point { x, y, z, w, projection: library.project([x, y, z, w])? })
+    let mut room = Room::enough();
+    let number = library.project([x, y, z, w], &mut room);
+    let Some(projection) = room.told(number) else {
+        return Ok(Answer::Taken);
+    };
+    Ok(Answer::Point { x, y, z, w, projection: projection? })
 }

@@ -71,7 +71,7 @@ fn print_records(count: usize, seed: u64) -> ExitCode {
     ExitCode::SUCCESS
 }
 
-/// The closing line; a disagreement fails, and so does anything that never occurred.
+/// The closing lines; a disagreement fails, and so does anything that never occurred.
 fn close(result: Result<Counts, String>, started: Instant, last_refusal: usize) -> ExitCode {
     let counts = match result {
         Ok(counts) => counts,
@@ -83,7 +83,7 @@ fn close(result: Result<Counts, String>, started: Instant, last_refusal: usize) 
     let missing = counts.missing(last_refusal);
     let seconds = started.elapsed().as_secs_f64();
     let rate = counts.calls as f64 / seconds.max(1e-9);
-    println!("{}; {seconds:.1} s, {rate:.0} a second; disagreements 0", counts.closing_line(last_refusal));
+    println!("{}; {seconds:.1} s, {rate:.0} a second; disagreements 0", counts.closing_lines(last_refusal));
     if missing.is_empty() {
         return ExitCode::SUCCESS;
     }

@@ -11,6 +11,65 @@ pub enum Projection {
     Nowhere,
 }
 
+/// How many places a point at a finite place or a direction takes.
+pub const COORDINATES: usize = 3;
+
+/// The places lent for a projection: its case, the bit patterns of a finite point, the
+/// numbers of a direction.
+#[derive(Clone, Debug, PartialEq, Eq)]
+pub struct Room {
+    pub outcome: u8,
+    pub bits: Vec<u64>,
+    pub direction: Vec<i64>,
+}
+
+impl Room {
+    /// Just enough places, with an outcome that there is not.
+    pub fn enough() -> Room {
+        Room { outcome: u8::MAX, bits: vec![0; COORDINATES], direction: vec![0; COORDINATES] }
+    }
+
+    pub fn is_short(&self) -> bool {
+        self.bits.len() < COORDINATES || self.direction.len() < COORDINATES
+    }
+
+    /// Writes an answer and gives its number: 0, or the refusal's, beside which the
+    /// outcome is 0 and nothing else is written.
+    pub fn tell(&mut self, answer: Result<Projection, u8>) -> u8 {
+        self.outcome = match answer {
+            Err(_) => 0,
+            Ok(Projection::Finite { x, y, z }) => {
+                self.bits[..COORDINATES].copy_from_slice(&[x, y, z]);
+                1
+            }
+            Ok(Projection::Direction { x, y, z }) => {
+                self.direction[..COORDINATES].copy_from_slice(&[x, y, z]);
+                2
+            }
+            Ok(Projection::Nowhere) => 3,
+        };
+        answer.err().unwrap_or(0)
+    }
+
+    /// What was told with the number; nothing if there is no such outcome.
+    pub fn told(&self, number: u8) -> Option<Result<Projection, u8>> {
+        let (b, d) = (&self.bits, &self.direction);
+        match (number, self.outcome) {
+            (0, 1) => Some(Ok(Projection::Finite { x: b[0], y: b[1], z: b[2] })),
+            (0, 2) => Some(Ok(Projection::Direction { x: d[0], y: d[1], z: d[2] })),
+            (0, 3) => Some(Ok(Projection::Nowhere)),
+            (1.., 0) => Some(Err(number)),
+            _ => None,
+        }
+    }
+}
+
+/// The room is judged first (11), then the numbers (10).
+pub fn project_into(point: [i64; 4], room: &mut Room) -> u8 {
+    let answer = if room.is_short() { Err(11) } else { project(point) };
+    room.tell(answer)
+}
+
 /// Any four numbers may come, so the range is tested before the case is chosen.
 pub fn project(point: [i64; 4]) -> Result<Projection, u8> {
     if !point.iter().all(|&component| in_range(component)) {

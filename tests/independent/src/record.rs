@@ -60,22 +60,32 @@ pub fn read(bytes: &[u8]) -> Result<Record, Refusal> {
     found.whole(bytes.len())
 }
 
-/// Where a field's value lies, as offset and length. With nothing to point at, the
-/// offset is the number of bytes and the length 0.
-pub fn field(bytes: &[u8], tag: u8) -> (usize, usize) {
-    let end = (bytes.len(), 0);
-    if read_with_net(bytes).is_err() {
-        return end;
-    }
-    let mut at = 0;
+/// What a lookup answers: the record's refusal or 0, and where the field's value lies.
+#[derive(Clone, Copy, Debug, PartialEq, Eq)]
+pub struct Lookup {
+    pub number: u8,
+    pub start: usize,
+    pub length: usize,
+}
+
+/// The lookup of a field. A record without a first net is refused too.
+pub fn field(bytes: &[u8], tag: u8) -> Lookup {
+    field_of(bytes, read_with_net(bytes).err(), tag)
+}
+
+/// The same, where it is known what the record is refused for. With nothing to point
+/// at, the value is the empty part at the end.
+pub fn field_of(bytes: &[u8], refusal: Option<Refusal>, tag: u8) -> Lookup {
+    let number = refusal.map_or(0, |refusal| refusal.number);
+    let mut at = if number == 0 { 0 } else { bytes.len() };
     while at < bytes.len() {
         let length = usize::from(length_at(bytes, at));
         if bytes[at] == tag {
-            return (at + 3, length);
+            return Lookup { number, start: at + 3, length };
         }
         at += 3 + length;
     }
-    end
+    Lookup { number, start: bytes.len(), length: 0 }
 }
 
 #[derive(Default)]

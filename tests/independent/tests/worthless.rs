@@ -6,8 +6,8 @@ use independent::compare::compare_calls;
 use independent::first::Given;
 use independent::handed::{Net, ENTRIES, PLACES};
 use independent::library::{Library, Model};
-use independent::projection::Projection;
-use independent::record::Refusal;
+use independent::projection::{project, Projection, Room, COORDINATES};
+use independent::record::{Lookup, Refusal};
 use independent::shape::{in_range, Shape, RANGE};
 
 #[derive(Clone, Copy, Debug, PartialEq)]
@@ -50,6 +50,20 @@ enum Fault {
     OffsetOfTheValue,
     TakesHandedNetsOutOfRange,
     ThirdWeightOfACurve,
+    OutcomeKeptBesideARefusal,
+    OutcomeInTheNumber,
+    ProjectionWithoutRoom,
+    RangeBeforeRoom,
+    ProjectionPastItsPlaces,
+    DirectionClearedBesideAPoint,
+    FieldsOfRecordsRefusedSeven,
+    FieldsOfEveryRecord,
+    FieldWithoutTheNumber,
+    FieldFromItsTag,
+    FieldLengthByItsLowByte,
+    AbsentFieldAtTheStart,
+    EmptyFieldAtTheEnd,
+    TagByItsLowBits,
 }
 
 struct Spoiled {
@@ -127,6 +141,19 @@ fn expand(net: &Net, shape: Shape, copies: [usize; 3], left: usize, weights: Wei
         (0..4).for_each(|c| sum[c] += i128::from(weights[vertex]) * part[c]);
     }
     sum
+}
+
+/// Where a field lies, by tags and lengths alone.
+fn walk(record: &[u8], tag: u8) -> Lookup {
+    let mut at = 0;
+    while let Some([own, high, low]) = record.get(at..at + 3) {
+        let length = usize::from(*high) * 256 + usize::from(*low);
+        if *own == tag && at + 3 + length <= record.len() {
+            return Lookup { number: 0, start: at + 3, length };
+        }
+        at += 3 + length;
+    }
+    Lookup { number: 0, start: record.len(), length: 0 }
 }
 
 /// Refused for size alone, and small enough for plain recursion.
@@ -259,10 +286,28 @@ impl Library for Spoiled {
         answer
     }
 
-    fn project(&mut self, point: [i64; 4]) -> Result<Projection, u8> {
+    fn project(&mut self, point: [i64; 4], room: &mut Room) -> u8 {
         let [x, y, z, w] = point;
-        let answer = self.model.project(point);
+        let answer = project(point);
+        if room.is_short() {
+            return match (self.fault, answer) {
+                (Fault::ProjectionWithoutRoom, Ok(Projection::Nowhere)) => room.tell(answer),
+                (Fault::RangeBeforeRoom, Err(10)) => room.tell(answer),
+                (Fault::OutcomeKeptBesideARefusal, _) => 11,
+                _ => room.tell(Err(11)),
+            };
+        }
         match (self.fault, answer) {
+            (Fault::OutcomeKeptBesideARefusal, Err(number)) => return number,
+            (Fault::OutcomeInTheNumber, Err(10)) => {
+                room.outcome = 10;
+                return 10;
+            }
+            (Fault::ProjectionPastItsPlaces, Ok(Projection::Finite { .. })) => room.bits[COORDINATES..].fill(0),
+            (Fault::DirectionClearedBesideAPoint, Ok(Projection::Finite { .. })) => room.direction.fill(0),
+            _ => {}
+        }
+        let answer = match (self.fault, answer) {
             (Fault::NegativeZero, Ok(Projection::Finite { y, z, .. })) if x == 0 && w < 0 => {
                 Ok(Projection::Finite { x: (-0f64).to_bits(), y, z })
             }
@@ -273,6 +318,25 @@ impl Library for Spoiled {
             (Fault::NowhereForDirections, Ok(Projection::Direction { .. })) => Ok(Projection::Nowhere),
             (Fault::ProjectsAnything, Err(10)) => Ok(Projection::Nowhere),
             _ => answer,
+        };
+        room.tell(answer)
+    }
+
+    fn field(&mut self, record: &[u8], tag: u8) -> Lookup {
+        let lookup = self.model.field(record, tag);
+        let wherever = |number| Lookup { number, ..walk(record, tag) };
+        match (self.fault, lookup.number) {
+            (Fault::FieldsOfRecordsRefusedSeven, 7) => wherever(7),
+            (Fault::FieldsOfEveryRecord, 1..) => wherever(lookup.number),
+            (Fault::FieldWithoutTheNumber, 1..) => Lookup { number: 0, ..lookup },
+            (Fault::FieldFromItsTag, 0) if lookup.length > 0 => {
+                Lookup { number: 0, start: lookup.start - 3, length: lookup.length + 3 }
+            }
+            (Fault::FieldLengthByItsLowByte, 0) => Lookup { length: lookup.length % 256, ..lookup },
+            (Fault::AbsentFieldAtTheStart, 0) if lookup.start == record.len() => Lookup { start: 0, ..lookup },
+            (Fault::EmptyFieldAtTheEnd, 0) if lookup.length == 0 => Lookup { start: record.len(), ..lookup },
+            (Fault::TagByItsLowBits, 0) => self.model.field(record, tag % 128),
+            _ => lookup,
         }
     }
 
@@ -304,7 +368,10 @@ fn every_fault_is_found() {
         PointPastItsPlaces, FirstNetLooksAtUnusedCoefficients, FirstNetLooksAtUnusedFrameNumbers, FirstNetZeroesTheRest,
         FirstNetWithoutRoom, NegativeZero, DirectionNotTurned, DirectionNotReduced, NowhereForDirections,
         ProjectsAnything, WritesShortBuffers, WritesPastTheText, RefusedRecordMakesANet, OffsetOfTheValue,
-        TakesHandedNetsOutOfRange, ThirdWeightOfACurve,
+        TakesHandedNetsOutOfRange, ThirdWeightOfACurve, OutcomeKeptBesideARefusal, OutcomeInTheNumber,
+        ProjectionWithoutRoom, RangeBeforeRoom, ProjectionPastItsPlaces, DirectionClearedBesideAPoint,
+        FieldsOfRecordsRefusedSeven, FieldsOfEveryRecord, FieldWithoutTheNumber, FieldFromItsTag,
+        FieldLengthByItsLowByte, AbsentFieldAtTheStart, EmptyFieldAtTheEnd, TagByItsLowBits,
     ];
     for fault in faults {
         let mut library = Spoiled { fault, model: Model };

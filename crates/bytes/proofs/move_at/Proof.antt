@@ -14,24 +14,6 @@ use Rattle.machine.specs.declared.Weights.{Weights}
 use Rattle.bytes.proofs.move_at.Statement.{statement}
 use Rattle.bytes.proofs.move_at.Tie as tie
 
-move-bytes-requires : tie.Need-move-bytes-requires
-move-bytes-requires c κs = search needs
-
-byte-at-requires : tie.Need-byte-at-requires
-byte-at-requires c κs = search needs
-
-byte-at-requires-2 : tie.Need-byte-at-requires-2
-byte-at-requires-2 c κs = search needs
-
-part-from-requires : tie.Need-part-from-requires
-part-from-requires c κs = search needs
-
-point-weights-requires : tie.Need-point-weights-requires
-point-weights-requires c κs = search needs
-
-is-proper-requires : tie.Need-is-proper-requires
-is-proper-requires c κs = search needs
-
 -- the three parts of a move, from those of the bytes
 parts : {bytes l rest : List ℕ} {o v : ℕ} {w : Weights} → l ≡ bytes → o ≡ getD l 0 0 → v ≡ getD l 1 0 → rest ≡ drop 2 l → w ≡ weightsOf rest
     → moveOf o v w ≡ moveOf (getD bytes 0 0) (getD bytes 1 0) (weightsOf (drop 2 bytes))
@@ -48,7 +30,7 @@ decoded : (c : tie.After-point-weights) → let at = c .before .before .before i
 unfolding moveAt
 decoded c =
     parts
-    (c .before .before .before .before .move-bytes .ensures)
+    (c .before .before .before .before .move-bytes .ensures .0)
     (c .before .before .before .byte-at .ensures)
     (c .before .before .byte-at2 .ensures)
     (c .before .part-from .ensures .0)
@@ -84,11 +66,11 @@ pub move-at-spec : {M : Type 1} → statement M
 move-at-spec =
     tie.close
     (tie.spec
-    move-bytes-requires
-    byte-at-requires
-    byte-at-requires-2
-    part-from-requires
-    point-weights-requires
-    is-proper-requires
+    (λ c κs. search needs)
+    (λ c κs. search needs)
+    (λ c κs. search needs)
+    (λ c κs. search needs)
+    (λ c κs. search needs)
+    (λ c κs. search needs)
     returns
     returns-2)

@@ -8,9 +8,6 @@ use borrow.Author.Needs.{needs}
 use Rattle.bytes.proofs.two_bytes.Statement.{statement}
 use Rattle.bytes.proofs.two_bytes.Tie as tie
 
-wide-requires : tie.Need-wide-requires
-wide-requires c κs = search needs
-
 -- each byte is below 256
 first : (c : tie.After-wide) → c .wide .result < 256
 first c =
@@ -43,7 +40,7 @@ two-bytes-spec =
     tie.close
     (tie.spec
     (λ c. search needs)
-    wide-requires
+    (λ c κs. search needs)
     mul-result
     (λ c. search needs)
     (λ c. search needs)

@@ -16,29 +16,14 @@ use Rattle.kinds.proofs.Determinants.{no-frame, low-found, frames-out, 
 use Rattle.kinds.proofs.frame_allowed.Statement.{statement}
 use Rattle.kinds.proofs.frame_allowed.Tie as tie
 
-dimension-of-requires : tie.Need-dimension-of-requires
-dimension-of-requires c κs = search needs
-
 returns : tie.Need-returns
 returns c p q = let a = c .before .before .args in no-frame (a .kind) p q (a .t2) (sym (c .before .dimension-of .ensures) ∙ c .if1 .taken)
-
-frame-count-requires : tie.Need-frame-count-requires
-frame-count-requires c κs = search needs
-
-sub-all-within : tie.Need-sub-all-within
-sub-all-within c = search needs
-
-part-all-within-start : tie.Need-part-all-within-start
-part-all-within-start c = search needs
 
 part-all-within-end : tie.Need-part-all-within-end
 part-all-within-end c =
     let few = frame-few (c .before .before .before .before .args .kind) 0 0 in
     let count = c .before .frame-count .ensures 0 0 in
     search needs
-
-all-within-requires : tie.Need-all-within-requires
-all-within-requires c κs = search needs
 
 -- there is a group where the dimension is not 0
 some : (c : tie.Else1) → dimensionOf (c .before .before .args .kind) ≡ 0 → ⊥
@@ -86,13 +71,13 @@ pub frame-allowed-spec : {M : Type 1} → statement M
 frame-allowed-spec =
     tie.close
     (tie.spec
-    dimension-of-requires
+    (λ c κs. search needs)
     returns
-    frame-count-requires
-    sub-all-within
-    part-all-within-start
+    (λ c κs. search needs)
+    (λ c. search needs)
+    (λ c. search needs)
     part-all-within-end
-    all-within-requires
+    (λ c κs. search needs)
     returns-2
     frame-determinant-requires
     returns-3)

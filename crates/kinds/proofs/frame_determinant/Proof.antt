@@ -7,18 +7,6 @@ use Rattle.kinds.proofs.Determinants.{two-asks, two-determinant, frame-
 use Rattle.kinds.proofs.frame_determinant.Statement.{statement}
 use Rattle.kinds.proofs.frame_determinant.Tie as tie
 
-array-copy-out-two-rows : tie.Need-array-copy-out-two-rows
-array-copy-out-two-rows c = search needs
-
-array-copy-out-two-rows-2 : tie.Need-array-copy-out-two-rows-2
-array-copy-out-two-rows-2 c = search needs
-
-array-copy-out-two-rows-3 : tie.Need-array-copy-out-two-rows-3
-array-copy-out-two-rows-3 c = search needs
-
-array-copy-out-two-rows-4 : tie.Need-array-copy-out-two-rows-4
-array-copy-out-two-rows-4 c = search needs
-
 two-rows-requires : tie.Need-two-rows-requires
 two-rows-requires c κs =
     let branch = c .before .before .before .before in
@@ -35,33 +23,6 @@ returns c =
 -- not 1, so 2
 two : (c : tie.Else1) → c .before .args .dimension ≡ 2
 two c = let n = c .before .args .dimension in let low = c .before .pre .0 in let high = c .before .pre .1 in let other = c .if1 .left in omega arith
-
-array-copy-out-three-rows : tie.Need-array-copy-out-three-rows
-array-copy-out-three-rows c = search needs
-
-array-copy-out-three-rows-2 : tie.Need-array-copy-out-three-rows-2
-array-copy-out-three-rows-2 c = search needs
-
-array-copy-out-three-rows-3 : tie.Need-array-copy-out-three-rows-3
-array-copy-out-three-rows-3 c = search needs
-
-array-copy-out-three-rows-4 : tie.Need-array-copy-out-three-rows-4
-array-copy-out-three-rows-4 c = search needs
-
-array-copy-out-three-rows-5 : tie.Need-array-copy-out-three-rows-5
-array-copy-out-three-rows-5 c = search needs
-
-array-copy-out-three-rows-6 : tie.Need-array-copy-out-three-rows-6
-array-copy-out-three-rows-6 c = search needs
-
-array-copy-out-three-rows-7 : tie.Need-array-copy-out-three-rows-7
-array-copy-out-three-rows-7 c = search needs
-
-array-copy-out-three-rows-8 : tie.Need-array-copy-out-three-rows-8
-array-copy-out-three-rows-8 c = search needs
-
-array-copy-out-three-rows-9 : tie.Need-array-copy-out-three-rows-9
-array-copy-out-three-rows-9 c = search needs
 
 three-rows-requires : tie.Need-three-rows-requires
 three-rows-requires c κs =
@@ -82,20 +43,20 @@ pub frame-determinant-spec : {M : Type 1} → statement M
 frame-determinant-spec =
     tie.close
     (tie.spec
-    array-copy-out-two-rows
-    array-copy-out-two-rows-2
-    array-copy-out-two-rows-3
-    array-copy-out-two-rows-4
+    (λ c. search needs)
+    (λ c. search needs)
+    (λ c. search needs)
+    (λ c. search needs)
     two-rows-requires
     returns
-    array-copy-out-three-rows
-    array-copy-out-three-rows-2
-    array-copy-out-three-rows-3
-    array-copy-out-three-rows-4
-    array-copy-out-three-rows-5
-    array-copy-out-three-rows-6
-    array-copy-out-three-rows-7
-    array-copy-out-three-rows-8
-    array-copy-out-three-rows-9
+    (λ c. search needs)
+    (λ c. search needs)
+    (λ c. search needs)
+    (λ c. search needs)
+    (λ c. search needs)
+    (λ c. search needs)
+    (λ c. search needs)
+    (λ c. search needs)
+    (λ c. search needs)
     three-rows-requires
     returns-2)

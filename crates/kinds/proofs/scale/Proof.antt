@@ -22,9 +22,6 @@ passed c = found (c .before) true (not-false (c .before .known-kind .result) (c 
 within-limits : (c : tie.Else1) → let a = c .before .before .args in Limits (a .kind) (a .degree) (a .second)
 within-limits c = let a = c .before .before .args in limits (a .kind) (a .degree) (a .second) (passed c)
 
-known-kind-requires : tie.Need-known-kind-requires
-known-kind-requires c κs = search needs
-
 returns : tie.Need-returns
 returns c =
     let a = c .before .before .args in
@@ -33,9 +30,6 @@ returns c =
 sub-place : tie.Need-sub-place
 sub-place c = let l = within-limits c in search needs
 
-mul-result : tie.Need-mul-result
-mul-result c = search needs
-
 array-read-result : tie.Need-array-read-result
 array-read-result c = let l = within-limits (c .before) in search needs
 
@@ -43,9 +37,6 @@ returns-2 : tie.Need-returns-2
 returns-2 c =
     let a = c .before .before .before .args in
     ap (λ k. getD (rowOfScales (dimensionOf k)) (a .degree - 1) 0) (sym (c .if2 .taken)) ∙ scale-read (a .kind) (a .degree) (a .second) (passed (c .before))
-
-mul-result-2 : tie.Need-mul-result-2
-mul-result-2 c = search needs
 
 patch : (c : tie.Else2) → c .before .before .before .args .kind ≡ 2
 patch c = let l = within-limits (c .before) in let other = c .if2 .left in omega arith
@@ -62,12 +53,12 @@ pub scale-spec : {M : Type 1} → statement M
 scale-spec =
     tie.close
     (tie.spec
-    known-kind-requires
+    (λ c κs. search needs)
     returns
     sub-place
-    mul-result
+    (λ c. search needs)
     array-read-result
     returns-2
-    mul-result-2
+    (λ c. search needs)
     array-read-result-2
     returns-3)

@@ -68,12 +68,13 @@ make-first-requires : tie.Need-make-first-requires
 make-first-requires c κs =
     let e = c .before .before in
     let nine = e .before .before .first-nine in
-    let framing = e .before .before .before in (
-      ap (λ l. firstFailed (beforeFirst (polynomials (framing .before .before .before)) l)) (nine .ensures) ∙ none e,
-      refl,
-      ap length (nine .ensures) ∙ length-take-le 9 (framing .before .before .before .args .frame .now) (framed (framing .before .before)),
-      long (framing .before),
-    )
+    let framing = e .before .before .before in
+    record {
+      accepted = ap (λ l. firstFailed (beforeFirst (polynomials (framing .before .before .before)) l)) (nine .ensures) ∙ none e;
+      places = refl;
+      nine = ap length (nine .ensures) ∙ length-take-le 9 (framing .before .before .before .args .frame .now) (framed (framing .before .before));
+      enough = long (framing .before);
+    }
 
 -- the answer of the making, and what is made, speak of the first nine numbers
 ranged : (c : tie.After-make-first) {b : Bool} → c .make-first .result ≡ b

@@ -20,43 +20,6 @@ from-is zero k xs h = refl
 from-is (suc j) k xs h =
     ap (λ l. getD xs k (pos 0) ∷ l) (from-is j (suc k) xs (omega arith)) ∙ ap (take (suc j)) (sym (drop-cons xs k (pos 0) (omega arith)))
 
--- src/lib.rt:58:9
-shared-slice-copy-out-t3 : tie.Need-shared-slice-copy-out-t3
-shared-slice-copy-out-t3 c = search needs
-
--- src/lib.rt:59:9
-shared-slice-copy-out-t5 : tie.Need-shared-slice-copy-out-t5
-shared-slice-copy-out-t5 c = search needs
-
--- src/lib.rt:60:9
-shared-slice-copy-out-t7 : tie.Need-shared-slice-copy-out-t7
-shared-slice-copy-out-t7 c = search needs
-
--- src/lib.rt:61:9
-shared-slice-copy-out-t9 : tie.Need-shared-slice-copy-out-t9
-shared-slice-copy-out-t9 c = search needs
-
--- src/lib.rt:62:9
-shared-slice-copy-out-t11 : tie.Need-shared-slice-copy-out-t11
-shared-slice-copy-out-t11 c = search needs
-
--- src/lib.rt:63:9
-shared-slice-copy-out-t13 : tie.Need-shared-slice-copy-out-t13
-shared-slice-copy-out-t13 c = search needs
-
--- src/lib.rt:64:9
-shared-slice-copy-out-t15 : tie.Need-shared-slice-copy-out-t15
-shared-slice-copy-out-t15 c = search needs
-
--- src/lib.rt:65:9
-shared-slice-copy-out-t17 : tie.Need-shared-slice-copy-out-t17
-shared-slice-copy-out-t17 c = search needs
-
--- src/lib.rt:66:9
-shared-slice-copy-out-t19 : tie.Need-shared-slice-copy-out-t19
-shared-slice-copy-out-t19 c = search needs
-
--- src/lib.rt:53:1
 returns : tie.Need-returns
 returns c =
     let e = c .before .before .before in
@@ -78,13 +41,13 @@ pub first-nine-spec : {M : Type 1} → statement M
 first-nine-spec =
     tie.close
     (tie.spec
-    shared-slice-copy-out-t3
-    shared-slice-copy-out-t5
-    shared-slice-copy-out-t7
-    shared-slice-copy-out-t9
-    shared-slice-copy-out-t11
-    shared-slice-copy-out-t13
-    shared-slice-copy-out-t15
-    shared-slice-copy-out-t17
-    shared-slice-copy-out-t19
+    (λ c. search needs)
+    (λ c. search needs)
+    (λ c. search needs)
+    (λ c. search needs)
+    (λ c. search needs)
+    (λ c. search needs)
+    (λ c. search needs)
+    (λ c. search needs)
+    (λ c. search needs)
     returns)

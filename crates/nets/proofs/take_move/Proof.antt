@@ -14,39 +14,6 @@ use Rattle.nets.proofs.take_move.Tie as tie
 returns : tie.Need-returns
 returns c = let a = c .before .args in places-short (Move (a .operation) (a .vertex) (a .weights)) (a .net .now) [] (c .if1 .taken)
 
-slice-copy-out-byte-of : tie.Need-slice-copy-out-byte-of
-slice-copy-out-byte-of c = search needs
-
-byte-of-requires : tie.Need-byte-of-requires
-byte-of-requires c κs = search needs
-
-slice-copy-out-byte-of-2 : tie.Need-slice-copy-out-byte-of-2
-slice-copy-out-byte-of-2 c = search needs
-
-byte-of-requires-2 : tie.Need-byte-of-requires-2
-byte-of-requires-2 c κs = search needs
-
-slice-copy-out-byte-of-3 : tie.Need-slice-copy-out-byte-of-3
-slice-copy-out-byte-of-3 c = search needs
-
-byte-of-requires-3 : tie.Need-byte-of-requires-3
-byte-of-requires-3 c κs = search needs
-
-sub-judge-and-move : tie.Need-sub-judge-and-move
-sub-judge-and-move c = search needs
-
-part-judge-and-move-start : tie.Need-part-judge-and-move-start
-part-judge-and-move-start c = search needs
-
-part-judge-and-move-end : tie.Need-part-judge-and-move-end
-part-judge-and-move-end c = search needs
-
-judge-and-move-requires : tie.Need-judge-and-move-requires
-judge-and-move-requires c κs = search needs
-
-same-length : tie.Need-same-length
-same-length c = search needs
-
 returns-2 : tie.Need-returns-2
 returns-2 c =
     let m = c .before in
@@ -66,15 +33,15 @@ take-move-spec =
     tie.close
     (tie.spec
     returns
-    slice-copy-out-byte-of
-    byte-of-requires
-    slice-copy-out-byte-of-2
-    byte-of-requires-2
-    slice-copy-out-byte-of-3
-    byte-of-requires-3
-    sub-judge-and-move
-    part-judge-and-move-start
-    part-judge-and-move-end
-    judge-and-move-requires
-    same-length
+    (λ c. search needs)
+    (λ c κs. search needs)
+    (λ c. search needs)
+    (λ c κs. search needs)
+    (λ c. search needs)
+    (λ c κs. search needs)
+    (λ c. search needs)
+    (λ c. search needs)
+    (λ c. search needs)
+    (λ c κs. search needs)
+    (λ c. search needs)
     returns-2)

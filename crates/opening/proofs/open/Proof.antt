@@ -4,7 +4,7 @@ use mathlib.Core.Bool.{true}
 use borrow.Author.Tests.{le-leb, lt-leb}
 use lib.ListN.{length}
 use Rattle.machine.specs.Lent.{wide}
-use Rattle.records.specs.Reading.{endExtent}
+use Rattle.records.specs.Reading.{noFields}
 use Rattle.opening.proofs.Records.{opens-short, reading-refused, layout-known, first-refused, first-taken}
 use borrow.Author.Needs.{needs}
 use Rattle.opening.proofs.open.Statement.{statement}
@@ -37,7 +37,7 @@ returns-2 c =
     let opens =
     first-refused (s .args .input .now) (g .0 .0) (sym (r .read .ensures .0) ∙ g .1) (s .args .net .now) (m .make-first .last .1 .1 .0) (enough (r .before)) (m .make-first .result)
     (m .make-first .ensures) (c .before .if2 .taken) in
-    (c .refuse3 .ensures ∙ ap (λ x. record { refusal = x; moves = endExtent (s .args .input .now); point = endExtent (s .args .input .now) }) (a .refusal-at .ensures) ∙ opens .0, opens .1)
+    (c .refuse3 .ensures ∙ ap (λ x. record { refusal = x; layout = noFields (s .args .input .now) }) (a .refusal-at .ensures) ∙ opens .0, opens .1)
 
 returns-3 : tie.Need-returns-3
 returns-3 c =
@@ -49,15 +49,15 @@ returns-3 c =
 
 returns-4 : tie.Need-returns-4
 returns-4 c =
-    let a = c .before .before .before in
+    let a = c .before in
     let m = a .before .before in
     let r = m .before .before .before .before .before in
     let s = r .before .before .before in
     let g = m .before .before .before .layout .given in
     let opens =
     first-taken (s .args .input .now) (g .0 .0) (sym (r .read .ensures .0) ∙ g .1) (s .args .net .now) (m .make-first .last .1 .1 .0) (enough (r .before)) (m .make-first .result)
-    (m .make-first .ensures) (c .before .before .if2 .left) in
-    (ap (λ x. record { refusal = x; moves = g .0 .0 .moves; point = g .0 .0 .point }) (a .refusal-at .ensures) ∙ opens .0, opens .1)
+    (m .make-first .ensures) (c .if2 .left) in
+    (ap (λ x. record { refusal = x; layout = g .0 .0 }) (a .refusal-at .ensures) ∙ opens .0, opens .1)
 
 pub open-spec : {M : Type 1} → statement M
 open-spec =

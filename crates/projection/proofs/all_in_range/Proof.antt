@@ -18,18 +18,12 @@ outside v t f e k = sym (ap inRange (back-fits f)) ∙ sym e ∙ not-true t k
 inside : (v : ℤ) (t : Bool) → SFits w64 v → t ≡ inRange (seen v) → not t ≡ false → inRange v ≡ true
 inside v t f e k = sym (ap inRange (back-fits f)) ∙ sym e ∙ not-false t k
 
-in-range-requires : tie.Need-in-range-requires
-in-range-requires c κs = search needs
-
 returns : tie.Need-returns
 returns c =
     let start = c .before .before in
     let a = start .args in
     let x-out = outside (a .x) (c .before .in-range .result) (start .fits .x) (c .before .in-range .ensures) (c .if1 .taken) in
     sym (ap (λ (b : Bool). b && inRange (a .y) && inRange (a .z) && inRange (a .w)) x-out)
-
-in-range-requires-2 : tie.Need-in-range-requires-2
-in-range-requires-2 c κs = search needs
 
 returns-2 : tie.Need-returns-2
 returns-2 c =
@@ -40,9 +34,6 @@ returns-2 c =
     let y-out = outside (a .y) (c .before .in-range2 .result) (start .fits .y) (c .before .in-range2 .ensures) (c .if2 .taken) in
     sym (ap (λ (b : Bool). b && inRange (a .y) && inRange (a .z) && inRange (a .w)) x-in
     ∙ ap (λ (b : Bool). b && inRange (a .z) && inRange (a .w)) y-out)
-
-in-range-requires-3 : tie.Need-in-range-requires-3
-in-range-requires-3 c κs = search needs
 
 returns-3 : tie.Need-returns-3
 returns-3 c =
@@ -56,9 +47,6 @@ returns-3 c =
     sym (ap (λ (b : Bool). b && inRange (a .y) && inRange (a .z) && inRange (a .w)) x-in
     ∙ ap (λ (b : Bool). b && inRange (a .z) && inRange (a .w)) y-in
     ∙ ap (λ (b : Bool). b && inRange (a .w)) z-out)
-
-in-range-requires-4 : tie.Need-in-range-requires-4
-in-range-requires-4 c κs = search needs
 
 returns-4 : tie.Need-returns-4
 returns-4 c =
@@ -80,11 +68,11 @@ pub all-in-range-spec : {M : Type 1} → statement M
 all-in-range-spec =
     tie.close
     (tie.spec
-    in-range-requires
+    (λ c κs. search needs)
     returns
-    in-range-requires-2
+    (λ c κs. search needs)
     returns-2
-    in-range-requires-3
+    (λ c κs. search needs)
     returns-3
-    in-range-requires-4
+    (λ c κs. search needs)
     returns-4)

@@ -14,21 +14,6 @@ use Rattle.projection.proofs.Signed.{in-range-fits}
 use Rattle.projection.proofs.divisor.Statement.{statement}
 use Rattle.projection.proofs.divisor.Tie as tie
 
-magnitude-requires : tie.Need-magnitude-requires
-magnitude-requires c κs = search needs
-
-magnitude-requires-2 : tie.Need-magnitude-requires-2
-magnitude-requires-2 c κs = search needs
-
-gcd-of-two-requires : tie.Need-gcd-of-two-requires
-gcd-of-two-requires c κs = search needs
-
-magnitude-requires-3 : tie.Need-magnitude-requires-3
-magnitude-requires-3 c κs = search needs
-
-gcd-of-two-requires-2 : tie.Need-gcd-of-two-requires-2
-gcd-of-two-requires-2 c κs = search needs
-
 result-is : (c : tie.After-gcd-of-two2) → let a = c .before .before .before .before .before .args in c .gcd-of-two2 .result ≡ gcdOf (a .x) (a .y) (a .z)
 result-is c =
     let last = c .before .before in
@@ -56,10 +41,10 @@ pub divisor-spec : {M : Type 1} → statement M
 divisor-spec =
     tie.close
     (tie.spec
-    magnitude-requires
-    magnitude-requires-2
-    gcd-of-two-requires
-    magnitude-requires-3
-    gcd-of-two-requires-2
+    (λ c κs. search needs)
+    (λ c κs. search needs)
+    (λ c κs. search needs)
+    (λ c κs. search needs)
+    (λ c κs. search needs)
     cast-result
     returns)

@@ -47,9 +47,6 @@ returns-2 c =
     ∙ sym (ap (λ (b : Bool). projectionBy b (isZero (a .w)) (allZero (a .x) (a .y) (a .z)) (a .x) (a .y) (a .z) (a .w)) (ranged (c .before .before))
     ∙ ap (λ (b : Bool). projectionBy true b (allZero (a .x) (a .y) (a .z)) (a .x) (a .y) (a .z) (a .w)) (not-zero (a .w) (f .w) (c .before .if2 .taken))))
 
-all-zero-requires : tie.Need-all-zero-requires
-all-zero-requires c κs = search needs
-
 -- past the second test w is 0
 weightless : (c : tie.Else2) → let a = c .before .before .before .args in
     projectionOf (a .x) (a .y) (a .z) (a .w) ≡ projectionBy true true (allZero (a .x) (a .y) (a .z)) (a .x) (a .y) (a .z) (a .w)
@@ -101,7 +98,7 @@ project-spec =
     returns
     finite-point-requires
     returns-2
-    all-zero-requires
+    (λ c κs. search needs)
     returns-3
     direction-requires
     returns-4)

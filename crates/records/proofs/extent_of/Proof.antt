@@ -33,9 +33,6 @@ returns-5 c =
     )
     refl
 
-end-extent-requires : tie.Need-end-extent-requires
-end-extent-requires c κs = search needs
-
 returns-6 : tie.Need-returns-6
 returns-6 c =
     let two = c .before .before .before .before in
@@ -57,5 +54,5 @@ extent-of-spec =
     returns-3
     returns-4
     returns-5
-    end-extent-requires
+    (λ c κs. search needs)
     returns-6)

@@ -10,9 +10,6 @@ use borrow.Author.Needs.{needs}
 use Rattle.records.proofs.length_allowed.Statement.{statement}
 use Rattle.records.proofs.length_allowed.Tie as tie
 
-enum-told : tie.Need-enum-told
-enum-told c = search needs
-
 mul-result : tie.Need-mul-result
 mul-result c = let a = c .before .before .before .args in record { fits = omega (arith, vertices-squared (a .kind) (a .degree) 0, vertices-low (a .kind) (a .degree) 0, c .frame-count .ensures (a .degree) 0) }
 
@@ -50,7 +47,7 @@ pub length-allowed-spec : {M : Type 1} → statement M
 length-allowed-spec =
     tie.close
     (tie.spec
-    enum-told
+    (λ c. search needs)
     (λ c. search needs)
     (λ c κs. search needs)
     mul-result

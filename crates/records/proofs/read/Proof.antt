@@ -16,33 +16,6 @@ use Rattle.records.proofs.Causes.{table-verdict}
 use Rattle.records.proofs.read.Statement.{statement}
 use Rattle.records.proofs.read.Tie as tie
 
-byte-at-requires : tie.Need-byte-at-requires
-byte-at-requires c κs = search needs
-
-byte-at-requires-2 : tie.Need-byte-at-requires-2
-byte-at-requires-2 c κs = search needs
-
-stay-at-requires : tie.Need-stay-at-requires
-stay-at-requires c κs = search needs
-
-read-slot-requires : tie.Need-read-slot-requires
-read-slot-requires c κs = search needs
-
-read-slot-requires-2 : tie.Need-read-slot-requires-2
-read-slot-requires-2 c κs = search needs
-
-read-slot-requires-3 : tie.Need-read-slot-requires-3
-read-slot-requires-3 c κs = search needs
-
-read-slot-requires-4 : tie.Need-read-slot-requires-4
-read-slot-requires-4 c κs = search needs
-
-read-slot-requires-5 : tie.Need-read-slot-requires-5
-read-slot-requires-5 c κs = search needs
-
-read-end-requires : tie.Need-read-end-requires
-read-end-requires c κs = search needs
-
 -- the extents of the slots
 abbrev extents : tie.After-read-slot5 → List Extent
 extents c =
@@ -94,14 +67,14 @@ pub read-spec : {M : Type 1} → statement M
 read-spec =
     tie.close
     (tie.spec
-    byte-at-requires
-    byte-at-requires-2
-    stay-at-requires
-    read-slot-requires
-    read-slot-requires-2
-    read-slot-requires-3
-    read-slot-requires-4
-    read-slot-requires-5
-    read-end-requires
+    (λ c κs. search needs)
+    (λ c κs. search needs)
+    (λ c κs. search needs)
+    (λ c κs. search needs)
+    (λ c κs. search needs)
+    (λ c κs. search needs)
+    (λ c κs. search needs)
+    (λ c κs. search needs)
+    (λ c κs. search needs)
     returns
     returns-2)

@@ -27,9 +27,6 @@ read-field-requires c κs =
     let there = stands-there (a .slot) (now (a .input)) (a .before .at) (sym (found .stands .ensures) ∙ c .before .tag .given .1) in
     omega arith
 
-enum-told : tie.Need-enum-told
-enum-told c = search needs
-
 returns-2 : tie.Need-returns-2
 returns-2 c = c .read-field .ensures ∙ sym (by-standing (c .before .before .before .before) (c .before .before .tag .given .1))
 
@@ -53,7 +50,7 @@ read-slot-spec =
     (λ c κs. search needs)
     (λ c. search needs)
     read-field-requires
-    enum-told
+    (λ c. search needs)
     (λ c κs. search needs)
     (λ c κs. search needs)
     (λ c κs. search needs)

@@ -22,9 +22,6 @@ use Rattle.records.proofs.value_number.Tie as tie
 quarter : {n : ℕ} (count : ℕ) → n ≡ 4 * count → n / 4 ≡ count
 quarter count e = ap (λ n. n / 4) e ∙ mul-div-right count (omega arith)
 
-enum-told : tie.Need-enum-told
-enum-told c = search needs
-
 returns : tie.Need-returns
 returns c =
     let k = c .before in
@@ -60,7 +57,7 @@ pub value-number-spec : {M : Type 1} → statement M
 value-number-spec =
     tie.close
     (tie.spec
-    enum-told
+    (λ c. search needs)
     (λ c κs. search needs)
     (λ c κs. search needs)
     (λ c κs. search needs)

@@ -16,8 +16,7 @@ returns-2 c =
     let same : length (made .last .0) ≡ length (a .out .now) = search needs in
     let room : made .result ≤ length (a .out .now) = subst (λ k. made .result ≤ k) same (front .2) in
     let text = textOf (a .input .now) in
-    let whole = written-whole text (a .out .now) text (made .last .0) (made .result) (made .result) (front .0) room refl (made .ensures) in
-    (whole .0, (whole .1, whole .2))
+    written-whole text (a .out .now) text (made .last .0) (made .result) (made .result) (front .0) room refl (made .ensures)
 
 pub write-text-spec : {M : Type 1} → statement M
 write-text-spec =

@@ -14,8 +14,7 @@ returns : tie.Need-returns
 returns c =
     let a = c .before .before .before .before .before .before .args in
     let made = c .before .before .make-text in
-    let short = written-short (textOf (a .input .now)) (a .out .now) (made .result) (made-front (made .ensures) .0) (c .if1 .taken) in
-    (short .0, (tt, short .1))
+    written-short (textOf (a .input .now)) (a .out .now) (made .result) (made-front (made .ensures) .0) (c .if1 .taken)
 
 array-share-prefix-text : tie.Need-array-share-prefix-text
 array-share-prefix-text c = made-front (c .before .before .before .make-text .ensures) .2
@@ -29,7 +28,7 @@ put-requires c κs =
     let made = c .before .before .before .before .make-text in
     let room : made .result ≤ length (a .out .now) = c .before .before .if1 .left in
     let long = length-take-le (made .result) (made .last .0) (made-front (made .ensures) .2) in
-    omega (arith, room, long)
+    record { fits = omega (arith, room, long) }
 
 returns-2 : tie.Need-returns-2
 returns-2 c =
@@ -37,8 +36,7 @@ returns-2 c =
     let made = c .before .before .before .before .before .before .before .make-text in
     let front = made-front (made .ensures) in
     let w = c .before .before .put in
-    let whole = written-whole (textOf (a .input .now)) (a .out .now) (take (made .result) (made .last .0)) (w .last .0) (made .result) (w .result) (front .0) (c .before .before .before .before .before .if1 .left) (front .1) (w .ensures) in
-    (whole .0, (whole .1, whole .2))
+    written-whole (textOf (a .input .now)) (a .out .now) (take (made .result) (made .last .0)) (w .last .0) (made .result) (w .result) (front .0) (c .before .before .before .before .before .if1 .left) (front .1) (w .ensures)
 
 pub write-where-it-fits-spec : {M : Type 1} → statement M
 write-where-it-fits-spec =

@@ -1,6 +1,7 @@
 //! Handed nets and quadruples of any numbers.
 
 use crate::handed::{Net, ENTRIES, PLACES};
+use crate::projection::Room;
 use crate::random::Random;
 use crate::shape::{Shape, RANGE};
 
@@ -84,6 +85,18 @@ fn beyond(random: &mut Random) -> i64 {
 pub fn any_number(random: &mut Random) -> i64 {
     let anywhere = random.next() as i64;
     random.pick(&[anywhere, anywhere, i64::MIN, i64::MAX, 0, RANGE + 1])
+}
+
+/// Places for a projection, with anything in them: mostly enough, often more, at times
+/// too few in one of the two buffers.
+pub fn any_room(random: &mut Random) -> Room {
+    let lengths = [3, 3, 3, 3, 3, 3, 4, 4, 5, 9, 2, 0];
+    let (bits, direction) = (random.pick(&lengths), random.pick(&lengths));
+    Room {
+        outcome: random.next() as u8,
+        bits: (0..bits).map(|_| random.next()).collect(),
+        direction: (0..direction).map(|_| any_number(random)).collect(),
+    }
 }
 
 /// Four numbers to project, of every case.

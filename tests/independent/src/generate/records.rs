@@ -239,7 +239,7 @@ pub fn any_record(random: &mut Random) -> Vec<u8> {
 /// Moves and a point for the record itself, aimed along the frame they lead through.
 fn own_moves(random: &mut Random, made: &mut Made, mood: Mood) {
     if made.record.first_net().is_err() {
-        return;
+        return idle_moves(random, &mut made.record, mood);
     }
     let mut machine = Machine::new(&made.record);
     let mut caller = Caller::new(made, mood, 16);
@@ -254,6 +254,20 @@ fn own_moves(random: &mut Random, made: &mut Made, mood: Mood) {
     if !random.once_in(5) {
         let weights = own_point(random, &caller, &machine);
         made.record.point = Some(in_record(made.record.shape.kind, weights));
+    }
+}
+
+/// Moves and a point of a record that is refused, 7: nobody will make them.
+fn idle_moves(random: &mut Random, record: &mut Record, mood: Mood) {
+    let kind = record.shape.kind;
+    let mut caller = Caller::blind(kind, mood, 16);
+    for _ in 0..random.pick(&[0, 0, 1, 2, 32]) {
+        if let call @ Call::Move { .. } = caller.next(random, &[]) {
+            record.moves.push(call);
+        }
+    }
+    if random.once_in(2) {
+        record.point = Some(in_record(kind, caller.point(random, &[])));
     }
 }
 

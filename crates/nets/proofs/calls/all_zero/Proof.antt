@@ -1,7 +1,7 @@
 -- `all_zero` meets its contract: the first weight that is not 0 settles it, and where the first three are 0 the fourth does.
 use borrow.Author.Needs.{sfits-of}
 use native.Mathlib.Omega.{arith}
-use mathlib.Core.Path.{_≡_, sym, _∙_}
+use mathlib.Core.Path.{sym, _∙_}
 use mathlib.Core.Bool.{true, _&&_}
 use Rattle.integers.proofs.All.{and-one}
 use Rattle.projection.specs.Projection.{isZero}

@@ -13,9 +13,6 @@ use Rattle.nets.proofs.Steps.{handed-unknown, handed-range, entries-lon
 use Rattle.nets.proofs.calls.judge_net.Statement.{statement}
 use Rattle.nets.proofs.calls.judge_net.Tie as tie
 
-known-kind-requires : tie.Need-known-kind-requires
-known-kind-requires c κs = search needs
-
 returns : tie.Need-returns
 returns c =
     let a = c .before .before .args in
@@ -25,22 +22,10 @@ returns c =
 right : (c : tie.Else1) → let a = c .before .before .args in known (a .kind) (a .degree) (a .second) ≡ true
 right c = sym (c .before .known-kind .ensures) ∙ not-false (c .before .known-kind .result) (c .if1 .left)
 
-number-count-requires : tie.Need-number-count-requires
-number-count-requires c κs = search needs
-
-sub-all-within : tie.Need-sub-all-within
-sub-all-within c = search needs
-
-part-all-within-start : tie.Need-part-all-within-start
-part-all-within-start c = search needs
-
 part-all-within-end : tie.Need-part-all-within-end
 part-all-within-end c =
     let s = c .before .before .before in
     entries-long (s .args .kind) (s .args .degree) (s .args .second) (c .number-count .result) (length (s .args .entries .now)) (right (c .before)) (c .number-count .ensures .entries) (s .pre)
-
-all-within-requires : tie.Need-all-within-requires
-all-within-requires c κs = search needs
 
 -- what the test of the numbers says
 by-range : (c : tie.After-all-within) (b : Bool) → c .all-within .result ≡ b
@@ -61,12 +46,12 @@ pub judge-net-spec : {M : Type 1} → statement M
 judge-net-spec =
     tie.close
     (tie.spec
-    known-kind-requires
+    (λ c κs. search needs)
     returns
-    number-count-requires
-    sub-all-within
-    part-all-within-start
+    (λ c κs. search needs)
+    (λ c. search needs)
+    (λ c. search needs)
     part-all-within-end
-    all-within-requires
+    (λ c κs. search needs)
     returns-2
     returns-3)

@@ -14,9 +14,6 @@ returns c =
     let a = c .before .before .args in
     point-unfit (a .dimension) (a .weights) (sym (c .before .weights-fit .ensures) ∙ not-true (c .before .weights-fit .result) (c .if1 .taken))
 
-all-zero-requires : tie.Need-all-zero-requires
-all-zero-requires c κs = search needs
-
 -- weights that fit are judged by whether all are 0
 by-zeros : (c : tie.After-all-zero) (z : Bool) → c .all-zero .result ≡ z
     → let a = c .before .before .before .args in JudgedPoint (a .dimension) (a .weights) (firstFailed (not z else 9 ∷ []))
@@ -32,4 +29,4 @@ returns-3 : tie.Need-returns-3
 returns-3 c = by-zeros (c .before) false (c .if2 .left)
 
 pub judge-point-spec : {M : Type 1} → statement M
-judge-point-spec = tie.close (tie.spec (λ c κs. search needs) returns all-zero-requires returns-2 returns-3)
+judge-point-spec = tie.close (tie.spec (λ c κs. search needs) returns (λ c κs. search needs) returns-2 returns-3)

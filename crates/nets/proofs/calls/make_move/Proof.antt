@@ -41,7 +41,7 @@ returns-2 c =
 flip-entries-requires : tie.Need-flip-entries-requires
 flip-entries-requires c κs =
     let s = c .before .before .before in
-    subst (λ n. Flips 4 n (s .args .degree) (s .args .vertex - 1) 0 (s .args .entries .now)) (sym (c .before .before .dimension-of .ensures))
+    subst (λ n. Flips 4 n (s .args .degree) (s .args .vertex - 1) (s .args .entries .now)) (sym (c .before .before .dimension-of .ensures))
     (record { sized = net-sized (s .pre); vertex = move-high (s .pre); long = net-long (s .pre); range = net-each (s .pre) })
 
 returns-3 : tie.Need-returns-3

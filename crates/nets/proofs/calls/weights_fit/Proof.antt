@@ -26,18 +26,12 @@ second c b e =
     let w = c .before .before .before .before .before .args .weights in
     sym (ap (within 4096) (element (w .s) (c .before .struct-told2 .given .1 .0 .1))) ∙ sym (c .is-within2 .ensures) ∙ e
 
-is-within-requires : tie.Need-is-within-requires
-is-within-requires c κs = search needs
-
 returns : tie.Need-returns
 returns c =
     let s = c .before .before .before in
     let w = s .args .weights in
     let r = first (c .before) false (not-true (c .before .is-within .result) (c .if1 .taken)) in
     sym (λ i. (r i && all (within 4096) (drop 1 (weightList w))) && all isZero (drop (suc (s .args .dimension)) (weightList w)))
-
-is-within-requires-2 : tie.Need-is-within-requires-2
-is-within-requires-2 c κs = search needs
 
 returns-2 : tie.Need-returns-2
 returns-2 c =
@@ -81,9 +75,6 @@ returns-4 c =
     ∙ fit-two w (p .0) (p .1) (p .2)
     ∙ ap (λ n. weightsFit n (weightList w)) (sym (c .before .before .if4 .taken))
 
-is-within-requires-3 : tie.Need-is-within-requires-3
-is-within-requires-3 c κs = search needs
-
 returns-5 : tie.Need-returns-5
 returns-5 c =
     let e = c .before .before .before in
@@ -103,11 +94,11 @@ pub weights-fit-spec : {M : Type 1} → statement M
 weights-fit-spec =
     tie.close
     (tie.spec
-    is-within-requires
+    (λ c κs. search needs)
     returns
-    is-within-requires-2
+    (λ c κs. search needs)
     returns-2
     returns-3
     returns-4
-    is-within-requires-3
+    (λ c κs. search needs)
     returns-5)

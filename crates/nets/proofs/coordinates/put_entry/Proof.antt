@@ -49,9 +49,6 @@ put-scaled-requires c κs =
       λ j lo up. s .pre .0 .each j (omega (arith, below, from-is)),
     )
 
-same-length : tie.Need-same-length
-same-length c = search needs
-
 returns : tie.Need-returns
 returns c =
     let s = c .before .before .before .before .before .before in
@@ -71,5 +68,5 @@ put-entry-spec =
     monomial-place-requires
     factor-requires
     put-scaled-requires
-    same-length
+    (λ c. search needs)
     returns)

@@ -35,9 +35,6 @@ few s =
     suc-le : {n : ℕ} → n ≤ 2 → suc n ≤ 3
     suc-le h = omega arith
 
-add-at : tie.Need-add-at
-add-at c = search needs
-
 mul-at : tie.Need-mul-at
 mul-at c = omega (arith, few c)
 
@@ -96,9 +93,6 @@ within-all s b ws is weights =
     is ∙ ap (λ l. all (within 9223372036854775807) (take (size (a .width) (a .dimension) (pred (a .degree))) (blended (a .width) (a .dimension) (pred (a .degree)) l (a .cur .now)))) weights
     ∙ vertex-fits (a .width) (a .dimension) (a .degree) (a .v) (a .frame .now) (a .cur .now) (s .pre .sized) (s .pre .some) (s .pre .corners) (s .pre .vertex) (s .pre .long) (s .pre .bounded)
 
-same-length : tie.Need-same-length
-same-length c = search needs
-
 returns : tie.Need-returns
 returns c =
     let s = c .before .before .before .before .before .before in
@@ -110,7 +104,7 @@ pub blend-vertex-spec : {M : Type 1} → statement M
 blend-vertex-spec =
     tie.close
     (tie.spec
-    add-at
+    (λ c. search needs)
     mul-at
     add-t9
     mul-t10
@@ -119,5 +113,5 @@ blend-vertex-spec =
     shared-slice-copy-out-t15
     second-number-requires
     blend-requires
-    same-length
+    (λ c. search needs)
     returns)

@@ -95,37 +95,36 @@ loop-again c =
           (holds-third (a .width) (a .dimension) (a .i) (l .k) (a .frame .now) (a .cur .now) (l .cur) (s .pre .2) third (l .inv .1) G holds)),
     )
 
-put-entry-requires-2 : tie.Need-put-entry-requires-2 Inv-loop μ-loop
-put-entry-requires-2 c κs =
-    let s = c .before .before .before .before .before .before in
+last-entry-requires : tie.Need-last-entry-requires Inv-loop μ-loop
+last-entry-requires c κs =
+    let s = c .before .before .before .before .before in
     let a = s .args in
-    let l = c .before .before .before .before .loop in
-    let last = c .before .before .before .before .before .spread in
-    let done : l .k ≡ last .result = omega (arith, l .inv .0, c .before .before .before .loop-test .left) in (
+    let l = c .before .before .before .loop in
+    let last = c .before .before .before .before .spread in
+    let done : l .k ≡ last .result = omega (arith, l .inv .0, c .before .before .loop-test .left) in (
       s .pre .2 .sized,
       omega (arith, last .ensures),
       subst (λ k. size (a .width) (a .dimension) (a .i) ≤ k) (sym (l .inv .2)) (s .pre .0),
-      subst (λ k. size (a .width) (a .dimension) (a .i) ≤ k) (sym (l .inv .3)) (s .pre .1),
       subst (λ k. Stepping (a .width) (a .dimension) (a .i - k) (a .frame .now) (l .cur)) done (steps-left (a .width) (a .dimension) (a .i) 2 (a .frame .now) (a .cur .now) (s .pre .2) (l .cur) (l .k) (l .inv .1)),
     )
 
 same-length : tie.Need-same-length Inv-loop μ-loop
-same-length c = c .before .before .put-entry2 .kept .0 ∙ c .before .before .before .before .before .before .before .loop .inv .2
+same-length c = c .before .before .last-entry .kept .0 ∙ c .before .before .before .before .before .before .loop .inv .2
 
 same-length-2 : tie.Need-same-length-2 Inv-loop μ-loop
-same-length-2 c = c .before .before .put-entry2 .kept .1 .0 ∙ c .before .before .before .before .before .before .before .loop .inv .3
+same-length-2 c = c .before .before .before .before .before .before .loop .inv .3
 
 same-length-3 : tie.Need-same-length-3 Inv-loop μ-loop
-same-length-3 c = c .before .before .before .before .before .before .before .loop .inv .1 .kept
+same-length-3 c = c .before .before .last-entry .kept .1 .0 ∙ c .before .before .before .before .before .before .loop .inv .1 .kept
 
 returns : tie.Need-returns Inv-loop μ-loop
 returns c G holds =
-    let s = c .before .before .before .before .before .before .before .before .before in
+    let s = c .before .before .before .before .before .before .before .before in
     let a = s .args in
-    let l = c .before .before .before .before .before .before .before .loop in
-    let last = c .before .before .before .before .before .before .before .before .spread in
-    let e = c .before .before .put-entry2 in
-    let done : l .k ≡ last .result = omega (arith, l .inv .0, c .before .before .before .before .before .before .loop-test .left) in
+    let l = c .before .before .before .before .before .before .loop in
+    let last = c .before .before .before .before .before .before .before .spread in
+    let e = c .before .before .last-entry in
+    let done : l .k ≡ last .result = omega (arith, l .inv .0, c .before .before .before .before .before .loop-test .left) in
     let third : last .result ≤ (a .dimension - 1) * a .i = omega (arith, last .ensures) in
     let count : last .result + 1 ≡ suc ((a .dimension - 1) * a .i) = omega (arith, last .ensures) in
     entry-more (a .width) (a .dimension) (a .i) (last .result) (a .frame .now) (a .out .now) (l .out) (e .last .0) G (holds .form) (s .pre .2 .sized .low) (s .pre .2 .sized .high) third
@@ -149,7 +148,7 @@ put-row-spec =
     add-k
     loop-less
     loop-again
-    put-entry-requires-2
+    last-entry-requires
     same-length
     same-length-2
     same-length-3

@@ -1,64 +1,104 @@
--- `rename` meets its contract: after i turns the first i rows are renamed, and after the last one the whole net.
+-- `rename` meets its contract: before entry p the entries in front of it are renamed, and after the last one the whole net.
 use borrow.Author.Needs.{needs}
-use Prim.Native.Nat.{_+_, _*_, _-_, _≤_}
+use Prim.Native.Nat.{_*_, _-_, _≤_}
 use native.Mathlib.Omega.{arith}
-use mathlib.Core.Path.{_≡_, refl, ap, _∙_}
-use lib.ListN.{length}
-use Rattle.nets.specs.Rows.{written, placeAt}
+use mathlib.Core.Path.{_≡_, sym, ap, _∙_}
+use Rattle.entries.specs.Rows.{size}
+use Rattle.nets.specs.Rows.{written}
 use Rattle.nets.specs.Levels.{renamedAt}
-use Rattle.nets.proofs.Places.{degree-below, place-whole}
-use Rattle.nets.proofs.Writes.{rows-none, rows-more}
+use Rattle.nets.proofs.Places.{degree-below}
+use Rattle.nets.proofs.Writes.{Going, going-first, going-inside, going-spread, going-small, going-less, going-same, going-row, going-done}
+use Rattle.nets.proofs.Renaming.{exchanged-inside, renamed-copied}
 use Rattle.nets.proofs.levels.rename.Statement.{statement}
 use Rattle.nets.proofs.levels.rename.Tie as tie
 
 abbrev Inv-loop : tie.InvT-loop
-Inv-loop out₀ xs dimension vertex degree width i₀ out i =
-    (i ≤ degree + 1) × (out ≡ written out₀ 0 (width * placeAt dimension i 0) (renamedAt width dimension degree vertex xs)) × (length out ≡ length out₀)
+Inv-loop out₀ xs dimension vertex degree width p₀ i₀ k₀ out p i k = Going width dimension degree (renamedAt width dimension degree vertex xs) out₀ out p i k
 
 abbrev μ-loop : tie.MeasureT-loop
-μ-loop out₀ xs dimension vertex degree width i₀ out i = degree + 1 - i
+μ-loop out₀ xs dimension vertex degree width p₀ i₀ k₀ out p i k = size width dimension degree - width * p
 
 loop-holds : tie.Need-loop-holds Inv-loop μ-loop
-loop-holds c =
-    let a = c .args in
-    (search needs, rows-none (a .width) (a .dimension) (renamedAt (a .width) (a .dimension) (a .degree) (a .vertex) (a .xs .now)) (a .out .now) (c .pre .sized .low) (c .pre .sized .high), refl)
+loop-holds c = let a = c .args in going-first (a .width) (a .dimension) (a .degree) (renamedAt (a .width) (a .dimension) (a .degree) (a .vertex) (a .xs .now)) (a .out .now) (c .pre .sized .low) (c .pre .sized .high)
 
-rename-row-requires : tie.Need-rename-row-requires Inv-loop μ-loop
-rename-row-requires c κs =
-    let s = c .before .before .before in
-    let l = c .before .before .loop in
-    (record { sized = s .pre .sized; vertex = s .pre .vertex; room = omega (arith, s .pre .room, l .inv .2); long = s .pre .long }, omega (arith, c .before .loop-test .taken))
+-- the entry of a turn is within the degree
+within : (c : tie.In-loop Inv-loop μ-loop) → c .before .loop .i ≤ c .before .before .args .degree
+within c = omega (arith, c .loop-test .taken)
+
+-- it is renamed
+renamed : (c : tie.After-spread Inv-loop μ-loop)
+    → let a = c .before .before .before .before .before .before .before .args in
+    let l = c .before .before .before .before .before .before .loop in
+    c .before .before .copy-row .last .0 ≡ written (l .out) (a .width * l .p) (a .width) (renamedAt (a .width) (a .dimension) (a .degree) (a .vertex) (a .xs .now))
+renamed c =
+    let s = c .before .before .before .before .before .before .before in
+    let a = s .args in
+    let l = c .before .before .before .before .before .before .loop in
+    let from = c .before .before .before .before .renamed-place in
+    renamed-copied (a .dimension) (a .degree) (l .i) (l .k) (s .pre .sized .low) (s .pre .sized .high) (within (c .before .before .before .before .before)) (l .inv .third) (a .width) (a .vertex) (s .pre .vertex) (l .out) (a .xs .now) (c .before .before .copy-row .last .0)
+    (l .p) (from .result) (l .inv .place) (from .ensures) (c .before .before .copy-row .ensures)
+    ∙ ap (λ q. written (l .out) (a .width * q) (a .width) (renamedAt (a .width) (a .dimension) (a .degree) (a .vertex) (a .xs .now))) (sym (l .inv .place))
+
+renamed-place-requires : tie.Need-renamed-place-requires Inv-loop μ-loop
+renamed-place-requires c κs =
+    let s = c .before .before in
+    let few = degree-below (s .args .width) (s .args .dimension) (s .args .degree) (s .pre .sized) in
+    (s .pre .sized .low, s .pre .sized .high, s .pre .vertex, omega (arith, few), within c, c .before .loop .inv .third, c .before .loop .inv .place)
+
+copy-row-requires : tie.Need-copy-row-requires Inv-loop μ-loop
+copy-row-requires c κs =
+    let s = c .before .before .before .before in
+    let a = s .args in
+    let l = c .before .before .before .loop in
+    let here = within (c .before .before) in
+    let to = going-inside (s .pre .sized) (l .inv) here in
+    let from = exchanged-inside (a .dimension) (a .degree) (l .i) (l .k) (s .pre .sized .low) (s .pre .sized .high) here (l .inv .third) (a .width) (a .vertex) (s .pre .vertex) in
+    let from-is = ap (λ p. a .width * p) (c .before .renamed-place .ensures) in
+    (omega (arith, to, s .pre .room, l .inv .kept), omega (arith, from, from-is, s .pre .long))
+
+add-p : tie.Need-add-p Inv-loop μ-loop
+add-p c = let few = going-small (c .before .before .before .before .before .before .pre .sized) (c .before .before .before .before .before .loop .inv) (within (c .before .before .before .before)) in search needs
+
+add-k : tie.Need-add-k Inv-loop μ-loop
+add-k c =
+    let s = c .before .before .before .before .before .before in
+    let l = c .before .before .before .before .before .loop in
+    let few = degree-below (s .args .width) (s .args .dimension) (s .args .degree) (s .pre .sized) in
+    let most = going-spread (s .pre .sized) (l .inv) in
+    let here = within (c .before .before .before .before) in
+    search needs
+
+spread-requires : tie.Need-spread-requires Inv-loop μ-loop
+spread-requires c κs = let s = c .before .before .before .before .before .before in (s .pre .sized .low, s .pre .sized .high)
 
 add-i : tie.Need-add-i Inv-loop μ-loop
 add-i c =
-    let s = c .before .before .before .before .before in
-    omega (arith, c .before .before .before .loop-test .taken, degree-below (s .args .width) (s .args .dimension) (s .args .degree) (s .pre .sized))
+    let s = c .before .before .before .before .before .before .before .before in
+    let few = degree-below (s .args .width) (s .args .dimension) (s .args .degree) (s .pre .sized) in
+    let here = within (c .before .before .before .before .before .before) in
+    search needs
 
 loop-less : tie.Need-loop-less Inv-loop μ-loop
-loop-less c = omega (arith, c .before .before .before .loop-test .taken)
+loop-less c = going-less (c .before .before .before .before .before .before .before .before .pre .sized) (c .before .before .before .before .before .before .before .loop .inv) (within (c .before .before .before .before .before .before))
 
 loop-again : tie.Need-loop-again Inv-loop μ-loop
 loop-again c =
-    let s = c .before .before .before .before .before in
-    let a = s .args in
-    let l = c .before .before .before .before .loop in (
-      omega (arith, c .before .before .before .loop-test .taken),
-      rows-more (a .width) (a .dimension) (l .i) (renamedAt (a .width) (a .dimension) (a .degree) (a .vertex) (a .xs .now)) (a .out .now) (l .out) (c .before .rename-row .last .0) (s .pre .sized .low) (s .pre .sized .high) (l .inv .1) (c .before .rename-row .ensures),
-      c .before .rename-row .kept .0 ∙ l .inv .2,
-    )
+    going-row (c .before .before .before .before .before .before .before .before .pre .sized) (c .before .before .before .before .before .before .before .loop .inv) (within (c .before .before .before .before .before .before)) (renamed (c .before)) (c .before .before .before .copy-row .kept .0)
+    (omega (arith, c .if1 .taken, c .before .spread .ensures))
+
+loop-less-2 : tie.Need-loop-less-2 Inv-loop μ-loop
+loop-less-2 c = going-less (c .before .before .before .before .before .before .before .before .pre .sized) (c .before .before .before .before .before .before .before .loop .inv) (within (c .before .before .before .before .before .before))
+
+loop-again-2 : tie.Need-loop-again-2 Inv-loop μ-loop
+loop-again-2 c =
+    going-same (c .before .before .before .before .before .before .before .before .pre .sized) (c .before .before .before .before .before .before .before .loop .inv) (within (c .before .before .before .before .before .before)) (renamed (c .before)) (c .before .before .before .copy-row .kept .0)
+    (omega (arith, c .if1 .left, c .before .spread .ensures))
 
 same-length : tie.Need-same-length Inv-loop μ-loop
-same-length c = c .before .loop .inv .2
+same-length c = c .before .loop .inv .kept
 
 returns : tie.Need-returns Inv-loop μ-loop
-returns c =
-    let s = c .before .before in
-    let a = s .args in
-    let l = c .before .loop in
-    let last : l .i ≡ a .degree + 1 = omega (arith, l .inv .0, c .loop-test .left) in
-    l .inv .1
-    ∙ ap (λ k. written (a .out .now) 0 k (renamedAt (a .width) (a .dimension) (a .degree) (a .vertex) (a .xs .now)))
-    (ap (λ i. a .width * placeAt (a .dimension) i 0) last ∙ place-whole (a .width) (a .dimension) (a .degree) (s .pre .sized .low) (s .pre .sized .high))
+returns c = going-done (c .before .before .pre .sized) (c .before .loop .inv) (omega (arith, c .loop-test .left))
 
 pub rename-spec : {M : Type 1} → statement M
 rename-spec =
@@ -67,9 +107,15 @@ rename-spec =
     Inv-loop
     μ-loop
     loop-holds
-    rename-row-requires
+    renamed-place-requires
+    copy-row-requires
+    add-p
+    add-k
+    spread-requires
     add-i
     loop-less
     loop-again
+    loop-less-2
+    loop-again-2
     same-length
     returns)

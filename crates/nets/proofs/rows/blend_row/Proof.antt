@@ -1,7 +1,7 @@
 -- `blend_row` meets its contract: the numbers at and past f are as they were, so each blend is of the old numbers, and those before f are within the limit.
 use borrow.Author.Needs.{needs, sfits-of}
 use borrow.Author.Tests.{not-true, not-false}
-use Prim.Native.Nat.{ℕ, _≤_, _+_, _-_}
+use Prim.Native.Nat.{ℕ, _≤_, _<_, _+_, _-_}
 use native.Mathlib.Nat.{sub-self}
 use native.Mathlib.Omega.{arith}
 use mathlib.Core.Path.{_≡_, refl, sym, ap, ap₂, _∙_}
@@ -31,12 +31,16 @@ loop-holds : tie.Need-loop-holds Inv-loop μ-loop
 unfolding written ranged
 loop-holds c = (search needs, search needs, rw sub-self refl, refl, rw sub-self refl)
 
+-- the number of a turn is one of the row's
+below : (c : tie.In-loop Inv-loop μ-loop) → c .before .loop .f < c .before .before .args .from + c .before .before .args .count
+below c = let most = c .before .loop .inv .1 in let other = c .loop-test .taken in omega arith
+
 mix-requires : tie.Need-mix-requires Inv-loop μ-loop
 mix-requires c κs =
     let s = c .before .before .before .before .before in
     let l = c .before .before .before .before .loop in
     row-small (s .args .xs .now) (s .args .from) (s .args .count) (s .args .d) (s .args .e) (s .args .a) (s .args .b) (s .args .c) (s .fits .a) (s .fits .b) (s .fits .c)
-    (l .xs) (l .f) (l .inv .0) (c .before .before .before .loop-test .taken) (s .pre .0) (s .pre .1) (l .inv .2)
+    (l .xs) (l .f) (l .inv .0) (below (c .before .before .before)) (s .pre .0) (s .pre .1) (l .inv .2)
     (c .before .before .mix-arg .given) (c .before .mix-arg2 .given) (c .mix-arg3 .given) (s .pre .3)
 
 -- what the row is to hold at each place
@@ -52,7 +56,7 @@ value c =
     let s = c .before .before .before .before .before .before in
     let l = c .before .before .before .before .before .loop in
     row-value (s .args .xs .now) (s .args .from) (s .args .count) (s .args .d) (s .args .e) (s .args .a) (s .args .b) (s .args .c) (s .fits .a) (s .fits .b) (s .fits .c)
-    (l .xs) (l .f) (l .inv .0) (c .before .before .before .before .loop-test .taken) (s .pre .0) (s .pre .1) (l .inv .2)
+    (l .xs) (l .f) (l .inv .0) (below (c .before .before .before .before)) (s .pre .0) (s .pre .1) (l .inv .2)
     (c .before .before .before .mix-arg .given) (c .before .before .mix-arg2 .given) (c .before .mix-arg3 .given) (c .mix .result) (sfits-of (c .mix .ok)) (c .mix .ensures)
 
 returns : tie.Need-returns Inv-loop μ-loop
@@ -61,7 +65,7 @@ returns c =
     let s = m .before .before .before .before .before .before in
     let l = m .before .before .before .before .before .loop in
     let beyond = sym (ap (within (s .args .limit)) (value m)) ∙ sym (c .before .is-within .ensures) ∙ not-true (c .before .is-within .result) (c .if1 .taken) in (
-      sym (ap (λ g. ranged (s .args .limit) g (s .args .from) (s .args .count)) (sym (weights s)) ∙ ranged-fails (s .args .limit) (blends s) (s .args .from) (l .f) (s .args .count) (l .inv .0) (m .before .before .before .before .loop-test .taken) beyond),
+      sym (ap (λ g. ranged (s .args .limit) g (s .args .from) (s .args .count)) (sym (weights s)) ∙ ranged-fails (s .args .limit) (blends s) (s .args .from) (l .f) (s .args .count) (l .inv .0) (below (m .before .before .before .before)) beyond),
       λ b. absurd (clash b refl),
     )
 
@@ -73,7 +77,7 @@ loop-again c =
       search needs,
       search needs,
       row-step (s .args .xs .now) (s .args .from) (s .args .count) (s .args .d) (s .args .e) (s .args .a) (s .args .b) (s .args .c) (s .fits .a) (s .fits .b) (s .fits .c)
-          (l .xs) (l .f) (l .inv .0) (m .before .before .before .before .loop-test .taken) (s .pre .0) (s .pre .1) (l .inv .2)
+          (l .xs) (l .f) (l .inv .0) (below (m .before .before .before .before)) (s .pre .0) (s .pre .1) (l .inv .2)
           (m .before .before .before .mix-arg .given) (m .before .before .mix-arg2 .given) (m .before .mix-arg3 .given) (m .mix .result) (sfits-of (m .mix .ok)) (m .mix .ensures),
       length-set (l .xs) (l .f) _ ∙ l .inv .3,
       ranged-next (s .args .limit) (blends s) (s .args .from) (l .f) (l .inv .0) (l .inv .4)

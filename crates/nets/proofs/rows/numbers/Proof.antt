@@ -6,7 +6,8 @@ use mathlib.Core.Path.{_≡_, sym, ap, _∙_}
 use lib.Dec.{lit≤}
 use Rattle.polar.specs.Order.{counts}
 use Rattle.entries.specs.Rows.{size, offset}
-use Rattle.nets.proofs.Ranks.{size-curve, size-patch, tri-double}
+use Rattle.entries.proofs.Lengths.{tri-double}
+use Rattle.nets.proofs.Ranks.{size-curve, size-patch}
 use Rattle.nets.proofs.Places.{degree-below}
 use Rattle.nets.proofs.rows.numbers.Statement.{statement}
 use Rattle.nets.proofs.rows.numbers.Tie as tie

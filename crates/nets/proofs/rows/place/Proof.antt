@@ -6,7 +6,7 @@ use native.Mathlib.Omega.{arith}
 use mathlib.Core.Path.{_≡_, sym, ap, _∙_}
 use lib.Dec.{lit≤}
 use Rattle.nets.specs.Rows.{placeAt}
-use Rattle.nets.proofs.Ranks.{tri-double}
+use Rattle.entries.proofs.Lengths.{tri-double}
 use Rattle.nets.proofs.rows.place.Statement.{statement}
 use Rattle.nets.proofs.rows.place.Tie as tie
 

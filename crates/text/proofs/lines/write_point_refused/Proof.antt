@@ -1,58 +1,27 @@
--- `write_point_refused` meets its contract: the number and the end of the line.
+-- `write_point_refused` meets its contract: the words, and the number, which is a byte and so is handed on as it is.
 use borrow.Author.Needs.{needs}
-use Prim.Native.Nat.{ℕ}
-use mathlib.Core.Path.{refl}
-use mathlib.Core.List.{List, [], _∷_, _++_}
-use lib.ListN.{drop}
-use Rattle.text.specs.Words.{decimal, line}
+use native.Mathlib.Omega.{arith}
+use mathlib.Core.Path.{_≡_, sym, ap}
+use mathlib.Core.List.{[], _∷_, _++_}
+use lib.IntN.{pos}
+use Rattle.integers.proofs.Signed.{seen, back}
+use Rattle.text.specs.Words.{signedDecimal, line}
 use Rattle.text.specs.Text.{word, pointRefusedLine}
-use Rattle.text.proofs.Then.{Left, left-all, left-as, left-fits, left-after, left-last}
+use Rattle.text.specs.Parts.{numbersText}
+use Rattle.text.proofs.Then.{room-as, wrote-as}
 use Rattle.text.proofs.lines.write_point_refused.Statement.{statement}
 use Rattle.text.proofs.lines.write_point_refused.Tie as tie
 
--- the text, and the parts that are written
-abbrev whole : tie.Start → List ℕ
-whole s = pointRefusedLine (s .args .number)
+text : (s : tie.Start) → pointRefusedLine (s .args .number) ≡ word "point refused" ++ numbersText (seen (pos (s .args .number)) ∷ [])
+unfolding pointRefusedLine line signedDecimal
+text s = let small = s .fits .number .fits in sym (ap (λ v. word "point refused" ++ numbersText (v ∷ [])) (back (pos (s .args .number)) (omega (arith, small))))
 
-abbrev parts : tie.Start → List (List ℕ)
-parts s = (word "point refused " ++ decimal (s .args .number)) ∷ (10 ∷ []) ∷ []
-
--- what is left when k parts are written
-abbrev Still : tie.Start → List ℕ → ℕ → ℕ → Type 0
-Still s now at k = Left (s .args .out .now) (s .args .at) (whole s) now at (drop k (parts s))
-
-started : (s : tie.Start) → Still s (s .args .out .now) (s .args .at) 0
-unfolding pointRefusedLine line
-started s = left-as (whole s ∷ []) (parts s) refl (left-all (s .args .out .now) (s .args .at) (whole s) (s .pre))
-
-after-number : (c : tie.After-put-labelled) → Still (c .before .before .before .before) (c .put-labelled .last .0) (c .put-labelled .result) 1
-after-number c = left-after (started (c .before .before .before .before)) (c .put-labelled .ensures)
-
-slice-aggregate-put-labelled : tie.Need-slice-aggregate-put-labelled
-slice-aggregate-put-labelled c = search needs
-
-put-labelled-requires : tie.Need-put-labelled-requires
-put-labelled-requires c κs = left-fits (started (c .before .before .before))
-
-slice-aggregate-put : tie.Need-slice-aggregate-put
-slice-aggregate-put c = search needs
-
-put-requires : tie.Need-put-requires
-put-requires c κs = left-fits (after-number (c .before .before .before .before))
-
-same-length : tie.Need-same-length
-same-length c = search needs
+put-line-requires : tie.Need-put-line-requires
+put-line-requires c κs = let s = c .before .before .before .before in room-as (text s) (s .pre)
 
 returns : tie.Need-returns
-returns c = left-last (after-number (c .before .before .before .before .before .before .before)) (c .before .before .put .ensures)
+returns c = wrote-as (sym (text (c .before .before .before .before .before .before .before))) (c .before .before .put-line .ensures)
 
 pub write-point-refused-spec : {M : Type 1} → statement M
 write-point-refused-spec =
-    tie.close
-    (tie.spec
-    slice-aggregate-put-labelled
-    put-labelled-requires
-    slice-aggregate-put
-    put-requires
-    same-length
-    returns)
+    tie.close (tie.spec (λ c. search needs) (λ c. search needs) (λ c. search needs) put-line-requires (λ c. search needs) returns)

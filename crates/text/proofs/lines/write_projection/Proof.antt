@@ -3,34 +3,23 @@ use borrow.Author.Needs.{needs}
 use mathlib.Core.Path.{sym, ap}
 use Rattle.text.specs.Words.{line}
 use Rattle.text.specs.Text.{projectionLine}
-use Rattle.text.proofs.Then.{fits-as, wrote-as}
+use Rattle.text.proofs.Then.{room-as, wrote-as}
 use Rattle.text.proofs.lines.write_projection.Statement.{statement}
 use Rattle.text.proofs.lines.write_projection.Tie as tie
 
 write-finite-requires : tie.Need-write-finite-requires
-write-finite-requires c κs =
-    let s = c .before .before .before .before .before in
-    fits-as (s .args .out .now) (s .args .at) (ap projectionLine (c .before .before .p .given .1)) (s .pre)
+write-finite-requires c κs = let m = c .before .before in room-as (ap projectionLine (m .p .given .1)) (m .before .before .before .pre)
 
 write-direction-requires : tie.Need-write-direction-requires
-write-direction-requires c κs =
-    let s = c .before .before .before .before .before in
-    fits-as (s .args .out .now) (s .args .at) (ap projectionLine (c .before .before .p2 .given .1)) (s .pre)
-
-enum-told : tie.Need-enum-told
-enum-told c = search needs
+write-direction-requires c κs = let m = c .before .before in room-as (ap projectionLine (m .p2 .given .1)) (m .before .before .before .pre)
 
 put-requires : tie.Need-put-requires
 unfolding projectionLine line
-put-requires c κs =
-    let s = c .before .before .before .before .before in
-    fits-as (s .args .out .now) (s .args .at) (ap projectionLine (c .before .before .enum-told .given .1)) (s .pre)
+put-requires c κs = let m = c .before .before in room-as (ap projectionLine (m .enum-told .given .1)) (m .before .before .before .pre)
 
 write-point-refused-requires : tie.Need-write-point-refused-requires
 unfolding projectionLine line
-write-point-refused-requires c κs =
-    let s = c .before .before .before .before in
-    fits-as (s .args .out .now) (s .args .at) (ap projectionLine (c .before .enum-told2 .given .1)) (s .pre)
+write-point-refused-requires c κs = let m = c .before in room-as (ap projectionLine (m .enum-told2 .given .1)) (m .before .before .before .pre)
 
 returns : tie.Need-returns
 returns c = wrote-as (ap projectionLine (sym (c .before .before .before .before .before .p .given .1))) (c .before .before .write-finite .ensures)
@@ -54,7 +43,7 @@ write-projection-spec =
     write-finite-requires
     (λ c. search needs)
     write-direction-requires
-    enum-told
+    (λ c. search needs)
     (λ c. search needs)
     put-requires
     (λ c. search needs)

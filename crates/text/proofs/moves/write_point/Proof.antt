@@ -13,7 +13,7 @@ use Rattle.text.specs.Text.{pointRefusedLine, projectionLine, pointLine}
 use Rattle.text.specs.Parts.{pointText}
 use Rattle.text.proofs.Over.{nothing-written}
 use Rattle.text.proofs.Calls.{point-none, point-one, point-refused, point-found}
-use Rattle.text.proofs.Then.{fits-as, wrote-as}
+use Rattle.text.proofs.Then.{room-as, wrote-as}
 use Rattle.text.proofs.moves.write_point.Statement.{statement}
 use Rattle.text.proofs.moves.write_point.Tie as tie
 
@@ -52,48 +52,18 @@ returns c =
     let a = s .args in
     wrote-as (sym (point-none (netAt (a .net .now)) (a .value .now) (c .if1 .taken))) (nothing-written (a .out .now) (a .at))
 
-point-weights-requires : tie.Need-point-weights-requires
-point-weights-requires c κs = search needs
-
-slice-aggregate-find-point : tie.Need-slice-aggregate-find-point
-slice-aggregate-find-point c = search needs
-
-find-point-requires : tie.Need-find-point-requires
-find-point-requires c κs = search needs
-
 write-point-refused-requires : tie.Need-write-point-refused-requires
 write-point-refused-requires c κs =
     let s = c .before .before .before .before .before .before .before .before .before in
-    fits-as (s .args .out .now) (s .args .at) (refused (c .before .before .before) (c .before .if2 .taken)) (s .pre .1)
-
-same-length : tie.Need-same-length
-same-length c = search needs
+    room-as (refused (c .before .before .before) (c .before .if2 .taken)) (s .pre .1)
 
 returns-2 : tie.Need-returns-2
 returns-2 c = wrote-as (sym (refused (c .before .before .before .before .before .before) (c .before .before .before .before .if2 .taken))) (c .before .before .write-point-refused .ensures)
 
-array-copy-out-project : tie.Need-array-copy-out-project
-array-copy-out-project c = search needs
-
-array-copy-out-project-2 : tie.Need-array-copy-out-project-2
-array-copy-out-project-2 c = search needs
-
-array-copy-out-project-3 : tie.Need-array-copy-out-project-3
-array-copy-out-project-3 c = search needs
-
-array-copy-out-project-4 : tie.Need-array-copy-out-project-4
-array-copy-out-project-4 c = search needs
-
-project-requires : tie.Need-project-requires
-project-requires c κs = search needs
-
 write-projection-requires : tie.Need-write-projection-requires
 write-projection-requires c κs =
     let s = c .before .before .before .before .before .before .before .before .before .before .before .before .before .before in
-    fits-as (s .args .out .now) (s .args .at) (found c) (s .pre .1)
-
-same-length-2 : tie.Need-same-length-2
-same-length-2 c = search needs
+    room-as (found c) (s .pre .1)
 
 returns-3 : tie.Need-returns-3
 returns-3 c = wrote-as (sym (found (c .before .before .before))) (c .before .before .write-projection .ensures)
@@ -103,17 +73,17 @@ write-point-spec =
     tie.close
     (tie.spec
     returns
-    point-weights-requires
-    slice-aggregate-find-point
-    find-point-requires
+    (λ c κs. search needs)
+    (λ c. search needs)
+    (λ c κs. search needs)
     write-point-refused-requires
-    same-length
+    (λ c. search needs)
     returns-2
-    array-copy-out-project
-    array-copy-out-project-2
-    array-copy-out-project-3
-    array-copy-out-project-4
-    project-requires
+    (λ c. search needs)
+    (λ c. search needs)
+    (λ c. search needs)
+    (λ c. search needs)
+    (λ c κs. search needs)
     write-projection-requires
-    same-length-2
+    (λ c. search needs)
     returns-3)

@@ -22,9 +22,6 @@ Inv-loop out₀ at n end place₀ left₀ out place left =
 abbrev μ-loop : tie.MeasureT-loop
 μ-loop out₀ at n end place₀ left₀ out place left = left
 
-digit-count-requires : tie.Need-digit-count-requires Inv-loop μ-loop
-digit-count-requires c κs = search needs
-
 add-end : tie.Need-add-end Inv-loop μ-loop
 add-end c =
     let room = c .before .before .pre in
@@ -129,7 +126,7 @@ put-decimal-spec =
     (tie.spec
     Inv-loop
     μ-loop
-    digit-count-requires
+    (λ c κs. search needs)
     add-end
     sub-place
     loop-holds

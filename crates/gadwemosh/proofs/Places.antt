@@ -1,0 +1,52 @@
+-- Weights read back from their bits, and what comes back from a projection in each case of the code's tests of room.
+use Prim.Native.Nat.{ℕ, _≤_, _<_}
+use mathlib.Core.Path.{_≡_, sym, ap, ap₂, subst, _∙_}
+use mathlib.Core.Bool.{Bool, true, false, cond, _&&_}
+use mathlib.Core.List.{List}
+use borrow.Author.Tests.{le-leb, lt-leb}
+use lib.Dec.{leb}
+use lib.IntN.{ℤ}
+use lib.ListN.{length}
+use mir.Syntax.{w64}
+use mir.Val.{SFits}
+use Rattle.integers.proofs.Signed.{seen, back-fits}
+use Rattle.projection.specs.declared.Projection.{Projection}
+use Rattle.gadwemosh.specs.Calls.{threeWeights}
+use Rattle.gadwemosh.specs.Projections.{ProjectionReturned, told, untold, projectionReturned}
+
+-- three weights as they are handed on
+pub weights-back : {r s t : ℤ} → SFits w64 r → SFits w64 s → SFits w64 t → threeWeights (seen r) (seen s) (seen t) ≡ threeWeights r s t
+weights-back r s t = λ i. threeWeights (back-fits r i) (back-fits s i) (back-fits t i)
+
+-- ---- what comes back from a projection
+
+-- the four clauses of a contract that says what comes back
+abbrev pub Projects : ℕ → ℕ → List ℕ → List ℤ → ProjectionReturned → Type 0
+Projects number outcome bits direction r = (number ≡ r .number) × ((outcome ≡ r .outcome) × ((bits ≡ r .bits) × (direction ≡ r .direction)))
+
+pub clauses : (r must : ProjectionReturned) → r ≡ must → Projects (r .number) (r .outcome) (r .bits) (r .direction) must
+clauses r must e = (ap (λ x. x .number) e, (ap (λ x. x .outcome) e, (ap (λ x. x .bits) e, ap (λ x. x .direction) e)))
+
+-- a projection q whose case is p
+pub case-told : {p q : Projection} (bits : List ℕ) (direction : List ℤ) (r : ProjectionReturned) → q ≡ p → r ≡ told p bits direction
+    → Projects (r .number) (r .outcome) (r .bits) (r .direction) (told q bits direction)
+case-told bits direction r is e = clauses r _ (e ∙ sym (ap (λ p. told p bits direction) is))
+
+-- clauses about what is told are clauses about what equals it
+pub clauses-of : {number outcome : ℕ} {bits : List ℕ} {direction : List ℤ} {r must : ProjectionReturned} → r ≡ must
+    → Projects number outcome bits direction r → Projects number outcome bits direction must
+clauses-of {number} {outcome} {bits} {direction} e = subst (λ x. Projects number outcome bits direction x) e
+
+module _ (p : Projection) (bits : List ℕ) (direction : List ℤ) where
+  by-room : (t : Bool) → (leb 3 (length bits) && leb 3 (length direction)) ≡ t → cond t (told p bits direction) (untold bits direction) ≡ projectionReturned p bits direction
+  unfolding projectionReturned
+  by-room t is = sym (ap (λ b. cond b (told p bits direction) (untold bits direction)) is)
+
+  pub bits-short : length bits < 3 → untold bits direction ≡ projectionReturned p bits direction
+  bits-short few = by-room false (ap (λ b. b && leb 3 (length direction)) (lt-leb 3 (length bits) few))
+
+  pub direction-short : 3 ≤ length bits → length direction < 3 → untold bits direction ≡ projectionReturned p bits direction
+  direction-short enough few = by-room false (ap₂ _&&_ (le-leb 3 (length bits) enough) (lt-leb 3 (length direction) few))
+
+  pub with-room : 3 ≤ length bits → 3 ≤ length direction → told p bits direction ≡ projectionReturned p bits direction
+  with-room enough more = by-room true (ap₂ _&&_ (le-leb 3 (length bits) enough) (le-leb 3 (length direction) more))

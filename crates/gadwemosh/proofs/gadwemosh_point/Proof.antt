@@ -1,0 +1,19 @@
+-- `gadwemosh_point` meets its contract: the weights are handed on as they are read back from their bits.
+use borrow.Author.Needs.{needs}
+use mathlib.Core.Path.{ap, _∙_}
+use Rattle.machine.specs.Lent.{callNumber, callFound}
+use Rattle.machine.specs.declared.Call.the-variants.{Point}
+use Rattle.gadwemosh.proofs.Places.{weights-back}
+use Rattle.gadwemosh.proofs.gadwemosh_point.Statement.{statement}
+use Rattle.gadwemosh.proofs.gadwemosh_point.Tie as tie
+
+returns : tie.Need-returns
+returns c =
+    let s = c .before .before .before in
+    let a = s .args in
+    let made = c .before .find-point in
+    let same = weights-back (s .fits .r) (s .fits .s) (s .fits .t) in
+    (made .ensures .0 ∙ ap (λ w. callNumber (Point w) (a .net .now) (a .found .now)) same, made .ensures .1 ∙ ap (λ w. callFound (Point w) (a .net .now) (a .found .now)) same)
+
+pub gadwemosh-point-spec : {M : Type 1} → statement M
+gadwemosh-point-spec = tie.close (tie.spec (λ c κs. search needs) (λ c. search needs) returns)

@@ -1,0 +1,42 @@
+-- A projection told to callers who have no enum: a number of the table or 0, which case it is, and its values in places that the caller lends.
+use Prim.Native.Nat.{ℕ}
+use mathlib.Core.Bool.{_&&_, cond}
+use mathlib.Core.List.{List}
+use lib.Dec.{leb}
+use lib.IntN.{ℤ}
+use lib.ListN.{length}
+use Rattle.projection.specs.Projection.{refusal, coordinateBits, directionNumbers}
+use Rattle.projection.specs.declared.Projection.{Projection}
+use Rattle.projection.specs.declared.Projection.the-variants.{Finite, Direction, Nowhere, OutOfRange}
+use Rattle.machine.specs.Lent.{putAt}
+
+-- the case, 'a finite point', 'a direction' or 'nowhere'; 0 where the four numbers are refused
+abbrev pub outcomeOf : Projection → ℕ
+outcomeOf (Finite p) = 1
+outcomeOf (Direction d) = 2
+outcomeOf Nowhere = 3
+outcomeOf OutOfRange = 0
+
+-- what comes back: the number of the refusal or 0, the case, and what then stands in the places lent for bit patterns and for a direction
+pub record ProjectionReturned : Type 0 where
+  pub number : ℕ
+  pub outcome : ℕ
+  pub bits : List ℕ
+  pub direction : List ℤ
+
+-- with room for three numbers in both: a finite point's bit patterns are put into the ones, a direction's numbers into the others, and all other places stay
+abbrev pub told : Projection → List ℕ → List ℤ → ProjectionReturned
+told p bits direction =
+    record {
+      number = refusal p;
+      outcome = outcomeOf p;
+      bits = putAt 0 (coordinateBits p) bits;
+      direction = putAt 0 (directionNumbers p) direction;
+    }
+
+-- 'output buffer shorter': 11, and no place is written
+abbrev pub untold : List ℕ → List ℤ → ProjectionReturned
+untold bits direction = record { number = 11; outcome = 0; bits = bits; direction = direction }
+
+unfoldable pub projectionReturned : Projection → List ℕ → List ℤ → ProjectionReturned
+projectionReturned p bits direction = cond (leb 3 (length bits) && leb 3 (length direction)) (told p bits direction) (untold bits direction)

@@ -1,0 +1,66 @@
+// Projections told to callers who have no enum: the number, the case, and the values in lent places.
+ghost use mathlib.Core.Path.{_≡_};
+ghost use Prim.Native.Nat.{_≤_};
+ghost use mathlib.Core.List.{[], _∷_};
+ghost use lib.ListN.{length};
+ghost use lib.Ieee.{binary64, toBits};
+ghost use Rattle.machine.specs.Lent.{putAt};
+ghost use Rattle.gadwemosh.specs.Projections.{told};
+use projection::Coords;
+use projection::Projection;
+use projection::bits;
+
+// The bit patterns of a finite point, into the first three places.
+fn put_bits(patterns: &mut [u64], p: Coords)
+    requires { ⌜ 3 ≤ length (now patterns) ⌝ }
+    ensures { λ _. ⌜ now (patterns .exit) ≡ putAt 0 (toBits binary64 (p .x) ∷ toBits binary64 (p .y) ∷ toBits binary64 (p .z) ∷ []) (now (patterns .entry)) ⌝ }
+{
+    patterns[0] = bits(p.x);
+    patterns[1] = bits(p.y);
+    patterns[2] = bits(p.z);
+}
+
+// The numbers of a direction, into the first three places.
+fn put_direction(direction: &mut [i64], x: i64, y: i64, z: i64)
+    requires { ⌜ 3 ≤ length (now direction) ⌝ }
+    ensures { λ _. ⌜ now (direction .exit) ≡ putAt 0 (x ∷ y ∷ z ∷ []) (now (direction .entry)) ⌝ }
+{
+    direction[0] = x;
+    direction[1] = y;
+    direction[2] = z;
+}
+
+// The number of a projection, with its case, and its bit patterns or its direction, put into their places.
+pub(crate) fn write_projection(
+    outcome: &mut u8,
+    patterns: &mut [u64],
+    direction: &mut [i64],
+    projection: Projection,
+) -> u8
+    requires { ⌜ (3 ≤ length (now patterns)) × (3 ≤ length (now direction)) ⌝ }
+    ensures number { λ r. ⌜ r ≡ told projection (now (patterns .entry)) (now (direction .entry)) .number ⌝ }
+    ensures outcome { λ _. ⌜ now (outcome .exit) ≡ told projection (now (patterns .entry)) (now (direction .entry)) .outcome ⌝ }
+    ensures patterns { λ _. ⌜ now (patterns .exit) ≡ told projection (now (patterns .entry)) (now (direction .entry)) .bits ⌝ }
+    ensures direction { λ _. ⌜ now (direction .exit) ≡ told projection (now (patterns .entry)) (now (direction .entry)) .direction ⌝ }
+{
+    match projection {
+        Projection::Finite(p) => {
+            put_bits(patterns, p);
+            *outcome = 1;
+            0
+        }
+        Projection::Direction(d) => {
+            put_direction(direction, d.x, d.y, d.z);
+            *outcome = 2;
+            0
+        }
+        Projection::Nowhere => {
+            *outcome = 3;
+            0
+        }
+        Projection::OutOfRange => {
+            *outcome = 0;
+            10
+        }
+    }
+}

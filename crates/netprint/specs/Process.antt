@@ -1,0 +1,43 @@
+-- What netprint makes of the answers of its reads and writes: an answer about bytes that were not all read is never printed.
+use Prim.Native.Nat.{ℕ, zero, suc}
+use mathlib.Core.Path.{_≡_}
+use mathlib.Core.Bool.{Bool, true, false}
+use mathlib.Core.List.{List, []}
+use lib.IntN.{ℤ, pos, negsuc}
+use lib.ListN.{length, take}
+use Rattle.io.specs.Counts.{Counts}
+use Rattle.text.specs.Text.{textOf}
+use Rattle.netprint.specs.declared.Stop.{Stop}
+
+-- a read that failed has answered -1
+abbrev pub failed : ℤ → Bool
+failed (pos n) = false
+failed (negsuc n) = true
+
+-- a read that gave bytes has answered how many
+abbrev pub gave : ℤ → Bool
+gave (pos zero) = false
+gave (pos (suc n)) = true
+gave (negsuc n) = false
+
+-- The bytes that were read are the first of the buffer, and reading does not stop after a read that gave bytes, unless the buffer is full.
+pub record Stopped (stop : Stop) (input : List ℕ) : Type 0 where
+  pub counted : Counts (stop .bytes) input
+  pub full : gave (stop .last) ≡ true → stop .bytes ≡ length input
+
+-- for standard output: the text of the bytes that were read, and nothing where a read failed
+abbrev pub outputBy : Bool → List ℕ → List ℕ
+outputBy true s = []
+outputBy false s = textOf s
+
+abbrev pub outputFor : Stop → List ℕ → List ℕ
+outputFor stop input = outputBy (failed (stop .last)) (take (stop .bytes) input)
+
+-- for standard error: the line `unread` where a read failed, the line `unwritten` where a write failed, else nothing
+abbrev pub errorBy : Bool → Bool → List ℕ → List ℕ → List ℕ
+errorBy true wrote unread unwritten = unread
+errorBy false true unread unwritten = []
+errorBy false false unread unwritten = unwritten
+
+abbrev pub errorFor : ℤ → Bool → List ℕ → List ℕ → List ℕ
+errorFor last wrote unread unwritten = errorBy (failed last) wrote unread unwritten

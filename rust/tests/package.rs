@@ -1,0 +1,258 @@
+//! The package as a caller sees it. What the library itself answers is compared elsewhere
+//! (`tests/compare`); here are the things that this package adds.
+
+use gadwemosh::{project, text, write_text, Components, Field, Kind, Move, Net, Projection};
+use gadwemosh::{Record, RecordRefused, Refused, Vertex};
+use std::error::Error;
+
+/// The circle of document 01, and its net.
+const CIRCLE: [Components; 3] = [[1, 0, 0, 1], [0, 2, 0, 0], [-1, 0, 0, 1]];
+const CIRCLE_NET: [Components; 3] = [[2, 0, 0, 2], [2, 2, 0, 2], [0, 4, 0, 4]];
+
+/// The patch of sample B8, Z², VZ, V², UZ, UV, U², and its net.
+const PATCH: [Components; 6] = [
+    [0, 0, 0, 1],
+    [0, 1, 0, 0],
+    [0, 0, 0, 0],
+    [1, 0, 0, 0],
+    [0, 0, 1, 0],
+    [0, 0, 0, 0],
+];
+const PATCH_NET: [Components; 6] = [
+    [2, 0, 0, 2],
+    [1, 1, 1, 2],
+    [1, 0, 0, 2],
+    [0, 2, 0, 2],
+    [0, 1, 0, 2],
+    [0, 0, 0, 2],
+];
+const PATCH_FRAME: [i64; 9] = [1, 0, 1, 0, 1, 1, 0, 0, 1];
+
+fn circle() -> Net {
+    Net::first(Kind::Curve, 2, &[0, 1, 1, 1], &CIRCLE).unwrap()
+}
+
+/// The circle's record with further fields.
+fn circle_record(further: &[u8]) -> Vec<u8> {
+    let mut record = vec![1, 0, 2, 1, 2, 2, 0, 8, 0, 0, 0, 1, 0, 1, 0, 1, 3, 0, 48];
+    for number in CIRCLE.as_flattened() {
+        record.extend((*number as i32).to_be_bytes());
+    }
+    record.extend(further);
+    record
+}
+
+#[test]
+fn both_halves_of_the_circle() {
+    let net = Net::open(&circle_record(&[])).unwrap();
+    assert_eq!(net, circle());
+    let (mut first, mut second) = (net.clone(), net);
+    first.replace(Vertex::S, [1, 1, 0]).unwrap();
+    second.replace(Vertex::R, [1, 1, 0]).unwrap();
+    let halves = [
+        [[2, 0, 0, 2], [4, 2, 0, 4], [6, 8, 0, 10]],
+        [[6, 8, 0, 10], [2, 6, 0, 6], [0, 4, 0, 4]],
+    ];
+    assert!(first.entries().eq(halves[0]) && second.entries().eq(halves[1]));
+    assert_eq!(first.entries().next_back(), second.entries().next());
+    first.flip(Vertex::R).unwrap();
+    assert_eq!(first.entries().nth(1), Some([-4, -2, 0, -4]));
+}
+
+#[test]
+fn a_net_from_numbers() {
+    let patch = Net::first(Kind::Patch, 2, &PATCH_FRAME, &PATCH).unwrap();
+    assert_eq!((patch.kind(), patch.degree()), (Kind::Patch, 2));
+    assert!(patch.entries().eq(PATCH_NET));
+    assert_eq!(patch.point([1, 1, 1]), Ok([6, 6, 2, 18]));
+    assert_eq!(patch.places()[..4], [2, 2, 0, 0]);
+    assert_eq!(patch.places()[12..16], [2, 0, 0, 2]);
+
+    // fewer numbers than are in use are refused, and further ones are not looked at
+    let short = Err(Refused::SHORT);
+    assert_eq!(Net::first(Kind::Patch, 2, &PATCH_FRAME[..8], &PATCH), short);
+    assert_eq!(Net::first(Kind::Patch, 2, &PATCH_FRAME, &PATCH[..5]), short);
+    let (frame, mut further) = ([0, 1, 1, 1, i64::MAX], CIRCLE.to_vec());
+    further.push([i64::MIN; 4]);
+    assert_eq!(Net::first(Kind::Curve, 2, &frame, &further), Ok(circle()));
+
+    let ones = [[1; 4]; 45];
+    for (kind, frame) in [
+        (Kind::Curve, &[0, 1, 1, 1][..]),
+        (Kind::Patch, &PATCH_FRAME),
+    ] {
+        for degree in 1..=kind.largest_degree() {
+            let net = Net::first(kind, degree, frame, &ones).unwrap();
+            assert_eq!(Some(net.entries().len()), kind.entries(degree));
+        }
+        for degree in [0, kind.largest_degree() + 1, 255] {
+            assert_eq!(Net::first(kind, degree, frame, &ones), Err(Refused::KIND));
+        }
+    }
+}
+
+#[test]
+fn a_net_from_its_entries() {
+    assert_eq!(Net::of_entries(Kind::Curve, 2, &CIRCLE_NET), Ok(circle()));
+    let patch = Net::first(Kind::Patch, 2, &PATCH_FRAME, &PATCH);
+    assert_eq!(Net::of_entries(Kind::Patch, 2, &PATCH_NET), patch);
+    let limit = 1 << 48;
+    assert!(Net::of_entries(Kind::Curve, 1, &[[limit; 4], [-limit; 4]]).is_ok());
+    for outside in [limit + 1, -limit - 1, i64::MIN] {
+        let entries = [[0; 4], [0, 0, 0, outside]];
+        assert_eq!(
+            Net::of_entries(Kind::Curve, 1, &entries),
+            Err(Refused::RANGE)
+        );
+    }
+    assert_eq!(
+        Net::of_entries(Kind::Curve, 3, &CIRCLE_NET),
+        Err(Refused::SHORT)
+    );
+    assert_eq!(
+        Net::of_entries(Kind::Curve, 0, &CIRCLE_NET),
+        Err(Refused::KIND)
+    );
+    assert_eq!(
+        Net::of_entries(Kind::Patch, 9, &[[0; 4]; 55]),
+        Err(Refused::KIND)
+    );
+}
+
+#[test]
+fn refused_calls_change_nothing() {
+    let mut net = circle();
+    let unknown = Move {
+        operation: 3,
+        vertex: 1,
+        weights: [1, 1, 0],
+    };
+    assert_eq!(net.take(unknown), Err(Refused::ARGUMENT));
+    assert_eq!(net.replace(Vertex::T, [1, 1, 0]), Err(Refused::ARGUMENT));
+    assert_eq!(net.replace(Vertex::S, [1, 4097, 0]), Err(Refused::ARGUMENT));
+    assert_eq!(net.replace(Vertex::S, [1, 0, 0]), Err(Refused::NO_WEIGHT));
+    assert_eq!(net.point([0, 0, 0]), Err(Refused::NO_WEIGHT));
+    assert_eq!(net, circle());
+    let mut large = Net::of_entries(Kind::Curve, 1, &[[1 << 48; 4], [0; 4]]).unwrap();
+    let before = large.clone();
+    assert_eq!(large.replace(Vertex::R, [2, 0, 0]), Err(Refused::RANGE));
+    assert_eq!(large, before);
+
+    let at = |refused, offset| Err(RecordRefused { refused, offset });
+    assert_eq!(Net::open(&[]), at(Refused::TAG, 0));
+    assert_eq!(Net::open(&circle_record(&[5])), at(Refused::CUT_SHORT, 67));
+    assert_eq!(
+        Net::open(&circle_record(&[4, 0, 7])),
+        at(Refused::LENGTH, 67)
+    );
+    let mut record = circle_record(&[]);
+    record[4] = 11;
+    assert_eq!(Net::open(&record), at(Refused::KIND, 0));
+    record[4] = 2;
+    record[11] = 5;
+    assert_eq!(Net::open(&record), at(Refused::FRAME, 5));
+    record[11] = 1;
+    record[19] = 1;
+    assert_eq!(Net::open(&record), at(Refused::COEFFICIENT, 16));
+    let coefficients = [[1 << 20; 4]; 11];
+    let far = Net::first(Kind::Curve, 10, &[4, 3, 4, 4], &coefficients);
+    assert_eq!(far, Err(Refused::FIRST_NET));
+}
+
+/// The second example of docs/RECORDS.md: a move taken, a move refused, a point.
+#[test]
+fn a_record_with_moves_of_its_own() {
+    let moves = [1, 2, 0, 1, 0, 1, 0, 0, 1, 1, 0, 0, 0, 1, 0, 0];
+    let further = [&[4, 0, 16][..], &moves, &[5, 0, 4, 0, 1, 0xff, 0xff]].concat();
+    let bytes = circle_record(&further);
+    let record = Record::open(&bytes).unwrap();
+    assert_eq!(record.first_net(), &circle());
+    assert_eq!(record.field(Field::Kind), [1, 2]);
+    assert_eq!(record.field(Field::Frame), [0, 0, 0, 1, 0, 1, 0, 1]);
+    assert_eq!(record.field(Field::Coefficients), &bytes[19..67]);
+    assert_eq!(
+        record.field(Field::Moves).as_ptr_range(),
+        bytes[70..86].as_ptr_range()
+    );
+
+    let mut net = record.first_net().clone();
+    let taken: Vec<_> = record
+        .moves()
+        .into_iter()
+        .map(|own| net.take(own))
+        .collect();
+    assert_eq!(taken, [Ok(()), Err(Refused::NO_WEIGHT)]);
+    assert!(net
+        .entries()
+        .eq([[2, 0, 0, 2], [4, 2, 0, 4], [6, 8, 0, 10]]));
+    assert_eq!(record.point(), Some([1, -1, 0]));
+    let found = net.point([1, -1, 0]).unwrap();
+    assert_eq!(project(found), Ok(Projection::Finite([0.0, 1.0, 0.0])));
+    let lines = "curve 2 2\nmove 2 refused 9\n0 2 0 0 2\n1 4 2 0 4\n2 6 8 0 10\n\
+                 at 0000000000000000 3ff0000000000000 0000000000000000\n";
+    assert_eq!(text(&bytes), lines);
+    let mut out = [b'-'; 200];
+    assert_eq!(write_text(&bytes, &mut out), Ok(lines.len()));
+    assert_eq!(out[lines.len()], b'-');
+    out.fill(b'-');
+    let short = &mut out[..lines.len() - 1];
+    assert_eq!(write_text(&bytes, short), Err(Refused::SHORT));
+    assert_eq!(out, [b'-'; 200]);
+
+    let bare = circle_record(&[]);
+    let record = Record::open(&bare).unwrap();
+    assert_eq!((record.moves(), record.point()), (Vec::new(), None));
+    assert_eq!(
+        record.field(Field::Point).as_ptr_range().end,
+        bare.as_ptr_range().end
+    );
+    assert_eq!(text(&bare[..40]), "refused 1 at 16\n");
+}
+
+#[test]
+fn the_three_projections() {
+    assert_eq!(
+        project([6, 8, 0, 10]),
+        Ok(Projection::Finite([0.6, 0.8, 0.0]))
+    );
+    assert_eq!(
+        project([-9, 9, 0, 0]),
+        Ok(Projection::Direction([1, -1, 0]))
+    );
+    assert_eq!(project([0; 4]), Ok(Projection::Nowhere));
+    assert_eq!(project([i64::MAX, 0, 0, 1]), Err(Refused::RANGE));
+}
+
+#[test]
+fn errors_say_why() {
+    let record: Box<dyn Error> = Net::open(&[]).unwrap_err().into();
+    let said = "refused 2 at byte 0: a field must not stand there, or one is missing";
+    assert_eq!(record.to_string(), said);
+    let call: Box<dyn Error + Send + Sync> = circle().point([0; 3]).unwrap_err().into();
+    let said = "refused 9: weight 0 for the replaced vertex, or for every vertex of a point";
+    assert_eq!(call.to_string(), said);
+    assert_eq!(
+        call.downcast_ref::<Refused>()
+            .map(|refused| refused.number()),
+        Some(9)
+    );
+    let all = [
+        Refused::CUT_SHORT,
+        Refused::TAG,
+        Refused::LENGTH,
+        Refused::KIND,
+        Refused::FRAME,
+        Refused::COEFFICIENT,
+        Refused::FIRST_NET,
+        Refused::ARGUMENT,
+        Refused::NO_WEIGHT,
+        Refused::RANGE,
+        Refused::SHORT,
+    ];
+    for (refused, number) in all.into_iter().zip(1..) {
+        assert!(refused
+            .to_string()
+            .starts_with(&format!("refused {number}: ")));
+        assert!(!refused.to_string().contains("does not know"));
+    }
+}

@@ -1,0 +1,141 @@
+/* Measures how much stack each function takes, and fails where one takes more than GADWEMOSH_STACK.
+ *
+ * Each call is made on a stack of its own, every byte of which was set to one value before. The lowest byte
+ * that has another value afterwards says how deep the call went. What is counted begins at the frame of the
+ * function that makes the call, so it has the call's arguments in it. The inputs are the largest: a patch of
+ * degree 8 with 32 moves and a point. Each call is made twice and the second time is counted: at its first
+ * call of memcpy or memset a program may have them looked up by the dynamic linker, which takes stack too. */
+#define _XOPEN_SOURCE 700
+#include "gadwemosh.h"
+
+#include <stdio.h>
+#include <string.h>
+#include <ucontext.h>
+
+enum { SIZE = 1 << 18, PAINT = 0xa5 };
+
+static uint8_t stack[SIZE];
+static uint8_t *begin;
+static ucontext_t here, there;
+
+static uint8_t record[GADWEMOSH_LONGEST_RECORD];
+static int64_t net[GADWEMOSH_NET], frame[GADWEMOSH_FRAME] = {1, 0, 1, 0, 1, 1, 0, 0, 1};
+static int64_t coefficients[GADWEMOSH_COEFFICIENTS], found[4], direction[3];
+static uint64_t bits[3], offset, start, length;
+static uint8_t out[GADWEMOSH_LONGEST_TEXT], outcome, answer;
+
+/* Puts a number of one, two or four bytes into the record. */
+static void put(int bytes, int64_t number) {
+    static size_t at;
+    while (bytes-- > 0)
+        record[at++] = (uint8_t)(number >> (8 * bytes));
+}
+
+static void make_record(void) {
+    for (int i = 0; i < GADWEMOSH_COEFFICIENTS; i++)
+        coefficients[i] = i % 7 - 3;
+    put(1, GADWEMOSH_FIELD_KIND), put(2, 2);
+    put(1, GADWEMOSH_PATCH), put(1, 8);
+    put(1, GADWEMOSH_FIELD_FRAME), put(2, 18);
+    for (int i = 0; i < GADWEMOSH_FRAME; i++)
+        put(2, frame[i]);
+    put(1, GADWEMOSH_FIELD_COEFFICIENTS), put(2, 720);
+    for (int i = 0; i < GADWEMOSH_COEFFICIENTS; i++)
+        put(4, coefficients[i]);
+    put(1, GADWEMOSH_FIELD_MOVES), put(2, 256);
+    for (int i = 0; i < 32; i++) {
+        put(1, GADWEMOSH_REPLACE), put(1, 1 + i % 3);
+        for (int v = 0; v < 3; v++)
+            put(2, v == i % 3 ? 1 : 0);
+    }
+    put(1, GADWEMOSH_FIELD_POINT), put(2, 6);
+    for (int v = 0; v < 3; v++)
+        put(2, 1);
+}
+
+static void call_open(void) {
+    answer = gadwemosh_open(record, sizeof record, net, GADWEMOSH_NET, &offset);
+}
+
+static void call_field(void) {
+    answer = gadwemosh_field(record, sizeof record, GADWEMOSH_FIELD_POINT, &start, &length);
+}
+
+static void call_first(void) {
+    answer = gadwemosh_first(GADWEMOSH_PATCH, 8, frame, GADWEMOSH_FRAME, coefficients, GADWEMOSH_COEFFICIENTS, net,
+                             GADWEMOSH_NET);
+}
+
+static void call_move(void) {
+    answer = gadwemosh_move(net, GADWEMOSH_NET, GADWEMOSH_REPLACE, GADWEMOSH_T, 0, 0, 1);
+}
+
+static void call_point(void) {
+    answer = gadwemosh_point(net, GADWEMOSH_NET, 1, 1, 1, found, 4);
+}
+
+static void call_project(void) {
+    answer = gadwemosh_project(3, 4, 6, 0, &outcome, bits, 3, direction, 3);
+}
+
+static void call_text(void) {
+    answer = gadwemosh_text(record, sizeof record, out, sizeof out, &length);
+}
+
+/* With fewer bytes than any text needs, the text is made elsewhere first. */
+static void call_text_made_elsewhere(void) {
+    answer = gadwemosh_text(record, sizeof record, out, sizeof out - 1, &length);
+}
+
+static const struct {
+    const char *name;
+    void (*call)(void);
+} calls[] = {
+    {"open", call_open},
+    {"field", call_field},
+    {"first", call_first},
+    {"move", call_move},
+    {"point", call_point},
+    {"project", call_project},
+    {"text", call_text},
+    {"text into 4095 bytes", call_text_made_elsewhere},
+};
+
+static void make_call(int which) {
+    begin = __builtin_frame_address(0);
+    calls[which].call();
+}
+
+static long stack_of(int which) {
+    memset(stack, PAINT, SIZE);
+    getcontext(&there);
+    there.uc_stack.ss_sp = stack;
+    there.uc_stack.ss_size = SIZE;
+    there.uc_link = &here;
+    makecontext(&there, (void (*)(void))make_call, 1, which);
+    swapcontext(&here, &there);
+    long low = 0;
+    while (stack[low] == PAINT)
+        low++;
+    return (long)(begin - (stack + low));
+}
+
+int main(void) {
+    int wrong = 0;
+    make_record();
+    for (int i = 0; i < (int)(sizeof calls / sizeof *calls); i++) {
+        answer = 255;
+        stack_of(i);
+        long taken = stack_of(i);
+        printf("%-20s %6ld bytes of stack\n", calls[i].name, taken);
+        if (answer != 0) {
+            wrong++;
+            printf("  refused %u: not the call that was meant\n", answer);
+        }
+        if (taken > GADWEMOSH_STACK) {
+            wrong++;
+            printf("  more than the %d that gadwemosh.h states\n", GADWEMOSH_STACK);
+        }
+    }
+    return wrong != 0;
+}

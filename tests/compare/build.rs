@@ -1,6 +1,0 @@
-//! Where the static library stands after `rt staticlib exports`.
-fn main() {
-    let root = std::env::var("CARGO_MANIFEST_DIR").unwrap();
-    println!("cargo:rustc-link-search=native={root}/../../target/staticlib");
-    println!("cargo:rerun-if-changed={root}/../../target/staticlib/libexports.a");
-}
