@@ -376,10 +376,14 @@ def selftest():
         if got != want:
             print("FAIL", name, "got", got, "want", want)
 
-    # scales that document 01 names
-    for kind, m, L in ((1, 2, 2), (1, 3, 3), (1, 10, 2520),
-                       (2, 2, 2), (2, 3, 6), (2, 8, 1680)):
-        check("scale", scale(kind, m), L)
+    # the rows of document 02, E4; among them are the scales that document 01 names
+    for kind, row in ((1, (1, 2, 3, 12, 10, 60, 105, 280, 252, 2520)),
+                      (2, (1, 2, 6, 12, 60, 180, 420, 1680))):
+        check("scales", tuple(scale(kind, m) for m in range(1, len(row) + 1)), row)
+        for m, L in enumerate(row, 1):
+            all_of_degree = [nomial(kind, m, mono) for mono in monomials(kind, m)]
+            divided = [k for k in range(1, L + 1) if all(k % n == 0 for n in all_of_degree)]
+            check("least number divided by all", divided, [L])
     circle = [(1, 0, 0, 1), (0, 2, 0, 0), (-1, 0, 0, 1)]
     cf = ((0, 1), (1, 1))
     check("B1", net(1, 2, circle, cf), [(2, 0, 0, 2), (2, 2, 0, 2), (0, 4, 0, 4)])

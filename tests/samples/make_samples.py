@@ -4,6 +4,7 @@
 The expected texts are written out here by hand from document 01; the calculator
 is only asked afterwards whether it agrees, and a disagreement stops the run.
 """
+import math
 import os
 import struct
 import sys
@@ -602,6 +603,39 @@ S("ok-longest-text", f1(2, 8) + f2(4, 4, 4, 4, 4, 3, 4, 3, 4)
   + f3(*(PZ[:44] + [(-1048576, -1048576, -1048576, -1048576)]))
   + f4(*([(REPL, 1, 4096, 0, 0)] * 32)) + f5(1, 0, 0),
   LONGEST, "a text of 3996 bytes: 32 moves refused 10, 180 numbers of 16 characters, a point")
+
+# ------------------------------------------------------------------------------
+group("Scales, to be checked with a pencil: each multinomial divides L, and the quotients have no common divisor")
+# Over the frame of the coordinates an entry is the coefficient of its own monomial times L divided by its
+# multinomial. The coefficients of x are the multinomials, so each x is L; those of w are 1, so each w is the
+# quotient. The quotients have no common divisor exactly where no smaller number than L would do.
+SCALES = ((1, (1, 2, 3, 12, 10, 60, 105, 280, 252, 2520)), (2, (1, 2, 6, 12, 60, 180, 420, 1680)))
+
+
+def quotient(L, nomial):
+    assert L % nomial == 0, (L, nomial)
+    return L // nomial
+
+
+def trinomial(m, h, l):
+    return math.comb(m, h) * math.comb(m - h, l)
+
+
+for kind, row in SCALES:
+    for m, L in enumerate(row, 1):
+        if kind == 1:
+            name, frame = "curve", f2(0, 1, 1, 0)
+            coefficients = [math.comb(m, k) for k in range(m + 1)]
+            entries = [("%d" % j, math.comb(m, j)) for j in range(m + 1)]
+        else:
+            name, frame = "patch", f2(1, 0, 0, 0, 1, 0, 0, 0, 1)
+            coefficients = [trinomial(m, h, l) for h in range(m + 1) for l in range(m - h + 1)]
+            entries = [("%d %d %d" % (i, j, m - i - j), trinomial(m, i, j))
+                       for i in range(m, -1, -1) for j in range(m - i, -1, -1)]
+        assert math.gcd(*(quotient(L, n) for _, n in entries)) == 1
+        S("scale-%s-%d" % (name, m), f1(kind, m) + frame + f3(*((n, 0, 0, 1) for n in coefficients)),
+          "%s %d %d\n" % (name, m, L) + "".join("%s %d 0 0 %d\n" % (e, L, quotient(L, n)) for e, n in entries),
+          "%s of degree %d: x is L = %d in every entry, w is L divided by the entry's multinomial" % (name, m, L))
 
 # the record r2-after-1017
 ALL = [(n, c, MAXREC + b"\0" * (3000 - 1017) if n == "r2-after-1017" else r, x)

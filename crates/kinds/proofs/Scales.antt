@@ -1,23 +1,26 @@
--- The rows of scales. A test over both rows is computed, and a law turns it into the rule at each place; so one proof shows that each number
--- of both rows is the least common multiple of the multinomials of its degree (polar/proofs/Scale.antt says what that means: `multinomial-divides`, `scale-least`).
-use Prim.Native.Nat.{ℕ, zero, suc, _-_, _≤_, _<_}
-use native.Mathlib.Nat.{mul-one}
+-- The scales are read off two rows, and the rows are right. One test over both rows is computed: each number is the least common multiple of its multinomials. `over-rows` turns a
+-- test into its rule at each place, and what a least common multiple is (polar/proofs/Scale.antt) makes the statement of it, for both rows and all degrees together.
+use Prim.Native.Nat.{ℕ, zero, suc, _*_, _-_, _≤_, _<_}
+use native.Mathlib.Nat.{mul-one, le-trans, le-of-suc-le-suc, not-suc-le-zero}
 use native.Mathlib.Omega.{arith}
-use mathlib.Core.Path.{_≡_, refl, sym, ap, _∙_, subst}
+use mathlib.Core.Path.{_≡_, refl, sym, ap, ap₂, _∙_, subst}
 use mathlib.Core.Bool.{Bool, true, false, _&&_, cond}
-use mathlib.Core.List.{List, [], _∷_}
-use lib.Dec.{leb, eqb}
-use lib.ListN.{length, getD}
+use mathlib.Core.List.{List, [], _∷_, map}
+use lib.Dec.{leb, eqb, lit≤}
+use lib.ListN.{length, getD, List·getD-eq-default}
 use borrow.Author.Tests.{eqb-true, leb-true}
 use Rattle.integers.specs.Sum.{upto}
 use Rattle.integers.specs.Test.{all}
-use Rattle.integers.proofs.All.{all-at, and-parts}
+use Rattle.integers.proofs.All.{clash, all-at, and-parts}
 use Rattle.integers.proofs.Sums.{below-upto}
 use Rattle.polar.specs.Order.{monomials}
-use Rattle.polar.specs.Scale.{multinomial, leastCommonMultiple, scale, scaleOver}
-use Rattle.kinds.specs.Kinds.{dimensionOf, known, groupsOf}
-use Rattle.kinds.specs.Scales.{scaleOf}
-use Rattle.kinds.proofs.Limits.{by-known, one-group-of}
+use Rattle.polar.specs.Scale.{multinomial, leastCommonMultiple, product, scale, scaleOver}
+use Rattle.polar.proofs.Order.{monomials-total}
+use Rattle.polar.proofs.Scale.{scale-pos, multinomial-divides, scale-least}
+use Rattle.entries.proofs.Standard.{member-monomials}
+use Rattle.kinds.specs.Kinds.{Row, rowsOf, groupsBy, degreesAllowed, some, dimensionOf, known, groupsOf}
+use Rattle.kinds.specs.Scales.{scaleOf, scaleRow, atDegree, rowNumber, LeastDivided, ScalesReadOff}
+use Rattle.kinds.proofs.Limits.{by-known, by-kind, one-group-of}
 
 -- ---- any table
 
@@ -25,67 +28,129 @@ use Rattle.kinds.proofs.Limits.{by-known, one-group-of}
 pub up-to : (bound : ℕ) (f : ℕ → ℕ) (n : ℕ) → all (λ k. leb (f k) bound) (upto n) ≡ true → (k : ℕ) → k < n → f k ≤ bound
 up-to bound f n h k b = leb-true (f k) bound (all-at (λ j. leb (f j) bound) (upto n) h k (below-upto n k b))
 
--- ---- the rows of scales, degree 1 first
+-- ---- a row
 
--- the row of a dimension
-abbrev pub rowOfScales : ℕ → List ℕ
-rowOfScales zero = []
-rowOfScales (suc zero) = 1 ∷ 2 ∷ 3 ∷ 12 ∷ 10 ∷ 60 ∷ 105 ∷ 280 ∷ 252 ∷ 2520 ∷ []
-rowOfScales (suc (suc zero)) = 1 ∷ 2 ∷ 6 ∷ 12 ∷ 60 ∷ 180 ∷ 420 ∷ 1680 ∷ []
-rowOfScales (suc (suc (suc n))) = []
+-- a degree beyond it has 0
+pub at-none : (row : List ℕ) (m : ℕ) → length row < m → 0 ≡ atDegree row m
+at-none row zero h = refl
+at-none row (suc k) h = sym (List·getD-eq-default row 0 (le-of-suc-le-suc h))
 
--- each number is the scale of its degree, and at most 2520
+in-none : (m : ℕ) → 0 ≡ atDegree [] m
+in-none zero = refl
+in-none (suc k) = refl
+
+-- another has the number one place before it, since degree 1 comes first
+pub at-place : (row : List ℕ) (m : ℕ) → (m ≡ 0 → ⊥) → getD row (m - 1) 0 ≡ atDegree row m
+at-place row zero never = absurd (never refl)
+at-place row (suc k) never = ap (λ i. getD row i 0) (omega arith)
+
+-- there are two of them
+pub no-row : (n : ℕ) → (n ≡ 1 → ⊥) → (n ≡ 2 → ⊥) → (m : ℕ) → 0 ≡ atDegree (scaleRow n) m
+no-row zero one two m = in-none m
+no-row (suc zero) one two m = absurd (one refl)
+no-row (suc (suc zero)) one two m = absurd (two refl)
+no-row (suc (suc (suc n))) one two m = in-none m
+
+-- ---- a test over both rows
+
+-- a row that has a number is one of the two
+row-below : (n k : ℕ) → k < length (scaleRow n) → n < 3
+row-below zero k h = lit≤ tt
+row-below (suc zero) k h = lit≤ tt
+row-below (suc (suc zero)) k h = lit≤ tt
+row-below (suc (suc (suc n))) k h = absurd (not-suc-le-zero h)
+
+over-rows : (test : ℕ → ℕ → Bool) → all (λ n. all (test n) (upto (length (scaleRow n)))) (upto 3) ≡ true → (n k : ℕ) → k < length (scaleRow n) → test n k ≡ true
+over-rows test h n k below =
+    all-at (test n) (upto (length (scaleRow n)))
+    (all-at (λ i. all (test i) (upto (length (scaleRow i)))) (upto 3) h n (below-upto 3 n (row-below n k below))) k (below-upto (length (scaleRow n)) k below)
+
+-- each number is the scale of its degree
 right : ℕ → ℕ → Bool
-right n k = eqb (getD (rowOfScales n) k 0) (scale n (suc k)) && leb (getD (rowOfScales n) k 0) 2520
+right n k = eqb (getD (scaleRow n) k 0) (scale n (suc k))
 
-all-right : all (λ n. all (right n) (upto (length (rowOfScales n)))) (upto 3) ≡ true
+all-right : all (λ n. all (right n) (upto (length (scaleRow n)))) (upto 3) ≡ true
 unfolding right scale leastCommonMultiple multinomial monomials
 all-right = refl
 
-right-at : (n k : ℕ) → n < 3 → k < length (rowOfScales n) → right n k ≡ true
-right-at n k few below =
-    all-at (right n) (upto (length (rowOfScales n)))
-    (all-at (λ i. all (right i) (upto (length (rowOfScales i)))) (upto 3) all-right n (below-upto 3 n few)) k (below-upto (length (rowOfScales n)) k below)
-
-pub row-scale : (n k : ℕ) → n < 3 → k < length (rowOfScales n) → getD (rowOfScales n) k 0 ≡ scale n (suc k)
+row-scale : (n m : ℕ) → 1 ≤ m → m ≤ length (scaleRow n) → atDegree (scaleRow n) m ≡ scale n m
 unfolding right
-row-scale n k few below = eqb-true (getD (rowOfScales n) k 0) (scale n (suc k)) (and-parts (eqb (getD (rowOfScales n) k 0) (scale n (suc k))) (leb (getD (rowOfScales n) k 0) 2520) (right-at n k few below) .0)
+row-scale n zero low high = absurd (not-suc-le-zero low)
+row-scale n (suc k) low high = eqb-true (getD (scaleRow n) k 0) (scale n (suc k)) (over-rows right all-right n k high)
 
-pub row-up : (n k : ℕ) → n < 3 → k < length (rowOfScales n) → scale n (suc k) ≤ 2520
-unfolding right
-row-up n k few below =
-    subst (λ s. s ≤ 2520) (row-scale n k few below)
-    (leb-true (getD (rowOfScales n) k 0) 2520 (and-parts (eqb (getD (rowOfScales n) k 0) (scale n (suc k))) (leb (getD (rowOfScales n) k 0) 2520) (right-at n k few below) .1))
+-- the largest number is that of a curve of degree 10
+row-up : (n m : ℕ) → 1 ≤ m → m ≤ length (scaleRow n) → atDegree (scaleRow n) m ≤ 2520
+row-up n zero low high = absurd (not-suc-le-zero low)
+row-up n (suc k) low high = leb-true (getD (scaleRow n) k 0) 2520 (over-rows (λ i j. leb (getD (scaleRow i) j 0) 2520) refl n k high)
 
--- ---- the scale of a known kind
+-- ---- the statement
 
--- it is the scale of its only group
-pub known-scale : (kind p q : ℕ) → known kind p q ≡ true → scaleOf kind p q ≡ scale (dimensionOf kind) p
+least-divided : (n m : ℕ) → LeastDivided n m (scale n m)
+least-divided n m =
+    record {
+      positive = scale-pos n m;
+      divided = λ e l t. multinomial-divides n m e (member-monomials n m e l t);
+      no-smaller = λ k low below every. past below (scale-least n m k low (λ e h. let r = monomials-total n m e h in every e (r .0) (r .1)));
+    }
+  where
+    past : {k s : ℕ} → k < s → s ≤ k → ⊥
+    past a b = omega arith
+
+-- every degree of a kind has its number in the row
+long : Row → Bool
+long r = leb (r .highest) (length (scaleRow (r .dimension)))
+
+all-long : (kind : ℕ) → all long (rowsOf kind) ≡ true
+unfolding long
+all-long = by-kind (λ kind. all long (rowsOf kind) ≡ true) refl refl refl (λ k. refl)
+
+groups-read : (rows : List Row) (degrees : List ℕ) → all long rows ≡ true → degreesAllowed rows degrees ≡ true
+    → scaleOver (groupsBy rows degrees) ≡ product (map rowNumber (groupsBy rows degrees))
+unfolding long
+groups-read [] degrees enough h = refl
+groups-read (r ∷ rows) [] enough h = absurd (clash h refl)
+groups-read (r ∷ rows) (m ∷ degrees) enough h =
+    let e = and-parts (long r) (all long rows) enough in
+    let d = and-parts (leb 1 m && leb m (r .highest)) (degreesAllowed rows degrees) h in
+    let b = and-parts (leb 1 m) (leb m (r .highest)) (d .0) in
+    let high = le-trans (leb-true m (r .highest) (b .1)) (leb-true (r .highest) (length (scaleRow (r .dimension))) (e .0)) in
+    ap₂ _*_ (sym (row-scale (r .dimension) m (leb-true 1 m (b .0)) high)) (groups-read rows degrees (e .1) (d .1))
+
+scale-known : (kind p q : ℕ) → known kind p q ≡ true → scaleOf kind p q ≡ scaleOver (groupsOf kind p q)
 unfolding scaleOf
-known-scale kind p q h =
-    ap (λ b. cond b (scaleOver (groupsOf kind p q)) 0) h
-    ∙ ap scaleOver (one-group-of kind p q h)
-    ∙ mul-one (scale (dimensionOf kind) p)
+scale-known kind p q h = ap (λ b. cond b (scaleOver (groupsOf kind p q)) 0) h
+
+pub scales-read-off : ScalesReadOff
+scales-read-off =
+    record {
+      least = λ n m low high. subst (LeastDivided n m) (sym (row-scale n m low high)) (least-divided n m);
+      read = λ kind p q h.
+          scale-known kind p q h
+          ∙ groups-read (rowsOf kind) (p ∷ q ∷ []) (all-long kind) (and-parts (some (rowsOf kind)) (degreesAllowed (rowsOf kind) (p ∷ q ∷ [])) h .1);
+    }
+
+-- ---- kinds of one group
+
+-- the scale of a known kind is that of its only group
+pub known-scale : (kind p q : ℕ) → known kind p q ≡ true → scaleOf kind p q ≡ scale (dimensionOf kind) p
+known-scale kind p q h = scale-known kind p q h ∙ ap scaleOver (one-group-of kind p q h) ∙ mul-one (scale (dimensionOf kind) p)
 
 -- no other numbers have one
 pub unknown-scale : (kind p q : ℕ) → known kind p q ≡ false → scaleOf kind p q ≡ 0
 unfolding scaleOf
 unknown-scale kind p q h = ap (λ b. cond b (scaleOver (groupsOf kind p q)) 0) h
 
--- the place of a known kind's degree is in the row
-pub in-row : (kind p q : ℕ) → known kind p q ≡ true → (dimensionOf kind < 3) × (p - 1 < length (rowOfScales (dimensionOf kind))) × (suc (p - 1) ≡ p)
-in-row = by-known (λ kind p q. (dimensionOf kind < 3) × (p - 1 < length (rowOfScales (dimensionOf kind))) × (suc (p - 1) ≡ p))
-    (λ p low high. (omega arith, omega arith, omega arith))
-    (λ p low high. (omega arith, omega arith, omega arith))
-
--- the number that stands there
-pub scale-read : (kind p q : ℕ) → known kind p q ≡ true → getD (rowOfScales (dimensionOf kind)) (p - 1) 0 ≡ scaleOf kind p q
+-- the number that stands in the row
+pub scale-read : (kind p q : ℕ) → known kind p q ≡ true → atDegree (scaleRow (dimensionOf kind)) p ≡ scaleOf kind p q
 scale-read kind p q h =
-    let place = in-row kind p q h in
-    row-scale (dimensionOf kind) (p - 1) (place .0) (place .1) ∙ ap (scale (dimensionOf kind)) (place .2) ∙ sym (known-scale kind p q h)
+    sym
+    (scales-read-off .read kind p q h
+    ∙ ap (λ gs. product (map rowNumber gs)) (one-group-of kind p q h)
+    ∙ mul-one (atDegree (scaleRow (dimensionOf kind)) p))
 
 -- the largest scale is that of a curve of degree 10
 pub scale-up : (kind p q : ℕ) → known kind p q ≡ true → scale (dimensionOf kind) p ≤ 2520
-scale-up kind p q h =
-    let place = in-row kind p q h in
-    subst (λ m. scale (dimensionOf kind) m ≤ 2520) (place .2) (row-up (dimensionOf kind) (p - 1) (place .0) (place .1))
+scale-up = by-known (λ kind p q. scale (dimensionOf kind) p ≤ 2520) (in-row 1) (in-row 2)
+  where
+    in-row : (n p : ℕ) → 1 ≤ p → p ≤ length (scaleRow n) → scale n p ≤ 2520
+    in-row n p low high = subst (λ s. s ≤ 2520) (row-scale n p low high) (row-up n p low high)

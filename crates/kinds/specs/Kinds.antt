@@ -2,6 +2,7 @@
 --
 -- To add a kind:
 --   a row of `rowsOf` below, and its case in the functions of src/lib.rt, each of which is held to this table;
+--   for a group of another dimension, its row of scales (Scales.antt);
 --   its word and its indices in the text (crates/text/specs/Text.antt, crates/text/src/kind.rt).
 -- Polar values, nets, what a call does and names, refusals, the comparison machine and demand 3 are stated and proved over any list of groups, and stay as they are.
 -- For a kind of more than one group also: the code that takes the only group's dimension (`dimensionOf`: calls.rt and first.rt of crates/nets, net.rt of crates/text),

@@ -18,16 +18,16 @@ ghost use Rattle.kinds.specs.Frames.{
   framesAllowed,
 };
 ghost use Rattle.kinds.specs.Counts.{NumberCount};
-ghost use Rattle.kinds.specs.Scales.{scaleOf};
+ghost use Rattle.kinds.specs.Scales.{scaleOf, scaleRow, atDegree};
 use integers::all_within;
 
 // The largest absolute value of a number of a frame.
 const FRAME_LIMIT: u64 = 4;
 
-// The scales of curves of degree 1 to 10.
+// The scales of curves of degree 1 to 10: the row of dimension 1.
 const CURVES: [u64; 10] = [1, 2, 3, 12, 10, 60, 105, 280, 252, 2520];
 
-// The scales of patches of degree 1 to 8.
+// The scales of patches of degree 1 to 8: the row of dimension 2.
 const PATCHES: [u64; 8] = [1, 2, 6, 12, 60, 180, 420, 1680];
 
 // ---- kinds and degrees
@@ -162,6 +162,31 @@ pub fn frame_allowed(kind: u8, numbers: [i64; 9]) -> bool
 
 // ---- scales
 
+// The number of a row at a degree, degree 1 being its first; 0 where the row has none.
+fn at_degree(row: &[u64], degree: u8) -> u64
+    ensures { λ r. ⌜ r ≡ atDegree (now (row .entry)) degree ⌝ }
+{
+    let m = degree as usize;
+    if m == 0 {
+        return 0;
+    }
+    if row.len() < m {
+        return 0;
+    }
+    row[m - 1]
+}
+
+// The scale of one group, read off the row of its dimension; 0 where there is no such row or no such degree.
+fn group_scale(dimension: usize, degree: u8) -> u64
+    ensures { λ r. ⌜ r ≡ atDegree (scaleRow dimension) degree ⌝ }
+{
+    match dimension {
+        1 => at_degree(&CURVES, degree),
+        2 => at_degree(&PATCHES, degree),
+        _ => 0,
+    }
+}
+
 // The scale; 0 where there is no such kind, or where it has no such degrees.
 pub fn scale(kind: u8, degree: u8, second: u8) -> u64
     ensures { λ r. ⌜ r ≡ scaleOf kind degree second ⌝ }
@@ -169,9 +194,5 @@ pub fn scale(kind: u8, degree: u8, second: u8) -> u64
     if !known_kind(kind, degree, second) {
         return 0;
     }
-    let place = degree as usize - 1;
-    if kind == 1 {
-        return CURVES[place];
-    }
-    PATCHES[place]
+    group_scale(dimension_of(kind), degree)
 }

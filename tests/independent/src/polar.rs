@@ -302,21 +302,22 @@ mod tests {
         Shape { kind, degree }
     }
 
+    /// The two rows of document 02, E4; among them are the scales that document 01 names.
     #[test]
-    fn scales_of_the_paper() {
-        let curves: Vec<i64> = [2, 3, 10].map(|m| scale(of(Kind::Curve, m))).to_vec();
-        let patches: Vec<i64> = [2, 3, 8].map(|m| scale(of(Kind::Patch, m))).to_vec();
-        assert_eq!(curves, [2, 3, 2520]);
-        assert_eq!(patches, [2, 6, 1680]);
+    fn scales_stand_in_two_rows() {
+        let row = |kind, highest: usize| (1..=highest).map(|m| scale(of(kind, m))).collect::<Vec<i64>>();
+        assert_eq!(row(Kind::Curve, 10), [1, 2, 3, 12, 10, 60, 105, 280, 252, 2520]);
+        assert_eq!(row(Kind::Patch, 8), [1, 2, 6, 12, 60, 180, 420, 1680]);
     }
 
+    /// Every multinomial of the degree divides the scale, and no smaller positive number.
     #[test]
-    fn multipliers_are_whole() {
+    fn no_smaller_number_is_divided_by_all() {
         for shape in Shape::all() {
-            for (h, l) in shape.exponents() {
-                assert_eq!(scale(shape) % trinomial(shape.degree, h, l), 0);
-                assert!(scale(shape) <= 2520);
-            }
+            let divided = |number: i64| shape.exponents().into_iter().all(|(h, l)| number % trinomial(shape.degree, h, l) == 0);
+            assert!(divided(scale(shape)));
+            assert!(!(1..scale(shape)).any(divided));
+            assert!(scale(shape) <= 2520);
         }
     }
 
