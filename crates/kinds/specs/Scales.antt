@@ -17,7 +17,7 @@ scaleOf kind degree second = cond (known kind degree second) (scaleOver (groupsO
 
 -- ---- the rows
 
--- the scales of a group, by its dimension: 'curves 1 to 10 have ..', 'triangular patches 1 to 8 have ..'. Degree 1 comes first; another dimension has no row.
+-- the scales of a group, by its dimension: 'curves of degree 1 to 10 have ..', 'patches of degree 1 to 8 have ..'. Degree 1 comes first; another dimension has no row.
 abbrev pub scaleRow : ℕ → List ℕ
 scaleRow zero = []
 scaleRow (suc zero) = 1 ∷ 2 ∷ 3 ∷ 12 ∷ 10 ∷ 60 ∷ 105 ∷ 280 ∷ 252 ∷ 2520 ∷ []
@@ -29,12 +29,13 @@ abbrev pub atDegree : List ℕ → ℕ → ℕ
 atDegree row zero = 0
 atDegree row (suc k) = getD row k 0
 
+-- the number of a group
 abbrev pub rowNumber : Group → ℕ
 rowNumber g = atDegree (scaleRow (g .dimension)) (g .degree)
 
 -- ---- what is shown of them
 
--- 'divided by every binomial or trinomial of its degree': by m!/(k!(m−k)!) for every k up to m where n is 1, by m!/(h! l! (m−h−l)!) for every h + l up to m where n is 2
+-- 'divided by every multinomial of its degree': by m!/(k! (m−k)!) for every k up to m where n is 1, by m!/(h! l! (m−h−l)!) for every h + l up to m where n is 2
 abbrev pub DividedByEvery : ℕ → ℕ → ℕ → Type 0
 DividedByEvery n m number = (e : Exponents) → length e ≡ n → total e ≤ m → multinomial m e ∣ number
 

@@ -1,5 +1,6 @@
 pub mod Refusals
 pub mod Over
+pub mod Found
 pub mod Demand3
 pub mod Lent
 pub mod Carried

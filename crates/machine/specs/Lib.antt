@@ -5,6 +5,7 @@ pub mod Steps
 pub mod Nets
 pub mod Comparison
 pub mod First
+pub mod Found
 pub mod Demand3
 pub mod Lent
 pub mod Carried
