@@ -1,16 +1,19 @@
 -- Entries written one after the other: the writes of a row join, and so do the rows, whatever function of the place is written.
 use Prim.Native.Nat.{ℕ, _+_, _*_, _-_, _≤_, _<_}
-use native.Mathlib.Nat.{zero-add, mul-add, mul-one, mul-zero, one-mul, mul-le-mul-right, le-trans}
+use native.Mathlib.Nat.{zero-add, mul-add, mul-one, mul-zero, one-mul, mul-le-mul-right}
 use native.Mathlib.Omega.{arith}
 use mathlib.Core.Path.{_≡_, refl, sym, ap, ap₂, _∙_, subst}
+use mathlib.Core.Bool.{Bool, true, false, cond}
 use mathlib.Core.List.{List}
+use lib.Dec.{ltb}
+use borrow.Author.Tests.{ltb-true, ltb-false}
 use lib.IntN.{ℤ, pos}
 use lib.ListN.{length, getD}
 use Rattle.entries.specs.Rows.{size}
-use Rattle.nets.specs.Rows.{Sized, placeAt, written}
+use Rattle.nets.specs.Rows.{Sized, placeAt, nextRow, nextThird, written}
 use Rattle.nets.specs.Levels.{copiedRow}
 use Rattle.nets.proofs.Lists.{written-append, written-cong}
-use Rattle.nets.proofs.Places.{by-dimension, spread-most, place-inside, place-step, place-row, place-whole}
+use Rattle.nets.proofs.Places.{by-dimension, degree-below, place-inside, place-step, place-row, place-whole}
 
 -- one entry more of a row
 pub row-more : (w n i k : ℕ) (g : ℕ → ℤ) (out cur ys : List ℤ) → 1 ≤ n → n ≤ 2 → k ≤ (n - 1) * i
@@ -53,12 +56,13 @@ going-first w n m g out low high =
     }
 
 module _ {w n m : ℕ} {g : ℕ → ℤ} {out cur : List ℤ} {p i k : ℕ} (sized : Sized w n m) (at : Going w n m g out cur p i k) where
-  -- the entry's numbers are there, and k and p are small
+  -- the entry's numbers are there, and p is small
   pub going-inside : i ≤ m → w * p + w ≤ size w n m
   going-inside h = subst (λ q. w * q + w ≤ size w n m) (sym (at .place)) (place-inside n m i k (sized .low) (sized .high) h (at .third) w)
 
-  pub going-spread : k ≤ i
-  going-spread = le-trans (at .third) (spread-most n i (sized .low) (sized .high))
+  -- what the next one is asked with
+  pub going-asks : (1 ≤ n) × (n ≤ 2) × (i ≤ 180)
+  going-asks = (sized .low, sized .high, omega (arith, at .rows, degree-below w n m sized))
 
   pub going-small : i ≤ m → p < 180
   going-small h =
@@ -80,7 +84,7 @@ module _ {w n m : ℕ} {g : ℕ → ℤ} {out cur : List ℤ} {p i k : ℕ} (siz
         ∙ written-append out 0 (w * p) w g ∙ ap (λ c. written out 0 c g) (sym one-more)
 
     -- it is written, and the next one is of the same row
-    pub going-same : k < (n - 1) * i → Going w n m g out ys (p + 1) i (k + 1)
+    going-same : k < (n - 1) * i → Going w n m g out ys (p + 1) i (k + 1)
     going-same more =
         record {
           rows = at .rows;
@@ -92,7 +96,7 @@ module _ {w n m : ℕ} {g : ℕ → ℤ} {out cur : List ℤ} {p i k : ℕ} (siz
         }
 
     -- or the first of the next row
-    pub going-row : (n - 1) * i ≤ k → Going w n m g out ys (p + 1) (i + 1) 0
+    going-row : (n - 1) * i ≤ k → Going w n m g out ys (p + 1) (i + 1) 0
     going-row over =
         record {
           rows = omega arith;
@@ -102,6 +106,15 @@ module _ {w n m : ℕ} {g : ℕ → ℤ} {out cur : List ℤ} {p i k : ℕ} (siz
           front = front-more;
           kept = long ∙ at .kept;
         }
+
+    -- which of the two it is, r copies and t of them of the third, `next_row` and `next_third` say
+    pub going-next : (r t : ℕ) → r ≡ nextRow n i k → t ≡ nextThird n i k → Going w n m g out ys (p + 1) r t
+    going-next r t row third =
+        subst (λ a. Going w n m g out ys (p + 1) a t) (sym row) (subst (λ b. Going w n m g out ys (p + 1) (nextRow n i k) b) (sym third) (by (ltb k ((n - 1) * i)) refl))
+      where
+        by : (b : Bool) → ltb k ((n - 1) * i) ≡ b → Going w n m g out ys (p + 1) (cond b i (i + 1)) (cond b (k + 1) 0)
+        by true e = going-same (ltb-true k ((n - 1) * i) e)
+        by false e = going-row (ltb-false k ((n - 1) * i) e)
 
   -- after the last row all of them are written
   pub going-done : m < i → cur ≡ written out 0 (size w n m) g

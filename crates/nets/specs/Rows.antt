@@ -1,8 +1,9 @@
 -- What the private functions on rows of numbers do to a list. They see one group of a net: w numbers to a row, 1 + n vertices, degree m (entries/specs/Rows.antt).
 use Prim.Native.Nat.{ℕ, zero, suc, _+_, _*_, _-_, _^_, _<_, _≤_}
 use mathlib.Core.Path.{_≡_}
-use mathlib.Core.Bool.{Bool, true, _&&_}
+use mathlib.Core.Bool.{Bool, true, _&&_, cond}
 use mathlib.Core.List.{List, _++_}
+use lib.Dec.{ltb}
 use lib.IntN.{ℤ, pos, natAbs, _+ℤ_, _*ℤ_}
 use lib.ListN.{getD, set, take, drop}
 use Rattle.integers.specs.Test.{within, all}
@@ -47,6 +48,13 @@ abbrev pub placeAt : ℕ → ℕ → ℕ → ℕ
 placeAt zero i k = 0
 placeAt (suc zero) i k = i
 placeAt (suc (suc n)) i k = offset (counts 1) i + k
+
+-- the entry after it, the next one of its row or the first of the next row: its copies of the vertices after the first, and of the third
+abbrev pub nextRow : ℕ → ℕ → ℕ → ℕ
+nextRow n i k = cond (ltb k ((n - 1) * i)) i (i + 1)
+
+abbrev pub nextThird : ℕ → ℕ → ℕ → ℕ
+nextThird n i k = cond (ltb k ((n - 1) * i)) (k + 1) 0
 
 -- ---- de Casteljau steps
 

@@ -16,7 +16,8 @@ ghost use Rattle.nets.specs.Coordinates.{
   coordinateAt,
   Coordinates,
 };
-use crate::levels::spread;
+use crate::levels::next_row;
+use crate::levels::next_third;
 use crate::rows::place;
 
 // k!, for k from 0 to 10.
@@ -124,10 +125,8 @@ pub(crate) fn coordinate_numbers(
     let mut k = 0;
     while i <= degree {
         put_entry(&mut *out, all, dimension, degree, coefficients, i, k);
-        k += 1;
-        if k > spread(dimension, i) {
-            i += 1;
-            k = 0;
-        }
+        let row = next_row(dimension, i, k);
+        k = next_third(dimension, i, k);
+        i = row;
     }
 }

@@ -6,7 +6,8 @@ ghost use lib.IntN.{pos, natAbs};
 ghost use lib.ListN.{length, getD};
 ghost use Rattle.nets.specs.Rows.{written};
 ghost use Rattle.nets.specs.Flips.{countsAt, signed, flippedList, InRange, Flips};
-use crate::levels::spread;
+use crate::levels::next_row;
+use crate::levels::next_third;
 
 // How often a vertex is taken in the entry with i copies of the vertices after the first, k of them
 // of the third.
@@ -67,10 +68,8 @@ pub(crate) fn flip_entries(
         let count = copies(dimension, vertex, degree, i, k);
         sign_row(&mut *xs, p, width, count);
         p += 1;
-        k += 1;
-        if k > spread(dimension, i) {
-            i += 1;
-            k = 0;
-        }
+        let row = next_row(dimension, i, k);
+        k = next_third(dimension, i, k);
+        i = row;
     }
 }

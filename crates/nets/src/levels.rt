@@ -8,7 +8,7 @@ ghost use lib.IntN.{pos};
 ghost use lib.ListN.{length};
 ghost use Rattle.entries.specs.Rows.{size, rank, exchanged};
 ghost use Rattle.machine.specs.Calls.{weightList};
-ghost use Rattle.nets.specs.Rows.{placeAt, written};
+ghost use Rattle.nets.specs.Rows.{placeAt, nextRow, nextThird, written};
 ghost use Rattle.nets.specs.Flips.{countsAt};
 ghost use Rattle.nets.specs.Levels.{copiedRow, renamedAt, Renames, Descends, Descended};
 use crate::rows::blend;
@@ -41,6 +41,29 @@ pub(crate) fn spread(dimension: usize, m: usize) -> usize
         return 0;
     }
     m
+}
+
+// The entry after the one with i copies of the vertices after the first, k of them of the third, is the next
+// one of its row or the first of the next row. Its copies of the vertices after the first:
+pub(crate) fn next_row(dimension: usize, i: usize, k: usize) -> usize
+    requires { ⌜ (1 ≤ dimension) × (dimension ≤ 2) × (i ≤ 180) ⌝ }
+    ensures { λ r. ⌜ r ≡ nextRow dimension i k ⌝ }
+{
+    if k < spread(dimension, i) {
+        return i;
+    }
+    i + 1
+}
+
+// And those of the third.
+pub(crate) fn next_third(dimension: usize, i: usize, k: usize) -> usize
+    requires { ⌜ (1 ≤ dimension) × (dimension ≤ 2) ⌝ }
+    ensures { λ r. ⌜ r ≡ nextThird dimension i k ⌝ }
+{
+    if k < spread(dimension, i) {
+        return k + 1;
+    }
+    0
 }
 
 // ---- renaming
@@ -87,11 +110,9 @@ pub(crate) fn rename(
         let from = renamed_place(dimension, vertex, degree, p, i, k);
         copy_row(&mut *out, p, xs, from, width);
         p += 1;
-        k += 1;
-        if k > spread(dimension, i) {
-            i += 1;
-            k = 0;
-        }
+        let row = next_row(dimension, i, k);
+        k = next_third(dimension, i, k);
+        i = row;
     }
 }
 

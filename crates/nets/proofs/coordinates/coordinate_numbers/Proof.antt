@@ -7,7 +7,7 @@ use Rattle.entries.specs.Rows.{size}
 use Rattle.nets.specs.Rows.{placeAt}
 use Rattle.nets.specs.Coordinates.{coordinateAt}
 use Rattle.nets.proofs.Scaled.{coordinates-made}
-use Rattle.nets.proofs.Writes.{Going, at-place, going-first, going-spread, going-less, going-same, going-row, going-done}
+use Rattle.nets.proofs.Writes.{Going, at-place, going-first, going-asks, going-less, going-next, going-done}
 use Rattle.nets.proofs.coordinates.coordinate_numbers.Statement.{statement}
 use Rattle.nets.proofs.coordinates.coordinate_numbers.Tie as tie
 
@@ -21,23 +21,20 @@ abbrev μ-loop : tie.MeasureT-loop
 within : (c : tie.In-loop Inv-loop μ-loop) → c .before .loop .i ≤ c .before .before .args .degree
 within c = omega (arith, c .loop-test .taken)
 
--- it is put, and the next one is the first of the next row
-next-row : (c : tie.Then1 Inv-loop μ-loop)
-    → let a = c .before .before .before .before .before .before .before .args in
-    let l = c .before .before .before .before .before .before .loop in
-    Going 4 (a .dimension) (a .degree) (coordinateAt (a .dimension) (a .degree) (a .coefficients .now)) (a .out .now) (c .before .before .before .put-entry .last .0) (placeAt (a .dimension) (l .i) (l .k) + 1) (l .i + 1) 0
-next-row c =
-    going-row (c .before .before .before .before .before .before .before .pre .0 .sized) (c .before .before .before .before .before .before .loop .inv) (within (c .before .before .before .before .before)) (c .before .before .before .put-entry .ensures) (c .before .before .before .put-entry .kept .0)
-    (omega (arith, c .if1 .taken, c .before .spread .ensures))
+-- the turn that stands at its end
+abbrev turn : tie.After-out Inv-loop μ-loop → tie.In-loop Inv-loop μ-loop
+turn c = c .before .before .before
 
--- or the next of the same row
-same-row : (c : tie.Else1 Inv-loop μ-loop)
-    → let a = c .before .before .before .before .before .before .before .args in
-    let l = c .before .before .before .before .before .before .loop in
-    Going 4 (a .dimension) (a .degree) (coordinateAt (a .dimension) (a .degree) (a .coefficients .now)) (a .out .now) (c .before .before .before .put-entry .last .0) (placeAt (a .dimension) (l .i) (l .k) + 1) (l .i) (l .k + 1)
-same-row c =
-    going-same (c .before .before .before .before .before .before .before .pre .0 .sized) (c .before .before .before .before .before .before .loop .inv) (within (c .before .before .before .before .before)) (c .before .before .before .put-entry .ensures) (c .before .before .before .put-entry .kept .0)
-    (omega (arith, c .if1 .left, c .before .spread .ensures))
+-- the entry is put, and the next one is to be
+next : (c : tie.After-next-third Inv-loop μ-loop)
+    → let end = c .before .before in
+    let a = turn end .before .before .args in
+    let l = turn end .before .loop in
+    Going 4 (a .dimension) (a .degree) (coordinateAt (a .dimension) (a .degree) (a .coefficients .now)) (a .out .now) (end .before .put-entry .last .0) (placeAt (a .dimension) (l .i) (l .k) + 1) (c .before .next-row .result) (c .next-third .result)
+next c =
+    let end = c .before .before in
+    going-next (turn end .before .before .pre .0 .sized) (turn end .before .loop .inv) (within (turn end)) (end .before .put-entry .ensures) (end .before .put-entry .kept .0)
+    (c .before .next-row .result) (c .next-third .result) (c .before .next-row .ensures) (c .next-third .ensures)
 
 loop-holds : tie.Need-loop-holds Inv-loop μ-loop
 loop-holds c = let a = c .args in at-place (going-first 4 (a .dimension) (a .degree) (coordinateAt (a .dimension) (a .degree) (a .coefficients .now)) (a .out .now) (c .pre .0 .sized .low) (c .pre .0 .sized .high))
@@ -48,39 +45,22 @@ put-entry-requires c κs =
     let l = c .before .before .loop in
     (s .pre .0, s .pre .1, subst (λ k. size 4 (s .args .dimension) (s .args .degree) ≤ k) (sym (l .inv .kept)) (s .pre .2), within (c .before), l .inv .third)
 
-add-k : tie.Need-add-k Inv-loop μ-loop
-add-k c =
-    let s = c .before .before .before .before .before in
-    let most = going-spread (s .pre .0 .sized) (c .before .before .before .before .loop .inv) in
-    let here = within (c .before .before .before) in
-    let few = s .pre .0 .high in
-    search needs
+next-row-requires : tie.Need-next-row-requires Inv-loop μ-loop
+next-row-requires c κs = going-asks (turn c .before .before .pre .0 .sized) (turn c .before .loop .inv)
 
-spread-requires : tie.Need-spread-requires Inv-loop μ-loop
-spread-requires c κs = let s = c .before .before .before .before .before in (s .pre .0 .sized .low, s .pre .0 .sized .high)
-
-add-i : tie.Need-add-i Inv-loop μ-loop
-add-i c = let here = within (c .before .before .before .before .before) in let few = c .before .before .before .before .before .before .before .pre .0 .high in search needs
+next-third-requires : tie.Need-next-third-requires Inv-loop μ-loop
+next-third-requires c κs = let s = turn (c .before) .before .before in (s .pre .0 .sized .low, s .pre .0 .sized .high)
 
 loop-less : tie.Need-loop-less Inv-loop μ-loop
 loop-less c =
-    let a = c .before .before .before .before .before .before .before .args in
-    let l = c .before .before .before .before .before .before .loop in
-    subst (λ q. size 4 (a .dimension) (a .degree) - 4 * q < size 4 (a .dimension) (a .degree) - 4 * placeAt (a .dimension) (l .i) (l .k)) (next-row c .place)
-    (going-less (c .before .before .before .before .before .before .before .pre .0 .sized) (l .inv) (within (c .before .before .before .before .before)))
+    let t = turn (c .before .before) in
+    let a = t .before .before .args in
+    let l = t .before .loop in
+    subst (λ q. size 4 (a .dimension) (a .degree) - 4 * q < size 4 (a .dimension) (a .degree) - 4 * placeAt (a .dimension) (l .i) (l .k)) (next c .place)
+    (going-less (t .before .before .pre .0 .sized) (l .inv) (within t))
 
 loop-again : tie.Need-loop-again Inv-loop μ-loop
-loop-again c = at-place (next-row c)
-
-loop-less-2 : tie.Need-loop-less-2 Inv-loop μ-loop
-loop-less-2 c =
-    let a = c .before .before .before .before .before .before .before .args in
-    let l = c .before .before .before .before .before .before .loop in
-    subst (λ q. size 4 (a .dimension) (a .degree) - 4 * q < size 4 (a .dimension) (a .degree) - 4 * placeAt (a .dimension) (l .i) (l .k)) (same-row c .place)
-    (going-less (c .before .before .before .before .before .before .before .pre .0 .sized) (l .inv) (within (c .before .before .before .before .before)))
-
-loop-again-2 : tie.Need-loop-again-2 Inv-loop μ-loop
-loop-again-2 c = at-place (same-row c)
+loop-again c = at-place (next c)
 
 same-length : tie.Need-same-length Inv-loop μ-loop
 same-length c = c .before .loop .inv .kept
@@ -100,12 +80,9 @@ coordinate-numbers-spec =
     μ-loop
     loop-holds
     put-entry-requires
-    add-k
-    spread-requires
-    add-i
+    next-row-requires
+    next-third-requires
     loop-less
     loop-again
-    loop-less-2
-    loop-again-2
     same-length
     returns)

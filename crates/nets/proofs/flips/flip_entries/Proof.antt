@@ -7,8 +7,7 @@ use lib.IntN.{natAbs}
 use Rattle.entries.specs.Rows.{size}
 use Rattle.nets.specs.Rows.{written}
 use Rattle.nets.specs.Flips.{signedAt}
-use Rattle.nets.proofs.Places.{degree-below}
-use Rattle.nets.proofs.Writes.{Going, going-first, going-inside, going-spread, going-small, going-less, going-same, going-row, going-done}
+use Rattle.nets.proofs.Writes.{Going, going-first, going-inside, going-small, going-asks, going-less, going-next, going-done}
 use Rattle.nets.proofs.Signs.{still, signed-entry, flipped-all}
 use Rattle.nets.proofs.flips.flip_entries.Statement.{statement}
 use Rattle.nets.proofs.flips.flip_entries.Tie as tie
@@ -23,14 +22,19 @@ abbrev μ-loop : tie.MeasureT-loop
 within : (c : tie.In-loop Inv-loop μ-loop) → c .before .loop .i ≤ c .before .before .args .degree
 within c = omega (arith, c .loop-test .taken)
 
--- it is signed
-turned : (c : tie.After-spread Inv-loop μ-loop)
-    → let a = c .before .before .before .before .before .before .before .args in
-    let l = c .before .before .before .before .before .before .loop in
-    c .before .before .sign-row .last .0 ≡ written (l .xs) (a .width * l .p) (a .width) (signedAt (a .width) (a .dimension) (a .degree) (a .vertex) (a .xs .now))
+-- the turn that stands at its end
+abbrev turn : tie.After-xs Inv-loop μ-loop → tie.In-loop Inv-loop μ-loop
+turn c = c .before .before .before .before
+
+-- the entry is signed
+turned : (c : tie.After-xs Inv-loop μ-loop)
+    → let a = turn c .before .before .args in
+    let l = turn c .before .loop in
+    c .before .sign-row .last .0 ≡ written (l .xs) (a .width * l .p) (a .width) (signedAt (a .width) (a .dimension) (a .degree) (a .vertex) (a .xs .now))
 turned c =
-    let count = c .before .before .before .before .copies in
-    signed-entry (c .before .before .before .before .before .before .before .args .vertex) (c .before .before .before .before .before .before .before .pre .sized) (c .before .before .before .before .before .before .loop .inv) (count .result) (within (c .before .before .before .before .before)) (count .ensures) (c .before .before .sign-row .ensures)
+    let s = turn c .before .before in
+    let count = c .before .before .before .copies in
+    signed-entry (s .args .vertex) (s .pre .sized) (turn c .before .loop .inv) (count .result) (within (turn c)) (count .ensures) (c .before .sign-row .ensures)
 
 loop-holds : tie.Need-loop-holds Inv-loop μ-loop
 loop-holds c = let a = c .args in going-first (a .width) (a .dimension) (a .degree) (signedAt (a .width) (a .dimension) (a .degree) (a .vertex) (a .xs .now)) (a .xs .now) (c .pre .sized .low) (c .pre .sized .high)
@@ -50,42 +54,22 @@ sign-row-requires c κs =
     )
 
 add-p : tie.Need-add-p Inv-loop μ-loop
-add-p c = let few = going-small (c .before .before .before .before .before .before .pre .sized) (c .before .before .before .before .before .loop .inv) (within (c .before .before .before .before)) in search needs
+add-p c = let few = going-small (turn c .before .before .pre .sized) (turn c .before .loop .inv) (within (turn c)) in search needs
 
-add-k : tie.Need-add-k Inv-loop μ-loop
-add-k c =
-    let s = c .before .before .before .before .before .before in
-    let l = c .before .before .before .before .before .loop in
-    let few = degree-below (s .args .width) (s .args .dimension) (s .args .degree) (s .pre .sized) in
-    let most = going-spread (s .pre .sized) (l .inv) in
-    let here = within (c .before .before .before .before) in
-    search needs
+next-row-requires : tie.Need-next-row-requires Inv-loop μ-loop
+next-row-requires c κs = going-asks (turn c .before .before .pre .sized) (turn c .before .loop .inv)
 
-spread-requires : tie.Need-spread-requires Inv-loop μ-loop
-spread-requires c κs = let s = c .before .before .before .before .before .before in (s .pre .sized .low, s .pre .sized .high)
-
-add-i : tie.Need-add-i Inv-loop μ-loop
-add-i c =
-    let s = c .before .before .before .before .before .before .before .before in
-    let few = degree-below (s .args .width) (s .args .dimension) (s .args .degree) (s .pre .sized) in
-    let here = within (c .before .before .before .before .before .before) in
-    search needs
+next-third-requires : tie.Need-next-third-requires Inv-loop μ-loop
+next-third-requires c κs = let s = turn (c .before) .before .before in (s .pre .sized .low, s .pre .sized .high)
 
 loop-less : tie.Need-loop-less Inv-loop μ-loop
-loop-less c = going-less (c .before .before .before .before .before .before .before .before .pre .sized) (c .before .before .before .before .before .before .before .loop .inv) (within (c .before .before .before .before .before .before))
+loop-less c = let t = turn (c .before .before) in going-less (t .before .before .pre .sized) (t .before .loop .inv) (within t)
 
 loop-again : tie.Need-loop-again Inv-loop μ-loop
 loop-again c =
-    going-row (c .before .before .before .before .before .before .before .before .pre .sized) (c .before .before .before .before .before .before .before .loop .inv) (within (c .before .before .before .before .before .before)) (turned (c .before)) (c .before .before .before .sign-row .kept .0)
-    (omega (arith, c .if1 .taken, c .before .spread .ensures))
-
-loop-less-2 : tie.Need-loop-less-2 Inv-loop μ-loop
-loop-less-2 c = going-less (c .before .before .before .before .before .before .before .before .pre .sized) (c .before .before .before .before .before .before .before .loop .inv) (within (c .before .before .before .before .before .before))
-
-loop-again-2 : tie.Need-loop-again-2 Inv-loop μ-loop
-loop-again-2 c =
-    going-same (c .before .before .before .before .before .before .before .before .pre .sized) (c .before .before .before .before .before .before .before .loop .inv) (within (c .before .before .before .before .before .before)) (turned (c .before)) (c .before .before .before .sign-row .kept .0)
-    (omega (arith, c .if1 .left, c .before .spread .ensures))
+    let end = c .before .before in
+    going-next (turn end .before .before .pre .sized) (turn end .before .loop .inv) (within (turn end)) (turned end) (end .before .sign-row .kept .0)
+    (c .before .next-row .result) (c .next-third .result) (c .before .next-row .ensures) (c .next-third .ensures)
 
 same-length : tie.Need-same-length Inv-loop μ-loop
 same-length c = c .before .loop .inv .kept
@@ -107,12 +91,9 @@ flip-entries-spec =
     copies-requires
     sign-row-requires
     add-p
-    add-k
-    spread-requires
-    add-i
+    next-row-requires
+    next-third-requires
     loop-less
     loop-again
-    loop-less-2
-    loop-again-2
     same-length
     returns)

@@ -7,7 +7,7 @@ use Rattle.entries.specs.Rows.{size}
 use Rattle.nets.specs.Rows.{written}
 use Rattle.nets.specs.Levels.{renamedAt}
 use Rattle.nets.proofs.Places.{degree-below}
-use Rattle.nets.proofs.Writes.{Going, going-first, going-inside, going-spread, going-small, going-less, going-same, going-row, going-done}
+use Rattle.nets.proofs.Writes.{Going, going-first, going-inside, going-small, going-asks, going-less, going-next, going-done}
 use Rattle.nets.proofs.Renaming.{exchanged-inside, renamed-copied}
 use Rattle.nets.proofs.levels.rename.Statement.{statement}
 use Rattle.nets.proofs.levels.rename.Tie as tie
@@ -25,18 +25,22 @@ loop-holds c = let a = c .args in going-first (a .width) (a .dimension) (a .degr
 within : (c : tie.In-loop Inv-loop μ-loop) → c .before .loop .i ≤ c .before .before .args .degree
 within c = omega (arith, c .loop-test .taken)
 
--- it is renamed
-renamed : (c : tie.After-spread Inv-loop μ-loop)
-    → let a = c .before .before .before .before .before .before .before .args in
-    let l = c .before .before .before .before .before .before .loop in
-    c .before .before .copy-row .last .0 ≡ written (l .out) (a .width * l .p) (a .width) (renamedAt (a .width) (a .dimension) (a .degree) (a .vertex) (a .xs .now))
+-- the turn that stands at its end
+abbrev turn : tie.After-out Inv-loop μ-loop → tie.In-loop Inv-loop μ-loop
+turn c = c .before .before .before .before
+
+-- the entry is renamed
+renamed : (c : tie.After-out Inv-loop μ-loop)
+    → let a = turn c .before .before .args in
+    let l = turn c .before .loop in
+    c .before .copy-row .last .0 ≡ written (l .out) (a .width * l .p) (a .width) (renamedAt (a .width) (a .dimension) (a .degree) (a .vertex) (a .xs .now))
 renamed c =
-    let s = c .before .before .before .before .before .before .before in
+    let s = turn c .before .before in
     let a = s .args in
-    let l = c .before .before .before .before .before .before .loop in
-    let from = c .before .before .before .before .renamed-place in
-    renamed-copied (a .dimension) (a .degree) (l .i) (l .k) (s .pre .sized .low) (s .pre .sized .high) (within (c .before .before .before .before .before)) (l .inv .third) (a .width) (a .vertex) (s .pre .vertex) (l .out) (a .xs .now) (c .before .before .copy-row .last .0)
-    (l .p) (from .result) (l .inv .place) (from .ensures) (c .before .before .copy-row .ensures)
+    let l = turn c .before .loop in
+    let from = c .before .before .before .renamed-place in
+    renamed-copied (a .dimension) (a .degree) (l .i) (l .k) (s .pre .sized .low) (s .pre .sized .high) (within (turn c)) (l .inv .third) (a .width) (a .vertex) (s .pre .vertex) (l .out) (a .xs .now) (c .before .copy-row .last .0)
+    (l .p) (from .result) (l .inv .place) (from .ensures) (c .before .copy-row .ensures)
     ∙ ap (λ q. written (l .out) (a .width * q) (a .width) (renamedAt (a .width) (a .dimension) (a .degree) (a .vertex) (a .xs .now))) (sym (l .inv .place))
 
 renamed-place-requires : tie.Need-renamed-place-requires Inv-loop μ-loop
@@ -57,42 +61,22 @@ copy-row-requires c κs =
     (omega (arith, to, s .pre .room, l .inv .kept), omega (arith, from, from-is, s .pre .long))
 
 add-p : tie.Need-add-p Inv-loop μ-loop
-add-p c = let few = going-small (c .before .before .before .before .before .before .pre .sized) (c .before .before .before .before .before .loop .inv) (within (c .before .before .before .before)) in search needs
+add-p c = let few = going-small (turn c .before .before .pre .sized) (turn c .before .loop .inv) (within (turn c)) in search needs
 
-add-k : tie.Need-add-k Inv-loop μ-loop
-add-k c =
-    let s = c .before .before .before .before .before .before in
-    let l = c .before .before .before .before .before .loop in
-    let few = degree-below (s .args .width) (s .args .dimension) (s .args .degree) (s .pre .sized) in
-    let most = going-spread (s .pre .sized) (l .inv) in
-    let here = within (c .before .before .before .before) in
-    search needs
+next-row-requires : tie.Need-next-row-requires Inv-loop μ-loop
+next-row-requires c κs = going-asks (turn c .before .before .pre .sized) (turn c .before .loop .inv)
 
-spread-requires : tie.Need-spread-requires Inv-loop μ-loop
-spread-requires c κs = let s = c .before .before .before .before .before .before in (s .pre .sized .low, s .pre .sized .high)
-
-add-i : tie.Need-add-i Inv-loop μ-loop
-add-i c =
-    let s = c .before .before .before .before .before .before .before .before in
-    let few = degree-below (s .args .width) (s .args .dimension) (s .args .degree) (s .pre .sized) in
-    let here = within (c .before .before .before .before .before .before) in
-    search needs
+next-third-requires : tie.Need-next-third-requires Inv-loop μ-loop
+next-third-requires c κs = let s = turn (c .before) .before .before in (s .pre .sized .low, s .pre .sized .high)
 
 loop-less : tie.Need-loop-less Inv-loop μ-loop
-loop-less c = going-less (c .before .before .before .before .before .before .before .before .pre .sized) (c .before .before .before .before .before .before .before .loop .inv) (within (c .before .before .before .before .before .before))
+loop-less c = let t = turn (c .before .before) in going-less (t .before .before .pre .sized) (t .before .loop .inv) (within t)
 
 loop-again : tie.Need-loop-again Inv-loop μ-loop
 loop-again c =
-    going-row (c .before .before .before .before .before .before .before .before .pre .sized) (c .before .before .before .before .before .before .before .loop .inv) (within (c .before .before .before .before .before .before)) (renamed (c .before)) (c .before .before .before .copy-row .kept .0)
-    (omega (arith, c .if1 .taken, c .before .spread .ensures))
-
-loop-less-2 : tie.Need-loop-less-2 Inv-loop μ-loop
-loop-less-2 c = going-less (c .before .before .before .before .before .before .before .before .pre .sized) (c .before .before .before .before .before .before .before .loop .inv) (within (c .before .before .before .before .before .before))
-
-loop-again-2 : tie.Need-loop-again-2 Inv-loop μ-loop
-loop-again-2 c =
-    going-same (c .before .before .before .before .before .before .before .before .pre .sized) (c .before .before .before .before .before .before .before .loop .inv) (within (c .before .before .before .before .before .before)) (renamed (c .before)) (c .before .before .before .copy-row .kept .0)
-    (omega (arith, c .if1 .left, c .before .spread .ensures))
+    let end = c .before .before in
+    going-next (turn end .before .before .pre .sized) (turn end .before .loop .inv) (within (turn end)) (renamed end) (end .before .copy-row .kept .0)
+    (c .before .next-row .result) (c .next-third .result) (c .before .next-row .ensures) (c .next-third .ensures)
 
 same-length : tie.Need-same-length Inv-loop μ-loop
 same-length c = c .before .loop .inv .kept
@@ -110,12 +94,9 @@ rename-spec =
     renamed-place-requires
     copy-row-requires
     add-p
-    add-k
-    spread-requires
-    add-i
+    next-row-requires
+    next-third-requires
     loop-less
     loop-again
-    loop-less-2
-    loop-again-2
     same-length
     returns)
