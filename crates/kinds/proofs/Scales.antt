@@ -19,7 +19,7 @@ use Rattle.polar.proofs.Order.{monomials-total}
 use Rattle.polar.proofs.Scale.{scale-pos, multinomial-divides, scale-least}
 use Rattle.entries.proofs.Standard.{member-monomials}
 use Rattle.kinds.specs.Kinds.{Row, rowsOf, groupsBy, degreesAllowed, some, dimensionOf, known, groupsOf}
-use Rattle.kinds.specs.Scales.{scaleOf, scaleRow, atDegree, rowNumber, LeastDivided, ScalesReadOff}
+use Rattle.kinds.specs.Scales.{scaleOf, scaleRow, atDegree, rowNumber, IsLeastCommonMultiple, ScalesReadOff}
 use Rattle.kinds.proofs.Limits.{by-known, by-kind, one-group-of}
 
 -- ---- any table
@@ -85,8 +85,8 @@ row-up n (suc k) low high = leb-true (getD (scaleRow n) k 0) 2520 (over-rows (λ
 
 -- ---- the statement
 
-least-divided : (n m : ℕ) → LeastDivided n m (scale n m)
-least-divided n m =
+scale-is-least : (n m : ℕ) → IsLeastCommonMultiple n m (scale n m)
+scale-is-least n m =
     record {
       positive = scale-pos n m;
       divided = λ e l t. multinomial-divides n m e (member-monomials n m e l t);
@@ -123,7 +123,7 @@ scale-known kind p q h = ap (λ b. cond b (scaleOver (groupsOf kind p q)) 0) h
 pub scales-read-off : ScalesReadOff
 scales-read-off =
     record {
-      least = λ n m low high. subst (LeastDivided n m) (sym (row-scale n m low high)) (least-divided n m);
+      least = λ n m low high. subst (IsLeastCommonMultiple n m) (sym (row-scale n m low high)) (scale-is-least n m);
       read = λ kind p q h.
           scale-known kind p q h
           ∙ groups-read (rowsOf kind) (p ∷ q ∷ []) (all-long kind) (and-parts (some (rowsOf kind)) (degreesAllowed (rowsOf kind) (p ∷ q ∷ [])) h .1);

@@ -39,14 +39,14 @@ rowNumber g = atDegree (scaleRow (g .dimension)) (g .degree)
 abbrev pub DividedByEvery : ℕ → ℕ → ℕ → Type 0
 DividedByEvery n m number = (e : Exponents) → length e ≡ n → total e ≤ m → multinomial m e ∣ number
 
--- .. 'and no smaller positive number is'
-pub record LeastDivided (n m number : ℕ) : Type 0 where
+-- .. 'and no smaller positive number is': the number is the least common multiple of the multinomials
+pub record IsLeastCommonMultiple (n m number : ℕ) : Type 0 where
   pub positive : 0 < number
   pub divided : DividedByEvery n m number
   pub no-smaller : (k : ℕ) → 0 < k → k < number → DividedByEvery n m k → ⊥
 
 pub record ScalesReadOff : Type 0 where
   -- each number of both rows, at its degree
-  pub least : (n m : ℕ) → 1 ≤ m → m ≤ length (scaleRow n) → LeastDivided n m (atDegree (scaleRow n) m)
+  pub least : (n m : ℕ) → 1 ≤ m → m ≤ length (scaleRow n) → IsLeastCommonMultiple n m (atDegree (scaleRow n) m)
   -- the scale of a kind with its degrees is read off the rows: the product of its groups' numbers
   pub read : (kind p q : ℕ) → known kind p q ≡ true → scaleOf kind p q ≡ product (map rowNumber (groupsOf kind p q))

@@ -1,4 +1,4 @@
--- What documents 01 and 02 refuse of a call for its own arguments, before any net is looked at: the refusals 8 and 9. Both machines share these.
+-- What is refused of a call for its own arguments, before its size is looked at: 8 and 9 (docs/SPECIFICATION.md, 'Moves and points', 'Refusals'). Both machines share these.
 use Prim.Native.Nat.{ℕ, zero, suc, pred, _-_}
 use mathlib.Core.Bool.{_&&_, _||_, not, cond}
 use mathlib.Core.List.{List, [], _∷_, map}

@@ -1,4 +1,4 @@
--- The size rule of documents 01 and 02: replace and point are refused exactly when some polar value that they name is out of range.
+-- The size rule (docs/SPECIFICATION.md, 'Moves and points', 'Size'): replace and point are refused exactly when some polar value that they name is out of range.
 -- A named value takes its points from the frames and from the q of each group: its counts say in each group how often q is taken and then how often each vertex.
 use Prim.Native.Nat.{ℕ, zero, suc, pred}
 use mathlib.Core.Bool.{Bool, cond}
