@@ -655,8 +655,10 @@ def main():
     index = ["# NAME.hex is a record in hex (white space does not count; an empty",
              "# file is an empty record), NAME.txt what netprint prints for it, whole.",
              "# One line each: NAME, bytes of the record, its first refusal or else its first",
-             "# line of text, comment.  Texts were written by hand from document 01 and then",
-             "# compared with calculator.py (r7-edge-passes: 44 numbers from calculator.py).",
+             "# line of text, comment.  Texts were written by hand from document 01, the longer",
+             "# ones by a rule that stands beside them in make_samples.py (scale-*: L divided by",
+             "# the multinomial), and then compared with calculator.py (r7-edge-passes: 44 numbers",
+             "# from calculator.py).",
              "# Which refusal wins where several hold: the earlier field's; within a field a cut",
              "# header (1), then tag (2), length (3), a cut value (1), what the value says (4, 5,",
              "# 6); only then a missing field (2, at the length) and 7.  Calls: 8, 9, 10."]

@@ -30,26 +30,26 @@ up-to bound f n h k b = leb-true (f k) bound (all-at (λ j. leb (f j) bound) (up
 
 -- ---- a row
 
--- a degree beyond it has 0
-pub at-none : (row : List ℕ) (m : ℕ) → length row < m → 0 ≡ atDegree row m
-at-none row zero h = refl
-at-none row (suc k) h = sym (List·getD-eq-default row 0 (le-of-suc-le-suc h))
+-- a degree past it has 0
+pub past-row : (row : List ℕ) (m : ℕ) → length row < m → 0 ≡ atDegree row m
+past-row row zero h = refl
+past-row row (suc k) h = sym (List·getD-eq-default row 0 (le-of-suc-le-suc h))
 
-in-none : (m : ℕ) → 0 ≡ atDegree [] m
-in-none zero = refl
-in-none (suc k) = refl
+empty-row : (m : ℕ) → 0 ≡ atDegree [] m
+empty-row zero = refl
+empty-row (suc k) = refl
 
--- another has the number one place before it, since degree 1 comes first
-pub at-place : (row : List ℕ) (m : ℕ) → (m ≡ 0 → ⊥) → getD row (m - 1) 0 ≡ atDegree row m
-at-place row zero never = absurd (never refl)
-at-place row (suc k) never = ap (λ i. getD row i 0) (omega arith)
+-- another but 0 has the number at the place before it, since degree 1 comes first
+pub degree-place : (row : List ℕ) (m : ℕ) → (m ≡ 0 → ⊥) → getD row (m - 1) 0 ≡ atDegree row m
+degree-place row zero never = absurd (never refl)
+degree-place row (suc k) never = ap (λ i. getD row i 0) (omega arith)
 
 -- there are two of them
 pub no-row : (n : ℕ) → (n ≡ 1 → ⊥) → (n ≡ 2 → ⊥) → (m : ℕ) → 0 ≡ atDegree (scaleRow n) m
-no-row zero one two m = in-none m
+no-row zero one two m = empty-row m
 no-row (suc zero) one two m = absurd (one refl)
 no-row (suc (suc zero)) one two m = absurd (two refl)
-no-row (suc (suc (suc n))) one two m = in-none m
+no-row (suc (suc (suc n))) one two m = empty-row m
 
 -- ---- a test over both rows
 
