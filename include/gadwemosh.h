@@ -168,9 +168,11 @@ uint8_t gadwemosh_point(const int64_t *net, size_t net_length, int64_t r, int64_
                         int64_t *found, size_t found_length);
 
 /* Projects four numbers. `outcome` says where they lie: a finite point (1) is written to `bits`, as the bit
- * patterns of three doubles; a direction (2) is written to `direction`, as three whole numbers; nowhere (3)
- * writes nothing else. Both buffers have three places or more. Beside a refusal, which is 10 or 11, `outcome`
- * is 0 and nothing else is written. */
+ * patterns of three doubles; a direction (2) is written to `direction`, as three whole numbers and its length;
+ * nowhere (3) writes nothing else. The length is positive: it is the greatest common divisor of x, y and z, and
+ * its products with the three numbers are x, y and z, all three negated where the first of them that is not 0
+ * is negative. `bits` has three places or more, `direction` four. Beside a refusal, which is 10 or 11,
+ * `outcome` is 0 and nothing else is written. */
 uint8_t gadwemosh_project(int64_t x, int64_t y, int64_t z, int64_t w, uint8_t *outcome, uint64_t *bits,
                           size_t bits_length, int64_t *direction, size_t direction_length);
 

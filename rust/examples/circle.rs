@@ -37,7 +37,10 @@ fn print_own_point(record: &Record) -> Result<(), Refused> {
         println!("the record's own point\n{x} {y} {z} {w}");
         match project(found)? {
             Projection::Finite([x, y, z]) => println!("at {x} {y} {z}"),
-            Projection::Direction([x, y, z]) => println!("far {x} {y} {z}"),
+            Projection::Direction {
+                vector: [x, y, z],
+                length,
+            } => println!("far {x} {y} {z} {length}"),
             Projection::Nowhere => println!("nowhere"),
         }
     }

@@ -171,7 +171,8 @@ pub fn point(net: &[i64], [r, s, t]: [i64; 3], found: &mut [i64]) -> u8 {
 
 /// Projects four numbers (`gadwemosh_project`). `outcome` is set to [`FINITE`], [`DIRECTION`] or
 /// [`NOWHERE`], and to 0 where the answer is a refusal. A finite point is written to the first three places
-/// of `bits`, as bit patterns of `f64`; a direction is written to the first three of `direction`.
+/// of `bits`, as bit patterns of `f64`; a direction is written to the first three of `direction`, and its
+/// length to the fourth.
 #[inline]
 #[must_use]
 pub fn project(

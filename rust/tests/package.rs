@@ -217,7 +217,18 @@ fn the_three_projections() {
     );
     assert_eq!(
         project([-9, 9, 0, 0]),
-        Ok(Projection::Direction([1, -1, 0]))
+        Ok(Projection::Direction {
+            vector: [1, -1, 0],
+            length: 9
+        })
+    );
+    let largest = 1 << 48;
+    assert_eq!(
+        project([0, -largest, largest, 0]),
+        Ok(Projection::Direction {
+            vector: [0, 1, -1],
+            length: largest
+        })
     );
     assert_eq!(project([0; 4]), Ok(Projection::Nowhere));
     assert_eq!(project([i64::MAX, 0, 0, 1]), Err(Refused::RANGE));

@@ -570,6 +570,8 @@ fn accepted(s: &[u8], out: &mut Out, net: &mut [i64; NET], l: &Layout) {
                 out.word(b" ");
                 out.signed(f[c] / g * first.signum());
             }
+            out.word(b" ");
+            out.signed(g);
         }
         out.word(b"\n");
     }

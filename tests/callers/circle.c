@@ -48,7 +48,7 @@ static void take_own_moves(const uint8_t *record, size_t record_length, int64_t 
 /* The point of an accepted record, on the net that its moves lead to. */
 static int print_own_point(const uint8_t *record, size_t record_length, const int64_t *net) {
     uint64_t start, length, bits[3];
-    int64_t found[4], direction[3];
+    int64_t found[4], direction[4];
     double finite[3];
     uint8_t outcome, refused;
     gadwemosh_field(record, record_length, GADWEMOSH_FIELD_POINT, &start, &length);
@@ -56,7 +56,7 @@ static int print_own_point(const uint8_t *record, size_t record_length, const in
         return 1;
     refused = gadwemosh_point(net, GADWEMOSH_NET, weight(record + start), weight(record + start + 2), 0, found, 4);
     if (refused == 0)
-        refused = gadwemosh_project(found[0], found[1], found[2], found[3], &outcome, bits, 3, direction, 3);
+        refused = gadwemosh_project(found[0], found[1], found[2], found[3], &outcome, bits, 3, direction, 4);
     if (refused != 0) {
         fprintf(stderr, "point refused: %u\n", refused);
         return 0;
@@ -67,7 +67,8 @@ static int print_own_point(const uint8_t *record, size_t record_length, const in
     if (outcome == GADWEMOSH_FINITE)
         printf("at %.15g %.15g %.15g\n", finite[0], finite[1], finite[2]);
     else if (outcome == GADWEMOSH_DIRECTION)
-        printf("far %" PRId64 " %" PRId64 " %" PRId64 "\n", direction[0], direction[1], direction[2]);
+        printf("far %" PRId64 " %" PRId64 " %" PRId64 " %" PRId64 "\n", direction[0], direction[1], direction[2],
+               direction[3]);
     else
         printf("nowhere\n");
     return 1;

@@ -202,40 +202,46 @@ static void test_point(void) {
 static void test_no_projection(int number, int64_t w, size_t bits_length, size_t direction_length) {
     uint8_t outcome = 77;
     uint64_t bits[4] = {1, 2, 3, 4};
-    int64_t direction[4] = {5, 6, 7, 8};
+    int64_t direction[5] = {5, 6, 7, 8, 9};
     EXPECT(gadwemosh_project(6, 8, 0, w, &outcome, bits, bits_length, direction, direction_length) == number);
     EXPECT(outcome == 0);
     EXPECT(bits[0] == 1 && bits[1] == 2 && bits[2] == 3 && bits[3] == 4);
-    EXPECT(direction[0] == 5 && direction[1] == 6 && direction[2] == 7 && direction[3] == 8);
+    EXPECT(direction[0] == 5 && direction[1] == 6 && direction[2] == 7 && direction[3] == 8 && direction[4] == 9);
 }
 
 static void test_project(void) {
     uint8_t outcome = 77;
     uint64_t bits[4] = {1, 2, 3, 4};
-    int64_t direction[4] = {5, 6, 7, 8};
-    test_no_projection(11, 10, 2, 4);
-    test_no_projection(11, 10, 0, 4);
-    test_no_projection(11, 10, 4, 2);
+    int64_t direction[5] = {5, 6, 7, 8, 9};
+    test_no_projection(11, 10, 2, 5);
+    test_no_projection(11, 10, 0, 5);
+    test_no_projection(11, 10, 4, 3);
+    test_no_projection(11, 0, 4, 3);
     test_no_projection(11, 0, 4, 0);
-    test_no_projection(10, INT64_MIN, 4, 4);
-    test_no_projection(10, GADWEMOSH_LARGEST + 1, 3, 3);
-    test_no_projection(10, -GADWEMOSH_LARGEST - 1, 3, 3);
+    test_no_projection(10, INT64_MIN, 4, 5);
+    test_no_projection(10, GADWEMOSH_LARGEST + 1, 3, 4);
+    test_no_projection(10, -GADWEMOSH_LARGEST - 1, 3, 4);
     /* a short buffer comes before a number out of range */
-    test_no_projection(11, INT64_MIN, 2, 3);
-    EXPECT(gadwemosh_project(0, 0, 0, 0, &outcome, bits, 4, direction, 4) == 0 && outcome == GADWEMOSH_NOWHERE);
+    test_no_projection(11, INT64_MIN, 2, 4);
+    test_no_projection(11, INT64_MIN, 3, 3);
+    EXPECT(gadwemosh_project(0, 0, 0, 0, &outcome, bits, 4, direction, 5) == 0 && outcome == GADWEMOSH_NOWHERE);
     EXPECT(bits[0] == 1 && bits[1] == 2 && bits[2] == 3 && bits[3] == 4);
-    EXPECT(direction[0] == 5 && direction[1] == 6 && direction[2] == 7 && direction[3] == 8);
-    EXPECT(gadwemosh_project(6, 8, 0, 10, &outcome, bits, 3, direction, 3) == 0 && outcome == GADWEMOSH_FINITE);
+    EXPECT(direction[0] == 5 && direction[1] == 6 && direction[2] == 7 && direction[3] == 8 && direction[4] == 9);
+    EXPECT(gadwemosh_project(6, 8, 0, 10, &outcome, bits, 3, direction, 4) == 0 && outcome == GADWEMOSH_FINITE);
     EXPECT(bits[0] == UINT64_C(0x3fe3333333333333) && bits[1] == UINT64_C(0x3fe999999999999a));
     EXPECT(bits[2] == 0 && bits[3] == 4);
-    EXPECT(direction[0] == 5 && direction[1] == 6 && direction[2] == 7 && direction[3] == 8);
+    EXPECT(direction[0] == 5 && direction[1] == 6 && direction[2] == 7 && direction[3] == 8 && direction[4] == 9);
     /* 0 over a negative w is positive zero */
-    EXPECT(gadwemosh_project(0, 0, GADWEMOSH_LARGEST, -GADWEMOSH_LARGEST, &outcome, bits, 4, direction, 4) == 0);
+    EXPECT(gadwemosh_project(0, 0, GADWEMOSH_LARGEST, -GADWEMOSH_LARGEST, &outcome, bits, 4, direction, 5) == 0);
     EXPECT(outcome == GADWEMOSH_FINITE && bits[0] == 0 && bits[1] == 0 && bits[2] == UINT64_C(0xbff0000000000000));
     bits[0] = 1;
-    EXPECT(gadwemosh_project(-9, 9, 0, 0, &outcome, bits, 4, direction, 4) == 0 && outcome == GADWEMOSH_DIRECTION);
-    EXPECT(direction[0] == 1 && direction[1] == -1 && direction[2] == 0 && direction[3] == 8);
+    EXPECT(gadwemosh_project(-9, 9, 0, 0, &outcome, bits, 4, direction, 5) == 0 && outcome == GADWEMOSH_DIRECTION);
+    EXPECT(direction[0] == 1 && direction[1] == -1 && direction[2] == 0 && direction[3] == 9 && direction[4] == 9);
     EXPECT(bits[0] == 1 && bits[1] == 0 && bits[3] == 4);
+    /* the largest length, and four places for it */
+    EXPECT(gadwemosh_project(0, -GADWEMOSH_LARGEST, GADWEMOSH_LARGEST, 0, &outcome, bits, 3, direction, 4) == 0);
+    EXPECT(outcome == GADWEMOSH_DIRECTION && direction[0] == 0 && direction[1] == 1 && direction[2] == -1);
+    EXPECT(direction[3] == GADWEMOSH_LARGEST && direction[4] == 9);
 }
 
 /* What a lookup must answer and tell. */

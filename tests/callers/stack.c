@@ -20,7 +20,7 @@ static ucontext_t here, there;
 
 static uint8_t record[GADWEMOSH_LONGEST_RECORD];
 static int64_t net[GADWEMOSH_NET], frame[GADWEMOSH_FRAME] = {1, 0, 1, 0, 1, 1, 0, 0, 1};
-static int64_t coefficients[GADWEMOSH_COEFFICIENTS], found[4], direction[3];
+static int64_t coefficients[GADWEMOSH_COEFFICIENTS], found[4], direction[4];
 static uint64_t bits[3], offset, start, length;
 static uint8_t out[GADWEMOSH_LONGEST_TEXT], outcome, answer;
 
@@ -75,7 +75,7 @@ static void call_point(void) {
 }
 
 static void call_project(void) {
-    answer = gadwemosh_project(3, 4, 6, 0, &outcome, bits, 3, direction, 3);
+    answer = gadwemosh_project(3, 4, 6, 0, &outcome, bits, 3, direction, 4);
 }
 
 static void call_text(void) {

@@ -183,7 +183,7 @@ def judge_point(kind, m, coeffs, frame, weights):
 
 
 def project(p):
-    """("at", three f64), ("far", three whole numbers) or ("nowhere",)."""
+    """("at", three f64), ("far", a direction's three whole numbers and its length) or ("nowhere",)."""
     if not in_range(p):
         return ("refused", 10)
     x, y, z, w = p
@@ -196,7 +196,7 @@ def project(p):
     d = [x // g, y // g, z // g]
     if next(c for c in d if c != 0) < 0:
         d = [-c for c in d]
-    return ("far",) + tuple(d)
+    return ("far",) + tuple(d) + (g,)
 
 
 # ------------------------------------------------------------------ the record
@@ -399,7 +399,7 @@ def selftest():
     check("B6", net(1, 3, folium, cf),
           [(0, 0, 0, 3), (3, 0, 0, 3), (6, 3, 0, 3), (9, 9, 0, 6)])
     n, p = judge_point(1, 3, folium, cf, (2, -1))
-    check("B7", (n, p, project(p)), (0, (-9, 9, 0, 0), ("far", 1, -1, 0)))
+    check("B7", (n, p, project(p)), (0, (-9, 9, 0, 0), ("far", 1, -1, 0, 9)))
     # h, l: (0,0) (0,1) (0,2) (1,0) (1,1) (2,0)
     b8 = [(0, 0, 0, 1), (0, 1, 0, 0), (0, 0, 0, 0),
           (1, 0, 0, 0), (0, 0, 1, 0), (0, 0, 0, 0)]

@@ -89,8 +89,8 @@ FOL = (f1(1, 3) + f2(0, 1, 1, 1)
        + f3((0, 0, 0, 1), (3, 0, 0, 0), (0, 3, 0, 0), (0, 0, 0, 1)))
 FNET = "curve 3 3\n0 0 0 0 3\n1 3 0 0 3\n2 6 3 0 3\n3 9 9 0 6\n"
 S("b06", FOL, FNET, "B6: folium")
-S("b07", FOL + f5(2, -1), FNET + "far 1 -1 0\n",
-  "B7: folium's point (2, -1) is -9 9 0 0, direction 1 -1 0 (sign of the first made positive)")
+S("b07", FOL + f5(2, -1), FNET + "far 1 -1 0 9\n",
+  "B7: folium's point (2, -1) is -9 9 0 0, direction 1 -1 0 (sign of the first made positive), length 9")
 S("b08", P, PHEAD + PNET, "B8: patch")
 S("b09", P + f5(1, 1, 1),
   PHEAD + PNET + "at 3fd5555555555555 3fd5555555555555 3fbc71c71c71c71c\n",
@@ -485,18 +485,18 @@ S("q-after-refused-move", C + f4((REPL, 2, 1, 0, 0)) + f5(1, 1),
 # far: x = 2T, y = -4T, z = 6T, w = Z with r = (1,0): first net entry 0 is 2 -4 6 0
 LIN = f1(1, 1) + f2(1, 0, 0, 1) + f3((0, 0, 0, 1), (2, -4, 6, 0))
 LNET = "0 2 -4 6 0\n1 0 0 0 1\n"
-pt("q-far", (3, 0), "far 1 -2 3\n", "direction: 6 -12 18 divided by 6", LIN, "curve 1 1\n", LNET)
-pt("q-far-negative", (-3, 0), "far 1 -2 3\n", "direction of -6 12 -18: first made positive",
+pt("q-far", (3, 0), "far 1 -2 3 6\n", "direction: 6 -12 18 divided by 6", LIN, "curve 1 1\n", LNET)
+pt("q-far-negative", (-3, 0), "far 1 -2 3 6\n", "direction of -6 12 -18: first made positive",
    LIN, "curve 1 1\n", LNET)
 LIN2 = f1(1, 1) + f2(1, 0, 0, 1) + f3((0, 0, 0, 1), (0, -5, 0, 0))
-pt("q-far-axis", (1, 0), "far 0 1 0\n", "direction 0 -5 0: first nonzero made positive",
+pt("q-far-axis", (1, 0), "far 0 1 0 5\n", "direction 0 -5 0: first nonzero made positive",
    LIN2, "curve 1 1\n", "0 0 -5 0 0\n1 0 0 0 1\n")
 LIN6 = f1(1, 1) + f2(1, 0, 0, 1) + f3((0, 0, 0, 1), (0, 0, -7, 0))
-pt("q-far-last", (1, 0), "far 0 0 1\n", "direction 0 0 -7: z is the first nonzero",
+pt("q-far-last", (1, 0), "far 0 0 1 7\n", "direction 0 0 -7: z is the first nonzero",
    LIN6, "curve 1 1\n", "0 0 0 -7 0\n1 0 0 0 1\n")
 # patch x = 2U, y = 3V, w = Z over the axes
 PLIN = f1(2, 1) + f2(1, 0, 0, 0, 1, 0, 0, 0, 1) + f3((0, 0, 0, 1), (0, 3, 0, 0), (2, 0, 0, 0))
-pt("q-patch-far", (3, -4, 0), "far 1 -2 0\n", "patch, direction of 6 -12 0",
+pt("q-patch-far", (3, -4, 0), "far 1 -2 0 6\n", "patch, direction of 6 -12 0",
    PLIN, "patch 1 1\n", "1 0 0 2 0 0 0\n0 1 0 0 3 0 0\n0 0 1 0 0 0 1\n")
 PLIN2 = f1(2, 1) + f2(1, 0, 0, 0, 1, 0, 0, 0, 1) + f3((0, 0, 0, 1), (0, 0, 0, 0), (2, 0, 0, 0))
 pt("q-patch-nowhere", (0, 1, 0), "nowhere\n", "patch, all four polynomials vanish at s",
@@ -644,6 +644,48 @@ ALL = [(n, c, MAXREC + b"\0" * (3000 - 1017) if n == "r2-after-1017" else r, x)
 E3 = [(i, j, 3 - i - j) for i in range(3, -1, -1) for j in range(3 - i, -1, -1)]
 ALL = [(n, c, r, "patch 3 6\n" + "".join("%d %d %d %d 0 0 6\n" % (i, j, k, i * j) for i, j, k in E3)
         if n == "ok-patch-3" else x) for n, c, r, x in ALL]
+
+# ------------------------------------------------------------------------------
+group("Lengths of directions: the divisor taken out, with which the direction is the point found, up to the sign")
+
+
+def along(x, y, z):
+    """x T, y T, z T and w = Z over the coordinates: the point (a, 0) is a x, a y, a z, 0."""
+    return f1(1, 1) + f2(1, 0, 0, 1) + f3((0, 0, 0, 1), (x, y, z, 0))
+
+
+def length(name, vector, line, comment, a=1, mv=(), entry=None):
+    """A point (a, 0) on such a line; `entry` is the first entry after the moves."""
+    pt(name, (a, 0), line, comment, along(*vector), "curve 1 1\n",
+       "0 %d %d %d 0\n1 0 0 0 1\n" % (entry or vector), f4(*mv) if mv else b"")
+
+
+length("len-one", (2, 3, 5), "far 2 3 5 1\n", "no common divisor but 1")
+length("len-each-two", (10, -6, 15), "far 10 -6 15 1\n", "each two of 10 -6 15 have a divisor, all three have none")
+length("len-not-x-y", (6, 12, 15), "far 2 4 5 3\n", "x and y have 6, all three have 3")
+length("len-not-x-z", (12, 8, 6), "far 6 4 3 2\n", "x and z have 6, x and y have 4, all three have 2")
+length("len-not-y-z", (-15, 12, 18), "far 5 -4 -6 3\n", "y and z have 6, all three have 3; x negative, the length is not")
+length("len-y-first", (0, -6, 4), "far 0 3 -2 2\n", "x is 0, so y is made positive")
+length("len-two-zeros", (0, 0, -9), "far 0 0 1 9\n", "z alone: its absolute value")
+length("len-grows", (2, -4, 6), "far 1 -2 3 6\n", "3 r in r's place: three times the length",
+       mv=[(REPL, 1, 3, 0, 0)], entry=(6, -12, 18))
+length("len-flip", (2, -4, 6), "far 1 -2 3 2\n", "r flipped: the same direction and length",
+       mv=[(FLP, 1, 0, 0, 0)], entry=(-2, 4, -6))
+# L is 2, U = 3, V = 5, Z = 0: z is 2 x 15
+pt("len-scaled", (3, 5, -8), "far 0 0 1 30\n", "B8's point (3, 5, -8) is 0 0 30 0: the length has the scale in it",
+   P, PHEAD, PNET)
+# twice 4096 r, then 16 times that: 2^20 x 2^24 x 2^4
+TO44 = [(REPL, 1, 4096, 0, 0)] * 2
+length("len-largest", (1048576, 0, 0), "far 1 0 0 281474976710656\n", "2 to the 48th, the largest length",
+       16, TO44, (17592186044416, 0, 0))
+length("len-largest-negative", (-1048576, 1048576, -1048576), "far 1 -1 1 281474976710656\n",
+       "the same, of components of both signs", 16, TO44, (-17592186044416, 17592186044416, -17592186044416))
+length("len-past-largest", (0, 1048576, 0), "point refused 10\n", "17 for 16: the length would be 17 x 2^44",
+       17, TO44, (0, 17592186044416, 0))
+# w = 0, and at s the three are -1, 1, 2, so that the point (16, 1) is 2^48 - 1, 1 - 2^48, 2 - 2^48
+S("len-widest", f1(1, 1) + f2(1, 0, 0, 1) + f3((-1, 1, 2, 0), (1048576, -1048576, -1048576, 0)) + f4(*TO44)
+  + f5(16, 1), "curve 1 1\n0 17592186044416 -17592186044416 -17592186044416 0\n1 -1 1 2 0\n"
+  "far 281474976710655 -281474976710655 -281474976710654 1\n", "the longest line of a direction, 56 bytes")
 
 
 def main():

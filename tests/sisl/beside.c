@@ -116,9 +116,9 @@ static int same_net(const int64_t *a, const int64_t *b)
 
 static void projected(const int64_t *entry, uint64_t *bits)
 {
-    int64_t direction[3];
+    int64_t direction[4];
     uint8_t outcome;
-    if (gadwemosh_project(entry[0], entry[1], entry[2], entry[3], &outcome, bits, 3, direction, 3) != 0 ||
+    if (gadwemosh_project(entry[0], entry[1], entry[2], entry[3], &outcome, bits, 3, direction, 4) != 0 ||
         outcome != GADWEMOSH_FINITE)
         fail("an end point is not finite");
 }

@@ -38,15 +38,15 @@ pub clauses-of : {number outcome : ℕ} {bits : List ℕ} {direction : List ℤ}
 clauses-of {number} {outcome} {bits} {direction} e = subst (λ x. Projects number outcome bits direction x) e
 
 module _ (p : Projection) (bits : List ℕ) (direction : List ℤ) where
-  by-room : (t : Bool) → (leb 3 (length bits) && leb 3 (length direction)) ≡ t → cond t (told p bits direction) (untold bits direction) ≡ projectionReturned p bits direction
+  by-room : (t : Bool) → (leb 3 (length bits) && leb 4 (length direction)) ≡ t → cond t (told p bits direction) (untold bits direction) ≡ projectionReturned p bits direction
   unfolding projectionReturned
   by-room t is = sym (ap (λ b. cond b (told p bits direction) (untold bits direction)) is)
 
   pub bits-short : length bits < 3 → untold bits direction ≡ projectionReturned p bits direction
-  bits-short few = by-room false (ap (λ b. b && leb 3 (length direction)) (lt-leb 3 (length bits) few))
+  bits-short few = by-room false (ap (λ b. b && leb 4 (length direction)) (lt-leb 3 (length bits) few))
 
-  pub direction-short : 3 ≤ length bits → length direction < 3 → untold bits direction ≡ projectionReturned p bits direction
-  direction-short enough few = by-room false (ap₂ _&&_ (le-leb 3 (length bits) enough) (lt-leb 3 (length direction) few))
+  pub direction-short : 3 ≤ length bits → length direction < 4 → untold bits direction ≡ projectionReturned p bits direction
+  direction-short enough few = by-room false (ap₂ _&&_ (le-leb 3 (length bits) enough) (lt-leb 4 (length direction) few))
 
-  pub with-room : 3 ≤ length bits → 3 ≤ length direction → told p bits direction ≡ projectionReturned p bits direction
-  with-room enough more = by-room true (ap₂ _&&_ (le-leb 3 (length bits) enough) (le-leb 3 (length direction) more))
+  pub with-room : 3 ≤ length bits → 4 ≤ length direction → told p bits direction ≡ projectionReturned p bits direction
+  with-room enough more = by-room true (ap₂ _&&_ (le-leb 3 (length bits) enough) (le-leb 4 (length direction) more))

@@ -24,7 +24,7 @@ pub record ProjectionReturned : Type 0 where
   pub bits : List ℕ
   pub direction : List ℤ
 
--- with room for three numbers in both: a finite point's bit patterns are put into the ones, a direction's numbers into the others, and all other places stay
+-- with room: a finite point's three bit patterns are put into the ones, a direction's three numbers and its length into the others, and all other places stay
 abbrev pub told : Projection → List ℕ → List ℤ → ProjectionReturned
 told p bits direction =
     record {
@@ -34,9 +34,9 @@ told p bits direction =
       direction = putAt 0 (directionNumbers p) direction;
     }
 
--- 'output buffer shorter': 11, and no place is written
+-- 'output buffer shorter', than 3 places for bit patterns or 4 for a direction: 11, and no place is written
 abbrev pub untold : List ℕ → List ℤ → ProjectionReturned
 untold bits direction = record { number = 11; outcome = 0; bits = bits; direction = direction }
 
 unfoldable pub projectionReturned : Projection → List ℕ → List ℤ → ProjectionReturned
-projectionReturned p bits direction = cond (leb 3 (length bits) && leb 3 (length direction)) (told p bits direction) (untold bits direction)
+projectionReturned p bits direction = cond (leb 3 (length bits) && leb 4 (length direction)) (told p bits direction) (untold bits direction)

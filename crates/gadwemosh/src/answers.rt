@@ -20,14 +20,15 @@ fn put_bits(patterns: &mut [u64], p: Coords)
     patterns[2] = bits(p.z);
 }
 
-// The numbers of a direction, into the first three places.
-fn put_direction(direction: &mut [i64], x: i64, y: i64, z: i64)
-    requires { ⌜ 3 ≤ length (now direction) ⌝ }
-    ensures { λ _. ⌜ now (direction .exit) ≡ putAt 0 (x ∷ y ∷ z ∷ []) (now (direction .entry)) ⌝ }
+// The numbers of a direction and its length, into the first four places.
+fn put_direction(direction: &mut [i64], x: i64, y: i64, z: i64, divisor: i64)
+    requires { ⌜ 4 ≤ length (now direction) ⌝ }
+    ensures { λ _. ⌜ now (direction .exit) ≡ putAt 0 (x ∷ y ∷ z ∷ divisor ∷ []) (now (direction .entry)) ⌝ }
 {
     direction[0] = x;
     direction[1] = y;
     direction[2] = z;
+    direction[3] = divisor;
 }
 
 // The number of a projection, with its case, and its bit patterns or its direction, put into their places.
@@ -37,7 +38,7 @@ pub(crate) fn write_projection(
     direction: &mut [i64],
     projection: Projection,
 ) -> u8
-    requires { ⌜ (3 ≤ length (now patterns)) × (3 ≤ length (now direction)) ⌝ }
+    requires { ⌜ (3 ≤ length (now patterns)) × (4 ≤ length (now direction)) ⌝ }
     ensures number { λ r. ⌜ r ≡ told projection (now (patterns .entry)) (now (direction .entry)) .number ⌝ }
     ensures outcome { λ _. ⌜ now (outcome .exit) ≡ told projection (now (patterns .entry)) (now (direction .entry)) .outcome ⌝ }
     ensures patterns { λ _. ⌜ now (patterns .exit) ≡ told projection (now (patterns .entry)) (now (direction .entry)) .bits ⌝ }
@@ -50,7 +51,7 @@ pub(crate) fn write_projection(
             0
         }
         Projection::Direction(d) => {
-            put_direction(direction, d.x, d.y, d.z);
+            put_direction(direction, d.x, d.y, d.z, d.length);
             *outcome = 2;
             0
         }

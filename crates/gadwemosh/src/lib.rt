@@ -100,9 +100,9 @@ pub extern "C" fn gadwemosh_point(net: &[i64], r: i64, s: i64, t: i64, found: &m
     find_point(net, Weights { r, s, t, u: 0 }, found)
 }
 
-// Projects four numbers: `outcome` is 1 for a finite point, whose bit patterns go into `bits`, 2 for a
-// direction, whose numbers go into `direction`, and 3 for nowhere. A refusal has outcome 0. What is not
-// written stays.
+// Projects four numbers: `outcome` is 1 for a finite point, whose three bit patterns go into `bits`, 2 for a
+// direction, whose three numbers go into `direction` with its length behind them, and 3 for nowhere. A refusal
+// has outcome 0. What is not written stays.
 #[no_mangle]
 pub extern "C" fn gadwemosh_project(
     x: i64,
@@ -122,7 +122,7 @@ pub extern "C" fn gadwemosh_project(
     if bits.len() < 3 {
         return 11;
     }
-    if direction.len() < 3 {
+    if direction.len() < 4 {
         return 11;
     }
     let projection = project(x, y, z, w);

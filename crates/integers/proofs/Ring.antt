@@ -5,12 +5,14 @@
 -- Two expressions have one value where the difference of their polynomials has no coefficient but zero (`solve`). That needs no order of the terms, so none is proved.
 use mathlib.Core.Path.{_≡_, refl, sym, _∙_, ap, ap₂}
 use mathlib.Core.Bool.{Bool, true, false, _&&_}
+use mathlib.Core.Logic.{⊎-elim}
 use mathlib.Core.List.{List, [], _∷_}
-use Prim.Native.Nat.{ℕ, zero, suc, _+_, _*_, compare, Ordering, Ordering·lt, Ordering·eq, Ordering·gt}
+use Prim.Native.Nat.{ℕ, zero, suc, _+_, _*_, _<_, compare, Ordering, Ordering·lt, Ordering·eq, Ordering·gt}
 use native.Mathlib.Numerals.{add-one}
+use native.Mathlib.Omega.{arith}
 use lib.Dec.{T, leb, eqb, isEq, eqb→eq}
-use lib.IntN.{ℤ, pos, negsuc, negℤ, _+ℤ_, _-ℤ_, _*ℤ_, +ℤ-assoc, +ℤ-comm, +ℤ-idl, +ℤ-idr, +ℤ-invr, -ℤ-+ℤ-cancel, zero-*ℤ, *ℤ-zero, *ℤ-comm}
-use Rattle.integers.proofs.Laws.{*ℤ-assoc, *ℤ-distl, *ℤ-distr, one-*ℤ, neg-is-times}
+use lib.IntN.{ℤ, pos, negsuc, negℤ, natAbs, _+ℤ_, _-ℤ_, _*ℤ_, +ℤ-assoc, +ℤ-comm, +ℤ-idl, +ℤ-idr, +ℤ-invr, -ℤ-+ℤ-cancel, zero-*ℤ, *ℤ-zero, *ℤ-comm}
+use Rattle.integers.proofs.Laws.{*ℤ-assoc, *ℤ-distl, *ℤ-distr, one-*ℤ, neg-is-times, *ℤ-zero-split}
 
 -- ---- expressions
 
@@ -297,3 +299,12 @@ ring ρ (e-both e f) t = solve e f t
 -- an equation that follows from another one, h: the difference of its sides is k times that of h's sides
 pub ring-from : {x y u v : ℤ} (k : ℤ) → u ≡ v → x -ℤ y ≡ k *ℤ (u -ℤ v) → x ≡ y
 ring-from {x} {y} {u} {v} k h e = difference-zero x y (e ∙ ap (λ z. k *ℤ (z -ℤ v)) h ∙ ap (λ z. k *ℤ z) (+ℤ-invr v) ∙ *ℤ-zero k)
+
+-- a common factor that is not 0 may be cancelled: times the difference it is 0
+pub cancel : (k : ℕ) (a b : ℤ) → 0 < k → pos k *ℤ a ≡ pos k *ℤ b → a ≡ b
+cancel k a b h p =
+    ⊎-elim (λ z. absurd (not-zero (ap natAbs z))) (difference-zero a b)
+    (*ℤ-zero-split (pos k) (a -ℤ b) (ring (pos k ∷ a ∷ b ∷ []) (search ring-rules depth 60) tt ∙ ap (λ x. x -ℤ pos k *ℤ b) p ∙ +ℤ-invr (pos k *ℤ b)))
+  where
+    not-zero : k ≡ 0 → ⊥
+    not-zero e = omega arith

@@ -27,12 +27,22 @@ use Rattle.machine.proofs.Refusals.{none-failed, row-passes}
 
 -- ---- places
 
--- three numbers written one by one at the front, seen by taking the list apart
-pub three-put : {A : Type 0} (xs : List A) (a b c : A) → 3 ≤ length xs → set (set (set xs 0 a) 1 b) 2 c ≡ putAt 0 (a ∷ b ∷ c ∷ []) xs
-three-put [] a b c h = absurd (omega arith)
-three-put (x ∷ []) a b c h = absurd (omega arith)
-three-put (x ∷ y ∷ []) a b c h = absurd (omega arith)
-three-put (x ∷ y ∷ z ∷ xs) a b c h = refl
+-- numbers written one by one, from place k on
+abbrev pub setFrom : {A : Type 0} → ℕ → List A → List A → List A
+setFrom k [] xs = xs
+setFrom k (a ∷ ys) xs = setFrom (suc k) ys (set xs k a)
+
+-- from the front on they are put there: past the first one, the same is done to the rest of the list
+set-past : {A : Type 0} (k : ℕ) (ys : List A) (x : A) (xs : List A) → setFrom (suc k) ys (x ∷ xs) ≡ x ∷ setFrom k ys xs
+set-past k [] x xs = refl
+set-past k (a ∷ ys) x xs = set-past (suc k) ys x (set xs k a)
+
+pub front-put : {A : Type 0} (ys xs : List A) → length ys ≤ length xs → setFrom 0 ys xs ≡ putAt 0 ys xs
+front-put [] xs h = refl
+front-put (a ∷ ys) [] h = absurd (omega arith)
+front-put (a ∷ ys) (x ∷ xs) h =
+    let past : suc (0 + length ys) ≡ 0 + suc (length ys) = omega arith in
+    set-past 0 ys a xs ∙ ap (λ l. a ∷ l) (front-put ys xs (omega arith)) ∙ ap (λ k. a ∷ (ys ++ drop k (x ∷ xs))) past
 
 byte-back : (n : ℕ) → n < 256 → byteOf (pos n) ≡ n
 byte-back n h = ap (λ b. cond b n 255) (le-leb n 255 (omega arith))

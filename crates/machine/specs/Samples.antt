@@ -88,8 +88,9 @@ found numbers projected = pos 0 ∷ (numbers ++ projected)
 abbrev finite : ℕ → ℕ → ℕ → List ℤ
 finite x y z = pos x ∷ pos y ∷ pos z ∷ []
 
-abbrev direction : ℤ → ℤ → ℤ → List ℤ
-direction x y z = x ∷ y ∷ z ∷ []
+-- a direction and its length
+abbrev direction : ℤ → ℤ → ℤ → ℕ → List ℤ
+direction x y z length = x ∷ y ∷ z ∷ pos length ∷ []
 
 -- ---- the polynomials
 
@@ -144,7 +145,7 @@ samples =
       frame = row 0 1 1 1;
       calls = point (pos 2) (minus 1) (pos 0) (pos 0) ∷ [];
       net = row 0 0 0 3 ∷ row 3 0 0 3 ∷ row 6 3 0 3 ∷ row 9 9 0 6 ∷ [];
-      answers = found (signed (minus 9) (pos 9) (pos 0) (pos 0)) (direction (pos 1) (minus 1) (pos 0)) ∷ [];
+      answers = found (signed (minus 9) (pos 9) (pos 0) (pos 0)) (direction (pos 1) (minus 1) (pos 0) 9) ∷ [];
     }
     ∷  -- B8 and B9
     record {
@@ -206,7 +207,7 @@ samples =
       net = row 0 0 0 0 ∷ signed (pos 0) (pos 3) (pos 0) (minus 2) ∷ signed (minus 8) (pos 12) (pos 0) (pos 0) ∷ [];
       answers =
           found (row 0 0 0 0) []
-          ∷ found (signed (minus 8) (pos 12) (pos 0) (pos 0)) (direction (pos 2) (minus 3) (pos 0))
+          ∷ found (signed (minus 8) (pos 12) (pos 0) (pos 0)) (direction (pos 2) (minus 3) (pos 0) 4)
           ∷ found (signed (minus 8) (pos 18) (pos 0) (minus 4)) (finite 0x4000000000000000 0xc012000000000000 0)
           ∷ [];
     }

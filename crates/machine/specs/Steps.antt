@@ -22,7 +22,7 @@ refusalNumber Taken = 0
 refusalNumber (Found x y z w at) = 0
 refusalNumber (Refused k) = k
 
--- the values of a projection: the three bit patterns of a finite point, or the three numbers of a direction; nowhere has none
+-- the values of a projection: the three bit patterns of a finite point, or the three numbers of a direction and its length; nowhere has none
 abbrev pub projectionValues : Projection → List ℤ
 projectionValues p = map pos (coordinateBits p) ++ directionNumbers p
 

@@ -22,6 +22,7 @@ use Rattle.kinds.specs.Kinds.{group, groupsOf, dimensionOf, known}
 use Rattle.kinds.specs.Frames.{vertexCount}
 use Rattle.machine.specs.Refusals.{_else_, firstFailed}
 use Rattle.machine.proofs.Refusals.{testAt, row-passes}
+use Rattle.machine.proofs.Lent.{front-put}
 use Rattle.machine.specs.Calls.{weightList, beforeSize}
 use Rattle.machine.specs.Sizes.{namedBy, allNamed}
 use Rattle.machine.specs.Steps.{foundAt, pointValues}
@@ -68,11 +69,7 @@ copied-front xs ys k h l =
 -- four numbers written at the front
 four-put : (xs : List ℤ) (g : ℕ → ℤ) → 4 ≤ length xs → written xs 0 4 g ≡ putAt 0 (g 0 ∷ g 1 ∷ g 2 ∷ g 3 ∷ []) xs
 unfolding written
-four-put [] g h = absurd (omega arith)
-four-put (a ∷ []) g h = absurd (omega arith)
-four-put (a ∷ b ∷ []) g h = absurd (omega arith)
-four-put (a ∷ b ∷ c ∷ []) g h = absurd (omega arith)
-four-put (a ∷ b ∷ c ∷ d ∷ xs) g h = refl
+four-put xs g h = front-put (g 0 ∷ g 1 ∷ g 2 ∷ g 3 ∷ []) xs h
 
 -- ---- a handed net that is not refused
 

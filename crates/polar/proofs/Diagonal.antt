@@ -5,15 +5,14 @@ use Prim.Native.Nat.{ℕ, zero, suc, _+_, _*_, _-_, _<_, _≤_, zero-le, suc-le-
 use native.Mathlib.Nat.{le-of-suc-le-suc, not-suc-le-zero, mul-pos, mul-zero, div-eq-of-eq-mul-right, mul-comm, add-suc, suc-add, zero-add, add-zero}
 use native.Mathlib.Omega.{arith}
 use mathlib.Core.Path.{_≡_, refl, sym, ap, ap₂, _∙_}
-use mathlib.Core.Logic.{⊎-elim}
 use mathlib.Core.List.{List, [], _∷_}
-use lib.IntN.{ℤ, pos, natAbs, _+ℤ_, _-ℤ_, _*ℤ_, *ℤ-zero, +ℤ-invr}
+use lib.IntN.{ℤ, pos, natAbs, _+ℤ_, _*ℤ_, *ℤ-zero}
 use lib.Dec.{lit≤}
 use lib.ListN.{getD, length, replicate, getD-replicate}
 use Rattle.integers.specs.Sum.{sum, upto}
 use Rattle.integers.proofs.Sums.{sum-cong, sum-upto-cong, sum-map, sum-*l, sum-*r, sum-zero, sum-upto-snoc}
-use Rattle.integers.proofs.Laws.{*ℤ-distl, *ℤ-distr, natAbs-*, *ℤ-zero-split}
-use Rattle.integers.proofs.Ring.{ring, ring-rules, ring-from, difference-zero}
+use Rattle.integers.proofs.Laws.{*ℤ-distl, *ℤ-distr, natAbs-*}
+use Rattle.integers.proofs.Ring.{ring, ring-rules, ring-from, cancel}
 use Rattle.polar.specs.Sigma.{Point, Exponents, lowered, unit, σ}
 use Rattle.polar.specs.Order.{total}
 use Rattle.polar.specs.Scale.{factorial, factorials, multinomial}
@@ -193,13 +192,6 @@ ways-exact n m z e l t =
   where
     s : ℤ
     s = σ (suc n) (replicate m (ones (suc n))) e
-
--- no side is 0, so a common factor may be cancelled
-cancel : (k : ℕ) (a b : ℤ) → 0 < k → pos k *ℤ a ≡ pos k *ℤ b → a ≡ b
-cancel k a b h p = ⊎-elim (λ z. absurd (not-zero (ap natAbs z))) (difference-zero a b) (*ℤ-zero-split (pos k) (a -ℤ b) (ring (pos k ∷ a ∷ b ∷ []) (search ring-rules depth 60) tt ∙ ap (λ x. x -ℤ pos k *ℤ b) p ∙ +ℤ-invr (pos k *ℤ b)))
-  where
-    not-zero : k ≡ 0 → ⊥
-    not-zero e = omega arith
 
 module _ (n m : ℕ) (e : Exponents) (l : length e ≡ n) (t : total e ≤ m) where
   left : ℕ

@@ -5,7 +5,8 @@ use mathlib.Core.List.{[], _∷_, map}
 use lib.IntN.{ℤ}
 use lib.Ieee.{binary64, toBits}
 use Rattle.projection.specs.declared.Projection.{Projection}
-use Rattle.projection.specs.Projection.{allInRange, isZero, allZero, quotientOf, coordsOf, directionOf, projectionBy, projectionOf, refusal, coordinates, coordinateBits, directionNumbers, Projected}
+use Rattle.projection.specs.Projection.{allInRange, isZero, allZero, quotientOf, coordsOf, directionOf, projectionBy, projectionOf, refusal, coordinates, coordinateBits, directionNumbers, DirectionReduced, Projected}
+use Rattle.projection.proofs.Directions.{reduced}
 
 module _ (x y z w : ℤ) where
   number : (a b c : Bool) → refusal (projectionBy a b c x y z w) ≡ cond a 0 10
@@ -22,12 +23,19 @@ module _ (x y z w : ℤ) where
   finite true true false = refl
   finite true true true = refl
 
-  far : (a b c : Bool) → let d = directionOf x y z in directionNumbers (projectionBy a b c x y z w) ≡ cond (a && b && not c) (d .x ∷ d .y ∷ d .z ∷ []) []
+  far : (a b c : Bool) → let d = directionOf x y z in directionNumbers (projectionBy a b c x y z w) ≡ cond (a && b && not c) (d .x ∷ d .y ∷ d .z ∷ d .length ∷ []) []
   unfolding projectionBy
   far false b c = refl
   far true false c = refl
   far true true false = refl
   far true true true = refl
+
+  direction-reduced : (a b c : Bool) → allZero x y z ≡ c → DirectionReduced x y z (projectionBy a b c x y z w)
+  unfolding projectionBy
+  direction-reduced false b c h = tt
+  direction-reduced true false c h = tt
+  direction-reduced true true false h = reduced x y z h
+  direction-reduced true true true h = tt
 
   told : Projected x y z w (projectionOf x y z w)
   unfolding projectionOf coordinateBits
@@ -35,7 +43,7 @@ module _ (x y z w : ℤ) where
       let a = allInRange x y z w in
       let b = isZero w in
       let c = allZero x y z in
-      (number a b c, finite a b c, ap (map (toBits binary64)) (finite a b c), far a b c)
+      (number a b c, finite a b c, ap (map (toBits binary64)) (finite a b c), far a b c, direction-reduced a b c refl)
 
   -- what equals the definition's answer tells the same
   pub projected : {p : Projection} → p ≡ projectionOf x y z w → (p ≡ projectionOf x y z w) × Projected x y z w p

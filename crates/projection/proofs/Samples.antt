@@ -4,8 +4,8 @@ use mathlib.Core.List.{[], _∷_}
 use lib.IntN.{pos, negsuc, negℤ}
 use Rattle.projection.specs.Projection.{limit, projectionOf, refusal, coordinateBits, directionNumbers}
 
--- B7: the folium's point -9 9 0 0 is the direction 1 -1 0
-pub folium : directionNumbers (projectionOf (negsuc 8) (pos 9) (pos 0) (pos 0)) ≡ pos 1 ∷ negsuc 0 ∷ pos 0 ∷ []
+-- B7: the folium's point -9 9 0 0 is the direction 1 -1 0 with length 9
+pub folium : directionNumbers (projectionOf (negsuc 8) (pos 9) (pos 0) (pos 0)) ≡ pos 1 ∷ negsuc 0 ∷ pos 0 ∷ pos 9 ∷ []
 unfolding projectionOf
 folium = refl
 
@@ -27,3 +27,8 @@ at-the-limit = refl
 pub past-the-limit : refusal (projectionOf (pos 0) (pos 0) (pos 0) (negsuc limit)) ≡ 10
 unfolding projectionOf
 past-the-limit = refl
+
+-- the largest length is the limit
+pub longest : directionNumbers (projectionOf (pos 0) (negℤ (pos limit)) (pos limit) (pos 0)) ≡ pos 0 ∷ pos 1 ∷ negsuc 0 ∷ pos limit ∷ []
+unfolding projectionOf
+longest = refl

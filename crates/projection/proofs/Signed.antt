@@ -2,12 +2,12 @@
 -- so each law follows from one on v, by cases on its sign.
 use mathlib.Core.Path.{_≡_, refl, sym, ap, _∙_, subst}
 use mathlib.Core.Bool.{Bool, true, false, _&&_}
-use Prim.Native.Nat.{ℕ, suc, _-_, _/_, _^_, _≤_, _<_}
+use Prim.Native.Nat.{ℕ, zero, suc, _-_, _/_, _^_, _≤_, _<_}
 use native.Mathlib.Nat.{div-le-self, le-trans}
 use native.Mathlib.Omega.{arith}
 use borrow.Author.Tests.{leb-true, eq-eqb, ne-eqb, le-ltb}
 use lib.Dec.{T, eqb}
-use lib.IntN.{ℤ, pos, negsuc, negℤ, natAbs, _-ℤ_}
+use lib.IntN.{ℤ, pos, negsuc, negℤ, natAbs, _-ℤ_, negℤ-negℤ}
 use lib.Signed.{ltZ, quotZ}
 use lib.Ieee.{binary64, inFloat}
 use mir.Syntax.{w64}
@@ -112,34 +112,12 @@ module _ (v d : ℤ) (h : natAbs v ≤ limit) (f : SFits w64 d) where
   pub quot-is : seen (quotZ (seen v) (seen d)) ≡ quotZ v d
   quot-is = back-fits quot-fits ∙ quot-back
 
-  pub quot-is-in-range : natAbs (seen (quotZ (seen v) (seen d))) ≤ limit
-  quot-is-in-range = subst (λ (u : ℤ). natAbs u ≤ limit) (sym quot-is) quot-in-range
-
--- a quotient, negated or not, as a result
-negated-quot-back : (b : Bool) (v d : ℤ) → natAbs v ≤ limit → seen (negatedIf b (quotZ v d)) ≡ negatedIf b (quotZ v d)
-negated-quot-back b v d h =
-    back-fits
-    (in-range-fits (negatedIf b (quotZ v d)) (subst (λ (n : ℕ). n ≤ limit) (sym (natAbs-negated b (quotZ v d))) (le-trans (quot-small v d) h)))
-
-pub reduced-is : (b : Bool) (v d r : ℤ) → natAbs v ≤ limit → SFits w64 d
-    → r ≡ negatedIf b (seen (quotZ (seen v) (seen d))) → seen r ≡ negatedIf b (quotZ v d)
-reduced-is b v d r h f e = ap seen (e ∙ ap (λ (u : ℤ). negatedIf b u) (quot-is v d h f)) ∙ negated-quot-back b v d h
-
--- a component of a direction, from the divisor's and the sign's values
-module _ (v d : ℤ) (g : ℕ) (h : natAbs v ≤ limit) (k : g ≤ limit) (e : d ≡ pos g) where
-  divisor-back : seen d ≡ pos g
-  divisor-back = ap seen e ∙ back-fits (in-range-fits (pos g) k)
-
-  pub component-asks : 0 < g → (natAbs (seen v) ≤ limit) × (0 < natAbs (seen d))
-  component-asks p = (
-    subst (λ (u : ℤ). natAbs u ≤ limit) (sym (back-fits (in-range-fits v h))) h,
-    subst (λ (u : ℤ). 0 < natAbs u) (sym divisor-back) p,
-  )
-
-  pub component-is : (b b′ : Bool) (r : ℤ) → b ≡ b′ → r ≡ negatedIf b (quotZ (seen v) (seen d)) → seen r ≡ negatedIf b′ (quotZ v (pos g))
-  component-is b b′ r p q =
-      ap seen (q ∙ (λ i. negatedIf (p i) (quotZ (back-fits (in-range-fits v h) i) (divisor-back i))))
-      ∙ negated-quot-back b′ v (pos g) h
+-- a divisor's sign is the quotient's
+pub quot-negated : (b : Bool) (v : ℤ) (g : ℕ) → 0 < g → quotZ v (negatedIf b (pos g)) ≡ negatedIf b (quotZ v (pos g))
+quot-negated false v g above = refl
+quot-negated true v zero above = absurd (omega arith)
+quot-negated true (pos a) (suc g) above = refl
+quot-negated true (negsuc a) (suc g) above = sym (negℤ-negℤ (pos (suc a / suc g)))
 
 -- a divisor that is not 0 has bits that are not 0
 pub divisor-bits : (d : ℤ) → SFits w64 d → 0 < natAbs d → 0 < ofZ w64 d

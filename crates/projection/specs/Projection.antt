@@ -4,13 +4,13 @@ use mathlib.Core.Path.{_≡_}
 use mathlib.Core.Bool.{Bool, true, false, not, _&&_, cond}
 use mathlib.Core.List.{List, [], _∷_, map}
 use lib.Dec.{eqb}
-use lib.IntN.{ℤ, pos, negsuc, negℤ, natAbs}
+use lib.IntN.{ℤ, pos, negsuc, negℤ, natAbs, _*ℤ_}
 use lib.Signed.{quotZ}
 use lib.Ieee.{Float, fin, binary64, ofInt, div, toBits}
 use Rattle.integers.specs.Test.{within}
 use Rattle.projection.specs.Gcd.{gcd}
 use Rattle.projection.specs.declared.Coords.{Coords}
-use Rattle.projection.specs.declared.PrimitiveVector.{PrimitiveVector}
+use Rattle.projection.specs.declared.ReducedVector.{ReducedVector}
 use Rattle.projection.specs.declared.Projection.{Projection}
 use Rattle.projection.specs.declared.Projection.the-variants.{Finite, Direction, Nowhere, OutOfRange}
 
@@ -39,6 +39,9 @@ allZero x y z = isZero x && isZero y && isZero z
 abbrev pub isNegative : ℤ → Bool
 isNegative (pos n) = false
 isNegative (negsuc n) = true
+
+abbrev pub isPositive : ℤ → Bool
+isPositive v = not (isNegative v) && not (isZero v)
 
 -- of three numbers the first that is not 0, and the last where all are 0
 abbrev pub firstNonzero : ℤ → ℤ → ℤ → ℤ
@@ -71,9 +74,9 @@ negatedIf false v = v
 abbrev pub gcdOf : ℤ → ℤ → ℤ → ℕ
 gcdOf x y z = gcd (natAbs x ∷ natAbs y ∷ natAbs z ∷ [])
 
--- The direction: the components reduced by their common divisor, with the sign that makes the first one that is not 0 positive.
--- `quotZ` is the library's quotient of two integers. Here it is exact: the divisor times the direction's component is the old component, up to the one sign (proofs/Directions.antt).
-unfoldable pub directionOf : ℤ → ℤ → ℤ → PrimitiveVector
+-- The direction: the components reduced by their common divisor, with the sign that makes the first one that is not 0 positive; and the divisor, which is its length.
+-- `quotZ` is the library's quotient of two integers. Here it is exact: `Reduced` says so without it.
+unfoldable pub directionOf : ℤ → ℤ → ℤ → ReducedVector
 unfolding gcd
 directionOf x y z =
     let divisor = pos (gcdOf x y z) in
@@ -82,7 +85,23 @@ directionOf x y z =
       x = negatedIf negative (quotZ x divisor);
       y = negatedIf negative (quotZ y divisor);
       z = negatedIf negative (quotZ z divisor);
+      length = divisor;
     }
+
+-- What a direction with its length is to (x, y, z)
+pub record Reduced (x y z : ℤ) (d : ReducedVector) : Type 0 where
+  -- 'the divisor it took out' is positive
+  pub length-positive : isPositive (d .length) ≡ true
+  -- 'the products are the old components, up to the sign made positive': the sign is one for all three, and it is that of the first one that is not 0
+  pub products : map (λ v. d .length *ℤ v) (d .x ∷ d .y ∷ d .z ∷ []) ≡ map (negatedIf (isNegative (firstNonzero x y z))) (x ∷ y ∷ z ∷ [])
+  -- the first of the direction's numbers that is not 0 is positive
+  pub first-positive : isPositive (firstNonzero (d .x) (d .y) (d .z)) ≡ true
+  -- no divisor is left to be taken out
+  pub nothing-left : gcdOf (d .x) (d .y) (d .z) ≡ 1
+
+-- these four sentences fix direction and length: nothing else is a reduction
+abbrev pub OneReduction : Type 0
+OneReduction = (x y z : ℤ) (d : ReducedVector) → Reduced x y z d → d ≡ directionOf x y z
 
 -- ---- the four cases
 
@@ -120,10 +139,10 @@ unfoldable pub coordinateBits : Projection → List ℕ
 unfolding toBits
 coordinateBits p = map (toBits binary64) (coordinates p)
 
--- the values of a direction, x, y, z, as they are printed after `far`; the other cases have none
+-- the values of a direction, x, y, z and its length, as they are printed after `far`; the other cases have none
 abbrev pub directionNumbers : Projection → List ℤ
 directionNumbers (Finite p) = []
-directionNumbers (Direction d) = d .x ∷ d .y ∷ d .z ∷ []
+directionNumbers (Direction d) = d .x ∷ d .y ∷ d .z ∷ d .length ∷ []
 directionNumbers Nowhere = []
 directionNumbers OutOfRange = []
 
@@ -133,13 +152,20 @@ directionNumbers OutOfRange = []
 abbrev pub quotients : ℤ → ℤ → ℤ → ℤ → List Float
 quotients x y z w = cond (allInRange x y z w && not (isZero w)) (quotientOf x w ∷ quotientOf y w ∷ quotientOf z w ∷ []) []
 
--- the direction's numbers, where the four are in range, w is 0 and another is not; otherwise none
+-- the direction's numbers and its length, where the four are in range, w is 0 and another is not; otherwise none
 abbrev pub reducedNumbers : ℤ → ℤ → ℤ → ℤ → List ℤ
 reducedNumbers x y z w =
     let d = directionOf x y z in
-    cond (allInRange x y z w && isZero w && not (allZero x y z)) (d .x ∷ d .y ∷ d .z ∷ []) []
+    cond (allInRange x y z w && isZero w && not (allZero x y z)) (d .x ∷ d .y ∷ d .z ∷ d .length ∷ []) []
 
--- What an answer tells of (x, y, z, w): 10 exactly where a number is out of range, then the quotients and their bit patterns, and the direction.
+-- of a direction what its reduction is; the other cases reduce nothing
+abbrev pub DirectionReduced : ℤ → ℤ → ℤ → Projection → Type 0
+DirectionReduced x y z (Finite p) = Unit {0}
+DirectionReduced x y z (Direction d) = Reduced x y z d
+DirectionReduced x y z Nowhere = Unit {0}
+DirectionReduced x y z OutOfRange = Unit {0}
+
+-- What an answer tells of (x, y, z, w): 10 exactly where a number is out of range, then the quotients and their bit patterns, and the direction with its length, and that these are x, y and z reduced.
 -- Where nothing is refused and both lists are empty, the four numbers are 0: nowhere.
 abbrev pub Projected : ℤ → ℤ → ℤ → ℤ → Projection → Type 0
 Projected x y z w p =
@@ -147,3 +173,4 @@ Projected x y z w p =
     × (coordinates p ≡ quotients x y z w)
     × (coordinateBits p ≡ map (toBits binary64) (quotients x y z w))
     × (directionNumbers p ≡ reducedNumbers x y z w)
+    × DirectionReduced x y z p

@@ -6,9 +6,8 @@
 ghost use mathlib.Core.Path.{_≡_};
 ghost use mathlib.Core.Bool.{false};
 ghost use mathlib.Core.List.{[], _∷_};
-ghost use Prim.Native.Nat.{_≤_, _<_};
+ghost use Prim.Native.Nat.{_≤_};
 ghost use lib.IntN.{pos, natAbs};
-ghost use lib.Signed.{quotZ};
 ghost use lib.Ieee.{binary64, toBits};
 ghost use Rattle.projection.specs.Gcd.{gcd};
 ghost use Rattle.projection.specs.Projection.{
@@ -42,12 +41,13 @@ pub struct Coords {
     pub z: f64,
 }
 
-// A direction: three whole numbers whose greatest common divisor is 1 and of which the first
-// nonzero one is positive.
-pub struct PrimitiveVector {
+// A vector of whole numbers, reduced: its direction x, y, z, of greatest common divisor 1 and with the
+// first nonzero one positive, and its length, the positive divisor that was taken out.
+pub struct ReducedVector {
     pub x: i64,
     pub y: i64,
     pub z: i64,
+    pub length: i64,
 }
 
 // What a point is projected to.
@@ -55,7 +55,7 @@ pub enum Projection {
     // The weight is not 0.
     Finite(Coords),
     // The weight is 0 and another component is not.
-    Direction(PrimitiveVector),
+    Direction(ReducedVector),
     // All four components are 0.
     Nowhere,
     // A component is out of range: refusal 10.
@@ -175,25 +175,21 @@ fn divisor(x: i64, y: i64, z: i64) -> i64
     gcd_of_two(magnitude(x), last_two) as i64
 }
 
-// One component of the direction. Nothing is left over where d divides v.
-fn reduced(v: i64, d: i64, negative: bool) -> i64
-    requires { ⌜ (natAbs v ≤ limit) × (0 < natAbs d) ⌝ }
-    ensures { λ r. ⌜ r ≡ negatedIf negative (quotZ v d) ⌝ }
-{
-    negated_if(negative, v / d)
-}
-
-// One of the three is not 0, so the divisor is not 0.
-fn direction(x: i64, y: i64, z: i64) -> PrimitiveVector
+// The vector (x, y, z) reduced. One of the three is not 0, so the divisor is not 0, and nothing is left
+// over. The sign that makes the first nonzero one positive goes into the number that divides, not into
+// the length.
+fn direction(x: i64, y: i64, z: i64) -> ReducedVector
     requires { ⌜ (natAbs x ≤ limit) × (natAbs y ≤ limit) × (natAbs z ≤ limit) × (allZero x y z ≡ false) ⌝ }
     ensures { λ r. ⌜ r ≡ directionOf x y z ⌝ }
 {
-    let d = divisor(x, y, z);
+    let length = divisor(x, y, z);
     let negative = leads_negative(x, y, z);
-    PrimitiveVector {
-        x: reduced(x, d, negative),
-        y: reduced(y, d, negative),
-        z: reduced(z, d, negative),
+    let signed = negated_if(negative, length);
+    ReducedVector {
+        x: x / signed,
+        y: y / signed,
+        z: z / signed,
+        length,
     }
 }
 

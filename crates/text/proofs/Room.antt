@@ -21,6 +21,7 @@ use Rattle.entries.proofs.ListedOver.{counts-over}
 use Rattle.projection.specs.Projection.{limit, inRange, allInRange, isZero, allZero, isNegative, firstNonzero, negatedIf, gcdOf, coordsOf, directionOf, projectionBy, projectionOf}
 use Rattle.projection.specs.declared.Coords.{Coords}
 use Rattle.projection.specs.declared.Projection.the-variants.{Finite, Direction}
+use Rattle.projection.proofs.Gcd.{gcd-up-to}
 use Rattle.projection.proofs.Signed.{within, natAbs-negated, quot-small}
 use Rattle.kinds.specs.Kinds.{groupsOf, known}
 use Rattle.kinds.specs.Frames.{Frames}
@@ -218,44 +219,50 @@ net-room net right fits =
 
 -- ---- the point
 
-refused-point-room : (number : ℕ) → number ≤ 10 → length (pointRefusedLine number) ≤ 55
+refused-point-room : (number : ℕ) → number ≤ 10 → length (pointRefusedLine number) ≤ 72
 unfolding pointRefusedLine
 refused-point-room number small =
     let n = length-decimal number 2 (omega arith) (omega arith) in
-    line-room 55 (word "point" ∷ word "refused" ∷ decimal number ∷ []) (omega arith) (omega arith)
+    line-room 72 (word "point" ∷ word "refused" ∷ decimal number ∷ []) (omega arith) (omega arith)
 
--- a number of a direction is no longer than the component that it comes from may be
+-- a number of a direction is no longer than the component that it comes from may be, and neither is the length
 reduced-room : (b : Bool) (v d : ℤ) → natAbs v ≤ limit → length (signedDecimal (negatedIf b (quotZ v d))) ≤ 16
 reduced-room b v d h = length-component (negatedIf b (quotZ v d)) (omega (arith, natAbs-negated b (quotZ v d), quot-small v d))
 
-direction-room : (x y z : ℤ) → natAbs x ≤ limit → natAbs y ≤ limit → natAbs z ≤ limit → length (projectionLine (Direction (directionOf x y z))) ≤ 55
+direction-room : (x y z : ℤ) → natAbs x ≤ limit → natAbs y ≤ limit → natAbs z ≤ limit → length (projectionLine (Direction (directionOf x y z))) ≤ 72
 unfolding projectionLine directionOf
 direction-room x y z a b c =
     let g = pos (gcdOf x y z) in
     let negative = isNegative (firstNonzero x y z) in
-    line-room 55
-    (word "far" ∷ signedDecimal (negatedIf negative (quotZ x g)) ∷ signedDecimal (negatedIf negative (quotZ y g)) ∷ signedDecimal (negatedIf negative (quotZ z g)) ∷ [])
-    (omega (arith, reduced-room negative x g a, reduced-room negative y g b, reduced-room negative z g c))
+    line-room 72
+    (word "far" ∷ signedDecimal (negatedIf negative (quotZ x g)) ∷ signedDecimal (negatedIf negative (quotZ y g)) ∷ signedDecimal (negatedIf negative (quotZ z g)) ∷ signedDecimal g ∷ [])
+    (omega (
+      arith,
+      reduced-room negative x g a,
+      reduced-room negative y g b,
+      reduced-room negative z g c,
+      length-component g (gcd-up-to limit (natAbs x ∷ natAbs y ∷ natAbs z ∷ []) (a, (b, (c, tt)))),
+    ))
     (omega arith)
 
-finite-room : (p : Coords) → length (projectionLine (Finite p)) ≤ 55
+finite-room : (p : Coords) → length (projectionLine (Finite p)) ≤ 72
 unfolding projectionLine
 finite-room p =
-    line-room 55 (word "at" ∷ coordinateWord (p .x) ∷ coordinateWord (p .y) ∷ coordinateWord (p .z) ∷ [])
+    line-room 72 (word "at" ∷ coordinateWord (p .x) ∷ coordinateWord (p .y) ∷ coordinateWord (p .z) ∷ [])
     (omega (arith, length-hexBits (toBits binary64 (p .x)), length-hexBits (toBits binary64 (p .y)), length-hexBits (toBits binary64 (p .z))))
     (omega arith)
 
-projection-room : (x y z w : ℤ) → length (projectionLine (projectionOf x y z w)) ≤ 55
+projection-room : (x y z w : ℤ) → length (projectionLine (projectionOf x y z w)) ≤ 72
 unfolding projectionOf projectionBy projectionLine
 projection-room x y z w = by (allInRange x y z w) (isZero w) (allZero x y z) refl
   where
-    by : (a b c : Bool) → allInRange x y z w ≡ a → length (projectionLine (projectionBy a b c x y z w)) ≤ 55
+    by : (a b c : Bool) → allInRange x y z w ≡ a → length (projectionLine (projectionBy a b c x y z w)) ≤ 72
     by false b c h = refused-point-room 10 (omega arith)
     by true false c h = finite-room (coordsOf x y z w)
     by true true false h = let in-range = within x y z w h in direction-room x y z (in-range .0) (in-range .1) (in-range .2)
-    by true true true h = line-room 55 (word "nowhere" ∷ []) (omega arith) (omega arith)
+    by true true true h = line-room 72 (word "nowhere" ∷ []) (omega arith) (omega arith)
 
-point-room : (j : ℕ) (f : Polynomials) (frames : Frames) (c : Call) → j ≤ 10 → length (pointLine (stepBy j frames (machineAccepted f frames c) .answer)) ≤ 55
+point-room : (j : ℕ) (f : Polynomials) (frames : Frames) (c : Call) → j ≤ 10 → length (pointLine (stepBy j frames (machineAccepted f frames c) .answer)) ≤ 72
 unfolding stepBy machineAccepted foundAt pointLine
 point-room zero f frames (call.Move operation vertex weights) h = omega arith
 point-room zero f frames (call.Point weights) h =
@@ -263,7 +270,7 @@ point-room zero f frames (call.Point weights) h =
     projection-room (v 0) (v 1) (v 2) (v 3)
 point-room (suc j) f frames c h = refused-point-room (suc j) h
 
-points-room : (f : Polynomials) (frames : Frames) (calls : List Call) → length (joined pointLine (answers (machineStep f) frames calls)) ≤ length calls * 55
+points-room : (f : Polynomials) (frames : Frames) (calls : List Call) → length (joined pointLine (answers (machineStep f) frames calls)) ≤ length calls * 72
 unfolding answers machineStep
 points-room f frames [] = omega arith
 points-room f frames (c ∷ cs) =
@@ -278,7 +285,7 @@ reached-net-room : (f : Polynomials) (frames : Frames) → Reached f frames → 
 unfolding netOver
 reached-net-room f frames at = net-room (netOver f frames) (at .right) (at .fits)
 
--- 14 + 608 + 3330 + 55 bytes at most
+-- 14 + 608 + 3330 + 72 bytes at most
 pub accepted-room : (f : Polynomials) (frames : Frames) → Reached f frames → (moves points : List Call) → length moves ≤ 32 → length points ≤ 1
     → length (acceptedText f frames moves points) ≤ 4096
 unfolding acceptedText

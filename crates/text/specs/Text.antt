@@ -85,7 +85,7 @@ coordinateWord x = hexBits (toBits binary64 x)
 -- a found point by its projection
 unfoldable pub projectionLine : Projection → List ℕ
 projectionLine (Finite p) = line (word "at" ∷ coordinateWord (p .x) ∷ coordinateWord (p .y) ∷ coordinateWord (p .z) ∷ [])
-projectionLine (Direction d) = line (word "far" ∷ signedDecimal (d .x) ∷ signedDecimal (d .y) ∷ signedDecimal (d .z) ∷ [])
+projectionLine (Direction d) = line (word "far" ∷ signedDecimal (d .x) ∷ signedDecimal (d .y) ∷ signedDecimal (d .z) ∷ signedDecimal (d .length) ∷ [])
 projectionLine Nowhere = line (word "nowhere" ∷ [])
 projectionLine OutOfRange = pointRefusedLine (refusal OutOfRange)
 

@@ -6,8 +6,8 @@ use crate::words::put_bits;
 use crate::words::put_line;
 use crate::words::put_pair;
 use projection::Coords;
-use projection::PrimitiveVector;
 use projection::Projection;
+use projection::ReducedVector;
 
 // Move k, by the number of its refusal; a move that is taken has no line.
 pub(crate) fn write_move(out: &mut [u8], at: usize, k: usize, number: u8) -> usize
@@ -39,11 +39,11 @@ pub(crate) fn write_finite(out: &mut [u8], at: usize, p: Coords) -> usize
     put(out, after_z, b"\n")
 }
 
-pub(crate) fn write_direction(out: &mut [u8], at: usize, d: PrimitiveVector) -> usize
+pub(crate) fn write_direction(out: &mut [u8], at: usize, d: ReducedVector) -> usize
     requires { ⌜ Room (now out) at (projectionLine (Projection.Direction d)) ⌝ }
     ensures { λ r. ⌜ Wrote (now (out .entry)) at (projectionLine (Projection.Direction d)) (now (out .exit)) r ⌝ }
 {
-    put_line(out, at, b"far", &[d.x, d.y, d.z])
+    put_line(out, at, b"far", &[d.x, d.y, d.z, d.length])
 }
 
 // A found point by its projection. A point out of range is none that a call finds.

@@ -2,7 +2,7 @@
 
 use crate::calls::Answer;
 use crate::handed::{Net, PLACES};
-use crate::projection::{Projection, Room, COORDINATES};
+use crate::projection::{Projection, Room, COORDINATES, DIRECTION};
 use crate::record::{Lookup, Refusal};
 use crate::shape::{Shape, RANGE};
 use crate::text::Outcome;
@@ -78,7 +78,7 @@ impl Counts {
     /// What a projection answers and leaves.
     pub fn projection(&mut self, number: u8, room: &Room) {
         self.calls += 1;
-        let more = room.bits.len().max(room.direction.len()) > COORDINATES;
+        let more = room.bits.len() > COORDINATES || room.direction.len() > DIRECTION;
         self.rooms[if room.is_short() { 0 } else { 1 + usize::from(more) }] += 1;
         match room.told(number).expect("an outcome that there is") {
             Ok(kind) => self.projected(&kind),

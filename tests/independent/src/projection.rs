@@ -7,15 +7,18 @@ use crate::shape::in_range;
 #[derive(Clone, Copy, Debug, PartialEq, Eq)]
 pub enum Projection {
     Finite { x: u64, y: u64, z: u64 },
-    Direction { x: i64, y: i64, z: i64 },
+    Direction { x: i64, y: i64, z: i64, length: i64 },
     Nowhere,
 }
 
-/// How many places a point at a finite place or a direction takes.
+/// How many places a point at a finite place takes.
 pub const COORDINATES: usize = 3;
 
+/// How many a direction takes, with its length.
+pub const DIRECTION: usize = 4;
+
 /// The places lent for a projection: its case, the bit patterns of a finite point, the
-/// numbers of a direction.
+/// numbers of a direction and its length.
 #[derive(Clone, Debug, PartialEq, Eq)]
 pub struct Room {
     pub outcome: u8,
@@ -26,11 +29,11 @@ pub struct Room {
 impl Room {
     /// Just enough places, with an outcome that there is not.
     pub fn enough() -> Room {
-        Room { outcome: u8::MAX, bits: vec![0; COORDINATES], direction: vec![0; COORDINATES] }
+        Room { outcome: u8::MAX, bits: vec![0; COORDINATES], direction: vec![0; DIRECTION] }
     }
 
     pub fn is_short(&self) -> bool {
-        self.bits.len() < COORDINATES || self.direction.len() < COORDINATES
+        self.bits.len() < COORDINATES || self.direction.len() < DIRECTION
     }
 
     /// Writes an answer and gives its number: 0, or the refusal's, beside which the
@@ -42,8 +45,8 @@ impl Room {
                 self.bits[..COORDINATES].copy_from_slice(&[x, y, z]);
                 1
             }
-            Ok(Projection::Direction { x, y, z }) => {
-                self.direction[..COORDINATES].copy_from_slice(&[x, y, z]);
+            Ok(Projection::Direction { x, y, z, length }) => {
+                self.direction[..DIRECTION].copy_from_slice(&[x, y, z, length]);
                 2
             }
             Ok(Projection::Nowhere) => 3,
@@ -56,7 +59,7 @@ impl Room {
         let (b, d) = (&self.bits, &self.direction);
         match (number, self.outcome) {
             (0, 1) => Some(Ok(Projection::Finite { x: b[0], y: b[1], z: b[2] })),
-            (0, 2) => Some(Ok(Projection::Direction { x: d[0], y: d[1], z: d[2] })),
+            (0, 2) => Some(Ok(Projection::Direction { x: d[0], y: d[1], z: d[2], length: d[3] })),
             (0, 3) => Some(Ok(Projection::Nowhere)),
             (1.., 0) => Some(Err(number)),
             _ => None,
@@ -93,13 +96,13 @@ fn quotient(numerator: i64, w: i64) -> u64 {
 }
 
 /// The shortest whole numbers along the line, turned so that the first of them that
-/// is not 0 is positive. Not all three are 0.
+/// is not 0 is positive, and how many times the vector is as long. Not all three are 0.
 fn direction(vector: [i64; 3]) -> Projection {
     let divisor = greatest_common_divisor(vector);
     let first = vector.iter().find(|&&component| component != 0).copied().unwrap_or(1);
     let by = if first < 0 { -divisor } else { divisor };
     let [x, y, z] = vector.map(|component| component / by);
-    Projection::Direction { x, y, z }
+    Projection::Direction { x, y, z, length: divisor }
 }
 
 /// A common divisor that leaves no common divisor behind, so the greatest.
@@ -142,8 +145,8 @@ mod tests {
 
     #[test]
     fn the_four_cases() {
-        assert_eq!(project([-9, 9, 0, 0]), Ok(Projection::Direction { x: 1, y: -1, z: 0 }));
-        assert_eq!(project([0, 0, -RANGE, 0]), Ok(Projection::Direction { x: 0, y: 0, z: 1 }));
+        assert_eq!(project([-9, 9, 0, 0]), Ok(Projection::Direction { x: 1, y: -1, z: 0, length: 9 }));
+        assert_eq!(project([0, 0, -RANGE, 0]), Ok(Projection::Direction { x: 0, y: 0, z: 1, length: RANGE }));
         assert_eq!(project([0, 0, 0, 0]), Ok(Projection::Nowhere));
         assert_eq!(project([0, -4, 6, -2]), Ok(Projection::Finite { x: 0, y: 2f64.to_bits(), z: (-3f64).to_bits() }));
         for outside in [RANGE + 1, -RANGE - 1, i64::MIN, i64::MAX] {

@@ -135,7 +135,7 @@ fn circle_samples() -> Result<(), String> {
 fn folium_samples() -> Result<(), String> {
     let mut bench = Bench::new(&folium());
     same("B6", bench.entries(), vec![[0, 0, 0, 3], [3, 0, 0, 3], [6, 3, 0, 3], [9, 9, 0, 6]])?;
-    let projection = Projection::Direction { x: 1, y: -1, z: 0 };
+    let projection = Projection::Direction { x: 1, y: -1, z: 0, length: 9 };
     let wanted = Answer::Point { x: -9, y: 9, z: 0, w: 0, projection };
     same("B7", bench.call(Call::Point { weights: [2, -1, 0] })?, wanted)
 }

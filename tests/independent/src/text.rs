@@ -70,7 +70,7 @@ fn entry_line(kind: Kind, [i, j, k]: &[usize; 3], [x, y, z, w]: &[i64; 4]) -> St
 fn point_line(answer: &Answer) -> String {
     match answer {
         Answer::Point { projection: Projection::Finite { x, y, z }, .. } => format!("at {x:016x} {y:016x} {z:016x}\n"),
-        Answer::Point { projection: Projection::Direction { x, y, z }, .. } => format!("far {x} {y} {z}\n"),
+        Answer::Point { projection: Projection::Direction { x, y, z, length }, .. } => format!("far {x} {y} {z} {length}\n"),
         Answer::Point { projection: Projection::Nowhere, .. } => "nowhere\n".to_string(),
         Answer::Refused(number) => format!("point refused {number}\n"),
         Answer::Taken => unreachable!("a point is found or refused"),

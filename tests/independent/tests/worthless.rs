@@ -6,7 +6,7 @@ use independent::compare::compare_calls;
 use independent::first::Given;
 use independent::handed::{Net, ENTRIES, PLACES};
 use independent::library::{Library, Model};
-use independent::projection::{project, Projection, Room, COORDINATES};
+use independent::projection::{project, Projection, Room, COORDINATES, DIRECTION};
 use independent::record::{Lookup, Refusal};
 use independent::shape::{in_range, Shape, RANGE};
 
@@ -42,6 +42,11 @@ enum Fault {
     NegativeZero,
     DirectionNotTurned,
     DirectionNotReduced,
+    LengthTurned,
+    LengthOfTwo,
+    ComponentForLength,
+    LengthLeftOut,
+    DirectionInThreePlaces,
     NowhereForDirections,
     ProjectsAnything,
     WritesShortBuffers,
@@ -292,6 +297,11 @@ impl Library for Spoiled {
         if room.is_short() {
             return match (self.fault, answer) {
                 (Fault::ProjectionWithoutRoom, Ok(Projection::Nowhere)) => room.tell(answer),
+                (Fault::DirectionInThreePlaces, Ok(Projection::Finite { .. }))
+                    if room.bits.len() >= COORDINATES && room.direction.len() == DIRECTION - 1 =>
+                {
+                    room.tell(answer)
+                }
                 (Fault::RangeBeforeRoom, Err(10)) => room.tell(answer),
                 (Fault::OutcomeKeptBesideARefusal, _) => 11,
                 _ => room.tell(Err(11)),
@@ -305,16 +315,31 @@ impl Library for Spoiled {
             }
             (Fault::ProjectionPastItsPlaces, Ok(Projection::Finite { .. })) => room.bits[COORDINATES..].fill(0),
             (Fault::DirectionClearedBesideAPoint, Ok(Projection::Finite { .. })) => room.direction.fill(0),
+            (Fault::LengthLeftOut, Ok(Projection::Direction { .. })) => {
+                let old = room.direction[DIRECTION - 1];
+                room.tell(answer);
+                room.direction[DIRECTION - 1] = old;
+                return 0;
+            }
             _ => {}
         }
         let answer = match (self.fault, answer) {
             (Fault::NegativeZero, Ok(Projection::Finite { y, z, .. })) if x == 0 && w < 0 => {
                 Ok(Projection::Finite { x: (-0f64).to_bits(), y, z })
             }
-            (Fault::DirectionNotTurned, Ok(Projection::Direction { x: dx, y: dy, z: dz })) if x < 0 => {
-                Ok(Projection::Direction { x: -dx, y: -dy, z: -dz })
+            (Fault::DirectionNotTurned, Ok(Projection::Direction { x: dx, y: dy, z: dz, length })) if x < 0 => {
+                Ok(Projection::Direction { x: -dx, y: -dy, z: -dz, length })
             }
-            (Fault::DirectionNotReduced, Ok(Projection::Direction { .. })) => Ok(Projection::Direction { x, y, z }),
+            (Fault::DirectionNotReduced, Ok(Projection::Direction { .. })) => Ok(Projection::Direction { x, y, z, length: 1 }),
+            (Fault::LengthTurned, Ok(Projection::Direction { x: dx, y: dy, z: dz, length })) if x < 0 => {
+                Ok(Projection::Direction { x: dx, y: dy, z: dz, length: -length })
+            }
+            (Fault::LengthOfTwo, Ok(Projection::Direction { x: dx, y: dy, z: dz, length })) if (x, y) != (0, 0) => {
+                Ok(Projection::Direction { x: dx, y: dy, z: dz, length: length * divisor(dx.abs(), dy.abs()) })
+            }
+            (Fault::ComponentForLength, Ok(Projection::Direction { x: dx, y: dy, z: dz, .. })) => {
+                Ok(Projection::Direction { x: dx, y: dy, z: dz, length: x })
+            }
             (Fault::NowhereForDirections, Ok(Projection::Direction { .. })) => Ok(Projection::Nowhere),
             (Fault::ProjectsAnything, Err(10)) => Ok(Projection::Nowhere),
             _ => answer,
@@ -351,6 +376,15 @@ impl Library for Spoiled {
     }
 }
 
+/// The greatest common divisor of two.
+fn divisor(a: i64, b: i64) -> i64 {
+    if b == 0 {
+        a
+    } else {
+        divisor(b, a % b)
+    }
+}
+
 #[test]
 fn the_model_itself_agrees() {
     let mut library = Spoiled { fault: Fault::None, model: Model };
@@ -366,7 +400,8 @@ fn every_fault_is_found() {
         WritesPastTheEntries, WritesTheFramesPlaces, WritesTheLargestsPlace, WritesPastTheNet, SecondDegreeNotLookedAt,
         SecondDegreeKept, KindByItsLowByte, LooksPastTheEntries, TakesShortRuns, RefusesLongerRuns, PointWithoutRoom,
         PointPastItsPlaces, FirstNetLooksAtUnusedCoefficients, FirstNetLooksAtUnusedFrameNumbers, FirstNetZeroesTheRest,
-        FirstNetWithoutRoom, NegativeZero, DirectionNotTurned, DirectionNotReduced, NowhereForDirections,
+        FirstNetWithoutRoom, NegativeZero, DirectionNotTurned, DirectionNotReduced, LengthTurned, LengthOfTwo,
+        ComponentForLength, LengthLeftOut, DirectionInThreePlaces, NowhereForDirections,
         ProjectsAnything, WritesShortBuffers, WritesPastTheText, RefusedRecordMakesANet, OffsetOfTheValue,
         TakesHandedNetsOutOfRange, ThirdWeightOfACurve, OutcomeKeptBesideARefusal, OutcomeInTheNumber,
         ProjectionWithoutRoom, RangeBeforeRoom, ProjectionPastItsPlaces, DirectionClearedBesideAPoint,

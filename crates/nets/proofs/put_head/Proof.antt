@@ -3,10 +3,10 @@ use borrow.Author.Needs.{needs, sfits-of}
 use Prim.Native.Nat.{_<_}
 use native.Mathlib.Omega.{arith}
 use mathlib.Core.Path.{sym, _∙_, subst}
-use mathlib.Core.List.{_∷_}
+use mathlib.Core.List.{[], _∷_}
 use lib.ListN.{drop, length-set}
 use Rattle.integers.proofs.Signed.{seen, back-fits}
-use Rattle.machine.proofs.Lent.{three-put}
+use Rattle.machine.proofs.Lent.{front-put}
 use Rattle.nets.proofs.put_head.Statement.{statement}
 use Rattle.nets.proofs.put_head.Tie as tie
 
@@ -22,7 +22,7 @@ returns c =
     let kind-is = back-fits (sfits-of (c .before .before .wide .ok)) ∙ c .before .before .wide .ensures in
     let degree-is = back-fits (sfits-of (c .before .wide2 .ok)) ∙ c .before .wide2 .ensures in
     let second-is = back-fits (sfits-of (c .wide3 .ok)) ∙ c .wide3 .ensures in
-    three-put (a .net .now) (seen (c .before .before .wide .result)) (seen (c .before .wide2 .result)) (seen (c .wide3 .result)) (s .pre)
+    front-put (seen (c .before .before .wide .result) ∷ seen (c .before .wide2 .result) ∷ seen (c .wide3 .result) ∷ []) (a .net .now) (s .pre)
     ∙ (λ i. kind-is i ∷ degree-is i ∷ second-is i ∷ drop 3 (a .net .now))
 
 pub put-head-spec : {M : Type 1} → statement M

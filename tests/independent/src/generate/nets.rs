@@ -90,8 +90,8 @@ pub fn any_number(random: &mut Random) -> i64 {
 /// Places for a projection, with anything in them: mostly enough, often more, at times
 /// too few in one of the two buffers.
 pub fn any_room(random: &mut Random) -> Room {
-    let lengths = [3, 3, 3, 3, 3, 3, 4, 4, 5, 9, 2, 0];
-    let (bits, direction) = (random.pick(&lengths), random.pick(&lengths));
+    let bits = random.pick(&[3, 3, 3, 3, 3, 3, 4, 4, 5, 9, 2, 0]);
+    let direction = random.pick(&[4, 4, 4, 4, 4, 4, 5, 5, 6, 9, 3, 0]);
     Room {
         outcome: random.next() as u8,
         bits: (0..bits).map(|_| random.next()).collect(),

@@ -2,9 +2,10 @@
 use borrow.Author.Needs.{needs}
 use native.Mathlib.Omega.{arith}
 use mathlib.Core.Path.{_∙_}
+use mathlib.Core.List.{[], _∷_}
 use lib.Ieee.{binary64, toBits}
-use lib.ListN.{set, length-set}
-use Rattle.machine.proofs.Lent.{three-put}
+use lib.ListN.{length-set}
+use Rattle.machine.proofs.Lent.{setFrom, front-put}
 use Rattle.gadwemosh.proofs.answers.put_bits.Statement.{statement}
 use Rattle.gadwemosh.proofs.answers.put_bits.Tie as tie
 
@@ -15,8 +16,8 @@ returns : tie.Need-returns
 returns c =
     let s = c .before .before .before .before in
     let p = s .args .p in
-    (λ i. set (set (set (s .args .patterns .now) 0 (c .before .before .bits .ensures i)) 1 (c .before .bits2 .ensures i)) 2 (c .bits3 .ensures i))
-    ∙ three-put (s .args .patterns .now) (toBits binary64 (p .x)) (toBits binary64 (p .y)) (toBits binary64 (p .z)) (s .pre)
+    (λ i. setFrom 0 (c .before .before .bits .ensures i ∷ c .before .bits2 .ensures i ∷ c .bits3 .ensures i ∷ []) (s .args .patterns .now))
+    ∙ front-put (toBits binary64 (p .x) ∷ toBits binary64 (p .y) ∷ toBits binary64 (p .z) ∷ []) (s .args .patterns .now) (s .pre)
 
 pub put-bits-spec : {M : Type 1} → statement M
 put-bits-spec =

@@ -20,12 +20,15 @@ returns c =
 returns-2 : tie.Need-returns-2
 unfolding coordinateBits
 returns-2 c =
-    let a = c .before .before .before .before .before .before .before .before .before .before .args in
-    let g = c .before .before .before .before .before .before .before .projection2 .given in
-    let t = c .before .before .struct-told3 .given in
+    let a = c .before .before .before .before .before .before .before .before .before .before .before .args in
+    let g = c .before .before .before .before .before .before .before .before .projection2 .given in
+    let t = c .before .before .struct-told4 .given in
     let d = g .0 .0 in
-    let numbers : seen (d .x) ∷ seen (d .y) ∷ seen (d .z) ∷ [] ≡ d .x ∷ d .y ∷ d .z ∷ [] = λ i.
-    back-fits {z = d .x} (sfits-of (t .0 .1)) i ∷ back-fits {z = d .y} (sfits-of (t .1 .0 .1)) i ∷ back-fits {z = d .z} (sfits-of (t .1 .1 .0 .1)) i ∷ [] in
+    let x = back-fits {z = d .x} (sfits-of (t .0 .1)) in
+    let y = back-fits {z = d .y} (sfits-of (t .1 .0 .1)) in
+    let z = back-fits {z = d .z} (sfits-of (t .1 .1 .0 .1)) in
+    let length = back-fits {z = d .length} (sfits-of (t .1 .1 .1 .0 .1)) in
+    let numbers : seen (d .x) ∷ seen (d .y) ∷ seen (d .z) ∷ seen (d .length) ∷ [] ≡ d .x ∷ d .y ∷ d .z ∷ d .length ∷ [] = λ i. x i ∷ y i ∷ z i ∷ length i ∷ [] in
     let put = c .before .put-direction .ensures ∙ ap (λ l. putAt 0 l (a .direction .now)) numbers in
     case-told (a .patterns .now) (a .direction .now) _ (g .1) (λ i. record { number = 0; outcome = 2; bits = a .patterns .now; direction = put i })
 

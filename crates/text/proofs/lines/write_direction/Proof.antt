@@ -1,4 +1,4 @@
--- `write_direction` meets its contract: the word and the three numbers, as they are handed on.
+-- `write_direction` meets its contract: the word and the four numbers, as they are handed on.
 use borrow.Author.Needs.{needs, sfits-of}
 use mathlib.Core.Path.{_≡_, sym}
 use mathlib.Core.List.{[], _∷_, _++_}
@@ -11,7 +11,7 @@ use Rattle.text.proofs.Then.{room-as, wrote-as}
 use Rattle.text.proofs.lines.write_direction.Statement.{statement}
 use Rattle.text.proofs.lines.write_direction.Tie as tie
 
-text : (c : tie.After-struct-told) → let d = c .before .before .before .before .args .d in projectionLine (Direction d) ≡ word "far" ++ numbersText (seen (d .x) ∷ seen (d .y) ∷ seen (d .z) ∷ [])
+text : (c : tie.After-struct-told) → let d = c .before .before .before .before .args .d in projectionLine (Direction d) ≡ word "far" ++ numbersText (seen (d .x) ∷ seen (d .y) ∷ seen (d .z) ∷ seen (d .length) ∷ [])
 unfolding projectionLine line
 text c =
     let d = c .before .before .before .before .args .d in
@@ -19,7 +19,8 @@ text c =
     let x = back-fits {z = d .x} (sfits-of (t .0 .1)) in
     let y = back-fits {z = d .y} (sfits-of (t .1 .0 .1)) in
     let z = back-fits {z = d .z} (sfits-of (t .1 .1 .0 .1)) in
-    sym (λ i. word "far" ++ numbersText (x i ∷ y i ∷ z i ∷ []))
+    let length = back-fits {z = d .length} (sfits-of (t .1 .1 .1 .0 .1)) in
+    sym (λ i. word "far" ++ numbersText (x i ∷ y i ∷ z i ∷ length i ∷ []))
 
 put-line-requires : tie.Need-put-line-requires
 put-line-requires c κs = room-as (text (c .before)) (c .before .before .before .before .before .pre)
