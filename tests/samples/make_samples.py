@@ -1,8 +1,9 @@
 #!/usr/bin/env python3
 """Writes this folder: NAME.hex (the record), NAME.txt (netprint's text), INDEX.
 
-The expected texts are written out here by hand from document 01; the calculator
-is only asked afterwards whether it agrees, and a disagreement stops the run.
+The expected texts are written out here by hand from document 01, and from request
+E2 for the length of a direction; the calculator is only asked afterwards whether it
+agrees, and a disagreement stops the run.
 """
 import math
 import os
@@ -697,10 +698,10 @@ def main():
     index = ["# NAME.hex is a record in hex (white space does not count; an empty",
              "# file is an empty record), NAME.txt what netprint prints for it, whole.",
              "# One line each: NAME, bytes of the record, its first refusal or else its first",
-             "# line of text, comment.  Texts were written by hand from document 01, the longer",
-             "# ones by a rule that stands beside them in make_samples.py (scale-*: L divided by",
-             "# the multinomial), and then compared with calculator.py (r7-edge-passes: 44 numbers",
-             "# from calculator.py).",
+             "# line of text, comment.  Texts were written by hand from document 01, those of a",
+             "# direction from request E2 too, the longer ones by a rule that stands beside them in",
+             "# make_samples.py (scale-*: L divided by the multinomial), and then compared with",
+             "# calculator.py (r7-edge-passes: 44 numbers from calculator.py).",
              "# Which refusal wins where several hold: the earlier field's; within a field a cut",
              "# header (1), then tag (2), length (3), a cut value (1), what the value says (4, 5,",
              "# 6); only then a missing field (2, at the length) and 7.  Calls: 8, 9, 10."]

@@ -20,7 +20,8 @@ fn put_bits(patterns: &mut [u64], p: Coords)
     patterns[2] = bits(p.z);
 }
 
-// The numbers of a direction and its length, into the first four places.
+// The numbers of a direction and its length, into the first four places. They are handed over one by one,
+// since a signed number is stored from a local of its own.
 fn put_direction(direction: &mut [i64], x: i64, y: i64, z: i64, divisor: i64)
     requires { ⌜ 4 ≤ length (now direction) ⌝ }
     ensures { λ _. ⌜ now (direction .exit) ≡ putAt 0 (x ∷ y ∷ z ∷ divisor ∷ []) (now (direction .entry)) ⌝ }

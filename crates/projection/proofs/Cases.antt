@@ -23,12 +23,12 @@ module _ (x y z w : ℤ) where
   finite true true false = refl
   finite true true true = refl
 
-  far : (a b c : Bool) → let d = directionOf x y z in directionNumbers (projectionBy a b c x y z w) ≡ cond (a && b && not c) (d .x ∷ d .y ∷ d .z ∷ d .length ∷ []) []
+  reduced-numbers : (a b c : Bool) → let d = directionOf x y z in directionNumbers (projectionBy a b c x y z w) ≡ cond (a && b && not c) (d .x ∷ d .y ∷ d .z ∷ d .length ∷ []) []
   unfolding projectionBy
-  far false b c = refl
-  far true false c = refl
-  far true true false = refl
-  far true true true = refl
+  reduced-numbers false b c = refl
+  reduced-numbers true false c = refl
+  reduced-numbers true true false = refl
+  reduced-numbers true true true = refl
 
   direction-reduced : (a b c : Bool) → allZero x y z ≡ c → DirectionReduced x y z (projectionBy a b c x y z w)
   unfolding projectionBy
@@ -43,7 +43,7 @@ module _ (x y z w : ℤ) where
       let a = allInRange x y z w in
       let b = isZero w in
       let c = allZero x y z in
-      (number a b c, finite a b c, ap (map (toBits binary64)) (finite a b c), far a b c, direction-reduced a b c refl)
+      (number a b c, finite a b c, ap (map (toBits binary64)) (finite a b c), reduced-numbers a b c, direction-reduced a b c refl)
 
   -- what equals the definition's answer tells the same
   pub projected : {p : Projection} → p ≡ projectionOf x y z w → (p ≡ projectionOf x y z w) × Projected x y z w p

@@ -16,7 +16,7 @@ use Rattle.projection.specs.declared.ReducedVector.{ReducedVector}
 use Rattle.projection.specs.Projection.{isZero, allZero, isNegative, isPositive, firstNonzero, negatedIf, gcdOf, directionOf, Reduced, OneReduction}
 use Rattle.projection.proofs.Gcd.{gcd-divides, gcd-positive, gcd-reduced, gcd-times}
 use Rattle.integers.proofs.All.{clash}
-use Rattle.integers.proofs.Laws.{natAbs-*}
+use Rattle.integers.proofs.Laws.{*ℤ-negr, natAbs-*}
 use Rattle.integers.proofs.Ring.{cancel}
 use Rattle.projection.proofs.Signed.{natAbs-negated}
 
@@ -40,18 +40,13 @@ divisor-positive x y z h =
 abbrev part : ℕ → Bool → ℤ → ℤ
 part g b v = negatedIf b (quotZ v (pos g))
 
-times-neg : (g : ℕ) (v : ℤ) → pos g *ℤ negℤ v ≡ negℤ (pos g *ℤ v)
-times-neg g (pos zero) = ap pos (NatL.mul-zero g) ∙ sym (ap (λ (n : ℕ). negℤ (pos n)) (NatL.mul-zero g))
-times-neg g (pos (suc n)) = refl
-times-neg g (negsuc n) = sym (negℤ-negℤ (pos (g * suc n)))
-
 -- the division is exact
 exact : (g : ℕ) (v : ℤ) → g ∣ natAbs v → pos g *ℤ quotZ v (pos g) ≡ v
 exact g (pos n) h = ap pos (NatL.mul-div-cancel' g h)
-exact g (negsuc n) h = times-neg g (pos (suc n / g)) ∙ ap (λ (k : ℕ). negℤ (pos k)) (NatL.mul-div-cancel' g h)
+exact g (negsuc n) h = *ℤ-negr (pos g) (pos (suc n / g)) ∙ ap (λ (k : ℕ). negℤ (pos k)) (NatL.mul-div-cancel' g h)
 
 exact-negated : (g : ℕ) (b : Bool) (v : ℤ) → g ∣ natAbs v → pos g *ℤ part g b v ≡ negatedIf b v
-exact-negated g true v h = times-neg g (quotZ v (pos g)) ∙ ap negℤ (exact g v h)
+exact-negated g true v h = *ℤ-negr (pos g) (quotZ v (pos g)) ∙ ap negℤ (exact g v h)
 exact-negated g false v h = exact g v h
 
 -- ---- greatest common divisor 1

@@ -247,20 +247,23 @@ gcd-reduced xs above = go (gcd (map (λ (x : ℕ). x / gcd xs) xs)) (scaled (gcd
 
 -- ---- and n times numbers that have none but 1 have n
 
+abbrev times : ℕ → List ℕ → List ℕ
+times n xs = map (λ (x : ℕ). n * x) xs
+
 module _ (n : ℕ) where
-  multiples : (xs : List ℕ) → Each n (map (λ (x : ℕ). n * x) xs)
+  multiples : (xs : List ℕ) → Each n (times n xs)
   multiples [] = tt
   multiples (x ∷ xs) = (NatL.dvd-mul-right n x, multiples xs)
 
-  divided : (k : ℕ) (xs : List ℕ) → 0 < n → Each (n * k) (map (λ (x : ℕ). n * x) xs) → Each k xs
+  divided : (k : ℕ) (xs : List ℕ) → 0 < n → Each (n * k) (times n xs) → Each k xs
   divided k [] above e = tt
   divided k (x ∷ xs) above e = (NatL.dvd-of-mul-dvd-mul-left k above (e .0), divided k xs above (e .1))
 
 -- the greatest one is a multiple n * k, and k divides the numbers themselves
-pub gcd-times : (n : ℕ) (xs : List ℕ) → 0 < n → gcd xs ≡ 1 → gcd (map (λ (x : ℕ). n * x) xs) ≡ n
+pub gcd-times : (n : ℕ) (xs : List ℕ) → 0 < n → gcd xs ≡ 1 → gcd (times n xs) ≡ n
 gcd-times n xs above one =
-    let g = gcd (map (λ (x : ℕ). n * x) xs) in
-    let whole = NatL.mul-div-cancel' n (divides-gcd n (map (λ (x : ℕ). n * x) xs) (multiples n xs)) in
-    let each = subst (λ (d : ℕ). Each d (map (λ (x : ℕ). n * x) xs)) (sym whole) (gcd-divides (map (λ (x : ℕ). n * x) xs)) in
+    let g = gcd (times n xs) in
+    let whole = NatL.mul-div-cancel' n (divides-gcd n (times n xs) (multiples n xs)) in
+    let each = subst (λ (d : ℕ). Each d (times n xs)) (sym whole) (gcd-divides (times n xs)) in
     let single = NatL.eq-one-of-dvd-one (subst (λ (m : ℕ). g / n ∣ m) one (divides-gcd (g / n) xs (divided n (g / n) xs above each))) in
     sym whole ∙ ap (λ (k : ℕ). n * k) single ∙ NatL.mul-one n

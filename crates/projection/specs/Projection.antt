@@ -88,11 +88,11 @@ directionOf x y z =
       length = divisor;
     }
 
--- What a direction with its length is to (x, y, z)
+-- What a direction with its length is to (x, y, z) (request E2)
 pub record Reduced (x y z : ℤ) (d : ReducedVector) : Type 0 where
   -- 'the divisor it took out' is positive
   pub length-positive : isPositive (d .length) ≡ true
-  -- 'the products are the old components, up to the sign made positive': the sign is one for all three, and it is that of the first one that is not 0
+  -- 'the products are the old components, up to the sign made positive': all three have one sign, the one that makes the first one that is not 0 positive
   pub products : map (λ v. d .length *ℤ v) (d .x ∷ d .y ∷ d .z ∷ []) ≡ map (negatedIf (isNegative (firstNonzero x y z))) (x ∷ y ∷ z ∷ [])
   -- the first of the direction's numbers that is not 0 is positive
   pub first-positive : isPositive (firstNonzero (d .x) (d .y) (d .z)) ≡ true

@@ -96,7 +96,7 @@ fn quotient(numerator: i64, w: i64) -> u64 {
 }
 
 /// The shortest whole numbers along the line, turned so that the first of them that
-/// is not 0 is positive, and how many times the vector is as long. Not all three are 0.
+/// is not 0 is positive, and how many times as long the vector is. Not all three are 0.
 fn direction(vector: [i64; 3]) -> Projection {
     let divisor = greatest_common_divisor(vector);
     let first = vector.iter().find(|&&component| component != 0).copied().unwrap_or(1);
