@@ -1,4 +1,5 @@
-/* Exact control nets of rational curves and triangular patches: the functions of libgadwemosh.a.
+/* Exact control nets of rational curves, triangular patches and rectangular patches: the functions of
+ * libgadwemosh.a.
  *
  * TO BUILD, in the repository (Linux, x86-64):
  *
@@ -27,27 +28,32 @@
  * A NET is a run of GADWEMOSH_NET numbers or more that the caller lends:
  *
  *   place      number
- *   0          kind: 1 curve, 2 patch
- *   1          degree m: 1 to 10 for a curve, 1 to 8 for a patch
- *   2          second degree: 0
+ *   0          kind: 1 curve, 2 triangular patch, 3 rectangular patch
+ *   1          degree: m, 1 to 10 for a curve, 1 to 8 for a triangular patch; p, 1 to 5, of a rectangular one
+ *   2          second degree: q, 1 to 5, of a rectangular patch; 0 of the others
  *   3 to 11    kept free for the frame: not read, not written
  *   12 on      x, y, z, w of each entry, in order
  *   192        kept free for the largest component: not read, not written
  *   193 on     the caller's, where the run is longer
  *
- *   kind       entries              their numbers      the entry's first place
- *   1 curve    m + 1                4 (m + 1)          12 + 4 j, with j copies of s and m - j of r
- *   2 patch    (m + 1)(m + 2) / 2   2 (m + 1)(m + 2)   12 + 4 ((j + k)(j + k + 1) / 2 + k), with j copies of
- *                                                      s, k of t and m - j - k of r
+ *   kind           entries              the entry's first place
+ *   1 curve        m + 1                12 + 4 j, with j copies of s and m - j of r
+ *   2 triangular   (m + 1)(m + 2) / 2   12 + 4 ((j + k)(j + k + 1) / 2 + k), with j copies of s, k of t and
+ *                                       m - j - k of r
+ *   3 rectangular  (p + 1)(q + 1)       12 + 4 (i (q + 1) + j), with i copies of s1, j of s2, p - i of r1 and
+ *                                       q - j of r2
  *
- *   m                  1   2   3   4   5   6   7   8   9  10
- *   entries of a curve 2   3   4   5   6   7   8   9  10  11
- *   entries of a patch 3   6  10  15  21  28  36  45
+ *   m                              1   2   3   4   5   6   7   8   9  10
+ *   entries of a curve             2   3   4   5   6   7   8   9  10  11
+ *   entries of a triangular patch  3   6  10  15  21  28  36  45
  *
- * So the copies of s rise in a curve's net; in a patch's the copies of r fall, and for each of them those of
- * s fall. The entries of a patch of degree 2 have the copies (2, 0, 0), (1, 1, 0), (1, 0, 1), (0, 2, 0),
- * (0, 1, 1), (0, 0, 2) of r, s, t. Only kind, degrees and the numbers of the entries are read and written.
- * All other places, those between the last entry and 192 too, hold anything and keep their values.
+ * So the copies of s rise in a curve's net. In a triangular patch's the copies of r fall, and for each of
+ * them those of s fall: (2, 0, 0), (1, 1, 0), (1, 0, 1), (0, 2, 0), (0, 1, 1), (0, 0, 2) of r, s, t in degree 2.
+ * In a rectangular patch's the copies of s1 rise, and for each of them those of s2 rise: (0, 0), (0, 1), (1, 0),
+ * (1, 1), (2, 0), (2, 1) of s1, s2 in degrees 2 and 1.
+ *
+ * Only kind, degrees and the numbers of the entries are read and written. All other places, those between the
+ * last entry and 192 too, hold anything and keep their values.
  *
  * LIMITS. Numbers of a net and of a point are at most GADWEMOSH_LARGEST, weights at most 4096, numbers of a
  * first frame at most 4, coefficients at most 1048576, all of either sign. docs/RECORDS.md says more of
@@ -66,13 +72,17 @@ extern "C" {
 #define GADWEMOSH_NET 193
 #define GADWEMOSH_ENTRIES 12
 
-/* How many entries a net of degree m has; this is also the number of monomials. */
+/* How many entries a net of degree m, or of degrees p and q, has; this is also the number of monomials. PATCH
+ * is a triangular patch, RECT a rectangular one. */
 #define GADWEMOSH_CURVE_ENTRIES(m) ((m) + 1)
 #define GADWEMOSH_PATCH_ENTRIES(m) (((m) + 1) * ((m) + 2) / 2)
+#define GADWEMOSH_RECT_ENTRIES(p, q) (((p) + 1) * ((q) + 1))
 
-/* The first of an entry's four places: with j copies of s, and k copies of t for a patch. */
+/* The first of an entry's four places: with j copies of s, and k copies of t for a triangular patch; for a
+ * rectangular one of second degree q with i copies of s1 and j of s2. */
 #define GADWEMOSH_CURVE_PLACE(j) (GADWEMOSH_ENTRIES + 4 * (j))
 #define GADWEMOSH_PATCH_PLACE(j, k) (GADWEMOSH_ENTRIES + 4 * (((j) + (k)) * ((j) + (k) + 1) / 2 + (k)))
+#define GADWEMOSH_RECT_PLACE(q, i, j) (GADWEMOSH_ENTRIES + 4 * ((i) * ((q) + 1) + (j)))
 
 /* How many numbers of a frame and how many coefficients gadwemosh_first wants at least. */
 #define GADWEMOSH_FRAME 9
@@ -89,13 +99,20 @@ extern "C" {
 /* Kinds. */
 #define GADWEMOSH_CURVE 1
 #define GADWEMOSH_PATCH 2
+#define GADWEMOSH_RECT 3
 
-/* Operations of a move, and vertices. */
+/* Operations of a move. */
 #define GADWEMOSH_REPLACE 1
 #define GADWEMOSH_FLIP 2
+
+/* Vertices: r, s of a curve, r, s, t of a triangular patch, the pairs r1, s1 and r2, s2 of a rectangular one. */
 #define GADWEMOSH_R 1
 #define GADWEMOSH_S 2
-#define GADWEMOSH_T 3 /* of a patch */
+#define GADWEMOSH_T 3
+#define GADWEMOSH_R1 1
+#define GADWEMOSH_S1 2
+#define GADWEMOSH_R2 3
+#define GADWEMOSH_S2 4
 
 /* Tags of the fields of a record. */
 #define GADWEMOSH_FIELD_KIND 1
@@ -110,12 +127,12 @@ extern "C" {
 #define GADWEMOSH_REFUSED_CUT_SHORT 1   /* the bytes end within a field */
 #define GADWEMOSH_REFUSED_TAG 2         /* a field that must not stand there, or a missing one */
 #define GADWEMOSH_REFUSED_LENGTH 3      /* a length that the field cannot have */
-#define GADWEMOSH_REFUSED_KIND 4        /* kind or a degree outside */
-#define GADWEMOSH_REFUSED_FRAME 5       /* a number of the frame beyond 4, or determinant 0 */
+#define GADWEMOSH_REFUSED_KIND 4        /* kind or a degree outside, or field 1 not of its kind's length */
+#define GADWEMOSH_REFUSED_FRAME 5       /* a number of the frame beyond 4, or a determinant 0 */
 #define GADWEMOSH_REFUSED_COEFFICIENT 6 /* a coefficient beyond 1048576 */
 #define GADWEMOSH_REFUSED_FIRST_NET 7   /* a first net with a number beyond GADWEMOSH_LARGEST */
 #define GADWEMOSH_REFUSED_ARGUMENT 8    /* operation, vertex or weight outside, or an unused weight not 0 */
-#define GADWEMOSH_REFUSED_NO_WEIGHT 9   /* the replaced vertex, or every vertex of a point, has weight 0 */
+#define GADWEMOSH_REFUSED_NO_WEIGHT 9   /* weight 0 for the replaced vertex, or all weights of a point or pair 0 */
 #define GADWEMOSH_REFUSED_RANGE 10      /* a number handed over, or a polar value, beyond GADWEMOSH_LARGEST */
 #define GADWEMOSH_REFUSED_SHORT 11      /* a buffer with too few places */
 
@@ -135,36 +152,49 @@ uint8_t gadwemosh_open(const uint8_t *record, size_t record_length, int64_t *net
  * length and `length` is 0.
  *
  *   tag            value, numbers with the high byte first, in two's complement
- *   1 kind         a byte for the kind and a byte for the degree
- *   2 frame        r and s as T, Z, or r, s and t as U, V, Z, of two bytes each
- *   3 coefficients x, y, z, w of each monomial, of four bytes each
- *   4 moves        for each of up to 32 moves a byte for the operation, a byte for the vertex, and the weights
- *                  of r, s and t, of two bytes each
- *   5 point        the weights of r and s, and for a patch of t, of two bytes each
+ *   1 kind         a byte for the kind and a byte for the degree, or for each degree of a rectangular patch
+ *   2 frame        4, 9 or 8 numbers by the kind, as gadwemosh_first takes them, of two bytes each
+ *   3 coefficients x, y, z, w of each monomial, as gadwemosh_first takes them, of four bytes each
+ *   4 moves        for each of up to 32 moves a byte for the operation, a byte for the vertex, and the first
+ *                  three weights that gadwemosh_move takes, of two bytes each; the fourth is 0
+ *   5 point        2, 3 or 4 weights by the kind, as gadwemosh_point takes them, of two bytes each
  *
  * The moves and the point of a record were not judged when it was opened: they are refused, or not, when
  * they are made. Fields 4 and 5 may be absent. */
 uint8_t gadwemosh_field(const uint8_t *record, size_t record_length, uint8_t tag, uint64_t *start,
                         uint64_t *length);
 
-/* Makes the first net of polynomials over a frame, without a record. The frame is r, s as T, Z, four numbers,
- * or r, s, t as U, V, Z, nine numbers. The coefficients are x, y, z, w of each monomial: the exponent of T
- * rising for a curve, so Z^m is first; for a patch the exponent of U rising and for each of them that of V
- * rising, so Z^2, VZ, V^2, UZ, UV, U^2 in degree 2. The buffers have GADWEMOSH_FRAME and
- * GADWEMOSH_COEFFICIENTS numbers or more; what kind and degree do not use holds anything. A refusal is 4, 5, 6
- * or 7, or 11 where one of the three buffers is too short, and writes nothing. */
-uint8_t gadwemosh_first(uint8_t kind, uint8_t degree, const int64_t *frame, size_t frame_length,
-                        const int64_t *coefficients, size_t coefficients_length, int64_t *net,
-                        size_t net_length);
+/* Makes the first net of polynomials over a frame, without a record. `degree` is m, or p of a rectangular
+ * patch, whose q is `second`; for the others `second` is 0.
+ *
+ *   kind           frame                  monomials, in order
+ *   1 curve        r, s as T, Z:          T^k Z^(m-k), k rising; in degree 2 Z^2, TZ, T^2
+ *                  4 numbers
+ *   2 triangular   r, s, t as U, V, Z:    U^h V^l Z^(m-h-l), h rising, then l; in degree 2 Z^2, VZ, V^2, UZ, UV,
+ *                  9 numbers              U^2
+ *   3 rectangular  r1, s1 as T1, Z1 and   T1^h Z1^(p-h) T2^l Z2^(q-l), h rising, then l; in degrees 1 and 1
+ *                  r2, s2 as T2, Z2:      Z1 Z2, Z1 T2, T1 Z2, T1 T2
+ *                  8 numbers
+ *
+ * The determinant of the frame, for a rectangular patch that of each pair, must not be 0. The coefficients are
+ * x, y, z, w of each monomial. The buffers have GADWEMOSH_FRAME and GADWEMOSH_COEFFICIENTS numbers or more; what
+ * kind and degrees do not use holds anything. A refusal is 4, 5, 6 or 7, or 11 where one of the three buffers
+ * is too short, and writes nothing. */
+uint8_t gadwemosh_first(uint8_t kind, uint8_t degree, uint8_t second, const int64_t *frame,
+                        size_t frame_length, const int64_t *coefficients, size_t coefficients_length,
+                        int64_t *net, size_t net_length);
 
-/* Replaces (1) a vertex by the point at the weights, or flips (2) it. The weights are those of r, s and t;
- * unused ones are 0: the third of a curve, all of a flip. A refused move leaves the net as it was. */
+/* Replaces (1) a vertex by the point at the weights, or flips (2) it. The weights are those of r, s and t; for
+ * a rectangular patch the first two are those of the vertex's own pair, r1 and s1 or r2 and s2. Unused ones are
+ * 0: the third of all but a triangular patch, the fourth, all of a flip. A refused move leaves the net as it
+ * was. */
 uint8_t gadwemosh_move(int64_t *net, size_t net_length, uint8_t operation, uint8_t vertex, int64_t r,
-                       int64_t s, int64_t t);
+                       int64_t s, int64_t t, int64_t u);
 
-/* Finds the point at the weights: x, y, z, w go into the first four places of `found`. A refusal
- * writes nothing. */
-uint8_t gadwemosh_point(const int64_t *net, size_t net_length, int64_t r, int64_t s, int64_t t,
+/* Finds the point at the weights: x, y, z, w go into the first four places of `found`. The weights are those
+ * of r, s and t, or of r1, s1, r2 and s2; unused ones are 0: the third of a curve, the fourth of all but a
+ * rectangular patch. A refusal writes nothing. */
+uint8_t gadwemosh_point(const int64_t *net, size_t net_length, int64_t r, int64_t s, int64_t t, int64_t u,
                         int64_t *found, size_t found_length);
 
 /* Projects four numbers. `outcome` says where they lie: a finite point (1) is written to `bits`, as the bit

@@ -19,7 +19,7 @@ fn print_net(name: &str, net: &Net) {
 /// A copy of the net with one vertex replaced by the point at (1, 1).
 fn half(net: &Net, vertex: Vertex) -> Result<Net, Refused> {
     let mut copy = net.clone();
-    copy.replace(vertex, [1, 1, 0])?;
+    copy.replace(vertex, [1, 1, 0, 0])?;
     Ok(copy)
 }
 

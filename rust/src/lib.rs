@@ -1,4 +1,4 @@
-//! Exact control nets of rational curves and triangular patches.
+//! Exact control nets of rational curves, triangular patches and rectangular patches.
 //!
 //! A control net is made from a record ([`Net::open`]), from polynomials and a frame ([`Net::first`]) or
 //! from its own entries ([`Net::of_entries`]). It is moved to other frames by [`Net::replace`] and
@@ -17,10 +17,28 @@
 //! assert!(net.entries().eq([[2, 0, 0, 2], [2, 2, 0, 2], [0, 4, 0, 4]]));
 //!
 //! // its middle, and its first half
-//! let middle = net.point([1, 1, 0])?;
+//! let middle = net.point([1, 1, 0, 0])?;
 //! assert_eq!(project(middle)?, Projection::Finite([0.6, 0.8, 0.0]));
-//! net.replace(Vertex::S, [1, 1, 0])?;
+//! net.replace(Vertex::S, [1, 1, 0, 0])?;
 //! assert!(net.entries().eq([[2, 0, 0, 2], [4, 2, 0, 4], [6, 8, 0, 10]]));
+//! # Ok::<(), gadwemosh::Refused>(())
+//! ```
+//!
+//! A rectangular patch has two degrees and two pairs of vertices, each with weights of its own:
+//!
+//! ```
+//! use gadwemosh::{project, Kind, Net, Projection, Vertex};
+//!
+//! // x = T₁Z₂, y = Z₁T₂, z = T₁T₂, w = Z₁Z₂ over r₁ = r₂ = (0, 1) and s₁ = s₂ = (1, 1): a part of z = xy
+//! let coefficients = [[0, 0, 0, 1], [0, 1, 0, 0], [1, 0, 0, 0], [0, 0, 1, 0]];
+//! let mut net = Net::first(Kind::Rectangular, [1, 1], &[0, 1, 1, 1, 0, 1, 1, 1], &coefficients)?;
+//! assert!(net.entries().eq([[0, 0, 0, 1], [0, 1, 0, 1], [1, 0, 0, 1], [1, 1, 1, 1]]));
+//!
+//! // its middle, and its half towards r₂
+//! let middle = net.point([1, 1, 1, 1])?;
+//! assert_eq!(project(middle)?, Projection::Finite([0.5, 0.5, 0.25]));
+//! net.replace(Vertex::S2, [1, 1, 0, 0])?;
+//! assert!(net.entries().eq([[0, 0, 0, 1], [0, 1, 0, 2], [1, 0, 0, 1], [2, 1, 1, 2]]));
 //! # Ok::<(), gadwemosh::Refused>(())
 //! ```
 //!
@@ -37,7 +55,7 @@ mod projection;
 mod record;
 mod refused;
 
-pub use net::{Kind, Move, Net, Vertex};
+pub use net::{Degrees, Kind, Move, Net, Vertex};
 pub use projection::{project, Projection};
 pub use record::{text, write_text, Field, Record};
 pub use refused::{RecordRefused, Refused};
@@ -45,5 +63,7 @@ pub use refused::{RecordRefused, Refused};
 /// The components x, y, z and w of an entry, of a point or of a monomial's coefficients; w is the weight.
 pub type Components = [i64; 4];
 
-/// The weights of the vertices r, s and t; a curve has no t, and its third weight is 0.
-pub type Weights = [i64; 3];
+/// The weights of vertices; those that are not used are 0. A point's are those of r and s of a curve, of r, s
+/// and t of a triangular patch, of r1, s1, r2 and s2 of a rectangular one. A move's are the same, but on a
+/// rectangular patch the first two are those of the vertex's own pair, and no others are used.
+pub type Weights = [i64; 4];

@@ -10,49 +10,124 @@ pub enum Kind {
     /// A rational curve, with the frame r, s.
     Curve = 1,
     /// A triangular patch, with the frame r, s, t.
-    Patch = 2,
+    Triangular = 2,
+    /// A rectangular patch, with the frame r1, s1, r2, s2, a pair for each of its degrees.
+    Rectangular = 3,
 }
 
 impl Kind {
-    /// How many vertices a frame has.
-    pub fn vertices(self) -> usize {
+    /// The vertices of a frame, in their order.
+    pub fn vertices(self) -> &'static [Vertex] {
         match self {
-            Kind::Curve => 2,
-            Kind::Patch => 3,
+            Kind::Curve => &[Vertex::R, Vertex::S],
+            Kind::Triangular => &[Vertex::R, Vertex::S, Vertex::T],
+            Kind::Rectangular => &[Vertex::R1, Vertex::S1, Vertex::R2, Vertex::S2],
         }
     }
 
-    /// The largest degree; the smallest is 1.
+    /// How many numbers a vertex has.
+    pub fn coordinates(self) -> usize {
+        match self {
+            Kind::Curve | Kind::Rectangular => 2,
+            Kind::Triangular => 3,
+        }
+    }
+
+    /// The largest degree, for both degrees of a rectangular patch; the smallest is 1.
     pub fn largest_degree(self) -> u8 {
         match self {
             Kind::Curve => 10,
-            Kind::Patch => 8,
+            Kind::Triangular => 8,
+            Kind::Rectangular => 5,
         }
     }
 
-    /// How many entries a net of this degree has, which is also the number of monomials; nothing where
-    /// the degree is outside.
-    pub fn entries(self, degree: u8) -> Option<usize> {
-        if degree == 0 || degree > self.largest_degree() {
+    /// How many entries a net of these degrees has, which is also the number of monomials; nothing where
+    /// a degree is outside.
+    pub fn entries(self, degrees: impl Into<Degrees>) -> Option<usize> {
+        let degrees = degrees.into();
+        if !self.has_degrees(degrees) {
             return None;
         }
-        let m = usize::from(degree);
+        let (m, q) = (usize::from(degrees.first), usize::from(degrees.second));
         Some(match self {
             Kind::Curve => m + 1,
-            Kind::Patch => (m + 1) * (m + 2) / 2,
+            Kind::Triangular => (m + 1) * (m + 2) / 2,
+            Kind::Rectangular => (m + 1) * (q + 1),
         })
+    }
+
+    fn has_degrees(self, degrees: Degrees) -> bool {
+        let inside = 1..=self.largest_degree();
+        let second = match self {
+            Kind::Curve | Kind::Triangular => degrees.second == 0,
+            Kind::Rectangular => inside.contains(&degrees.second),
+        };
+        inside.contains(&degrees.first) && second
     }
 }
 
-/// A vertex of a frame; a curve has no `T`.
+/// The degrees of a net. A number stands for the one degree of a curve or of a triangular patch, a pair of
+/// numbers for the two of a rectangular patch:
+///
+/// ```
+/// use gadwemosh::Kind;
+///
+/// assert_eq!(Kind::Triangular.entries(3), Some(10));
+/// assert_eq!(Kind::Rectangular.entries([3, 2]), Some(12));
+/// ```
+#[derive(Clone, Copy, Debug, PartialEq, Eq, Hash)]
+pub struct Degrees {
+    /// The only degree, or the one in the first pair of a rectangular patch.
+    pub first: u8,
+    /// The degree in the second pair of a rectangular patch; 0 for the other kinds.
+    pub second: u8,
+}
+
+impl From<u8> for Degrees {
+    fn from(degree: u8) -> Degrees {
+        Degrees {
+            first: degree,
+            second: 0,
+        }
+    }
+}
+
+impl From<[u8; 2]> for Degrees {
+    fn from([first, second]: [u8; 2]) -> Degrees {
+        Degrees { first, second }
+    }
+}
+
+/// A vertex of a frame. [`Kind::vertices`] says which vertices a kind has.
 #[derive(Clone, Copy, Debug, PartialEq, Eq, Hash)]
 pub enum Vertex {
-    /// The first vertex.
-    R = 1,
-    /// The second vertex.
-    S = 2,
-    /// The third vertex, of a patch.
-    T = 3,
+    /// The first vertex of a curve or of a triangular patch.
+    R,
+    /// The second vertex of a curve or of a triangular patch.
+    S,
+    /// The third vertex of a triangular patch.
+    T,
+    /// The first vertex of a rectangular patch's first pair.
+    R1,
+    /// The second vertex of a rectangular patch's first pair.
+    S1,
+    /// The first vertex of a rectangular patch's second pair.
+    R2,
+    /// The second vertex of a rectangular patch's second pair.
+    S2,
+}
+
+impl Vertex {
+    /// The number that a [`Move`] has for the vertex.
+    pub fn number(self) -> u8 {
+        match self {
+            Vertex::R | Vertex::R1 => 1,
+            Vertex::S | Vertex::S1 => 2,
+            Vertex::T | Vertex::R2 => 3,
+            Vertex::S2 => 4,
+        }
+    }
 }
 
 /// A move as a record has it. Any numbers can stand here; they are judged when the move is taken.
@@ -60,13 +135,13 @@ pub enum Vertex {
 pub struct Move {
     /// 1 replace, 2 flip.
     pub operation: u8,
-    /// 1 r, 2 s, 3 the t of a patch.
+    /// The vertex's number ([`Vertex::number`]).
     pub vertex: u8,
-    /// The weights of the point that takes the vertex's place; those that are not used are 0.
+    /// The weights of the point that takes the vertex's place.
     pub weights: Weights,
 }
 
-/// A control net. Two nets are equal where kind, degree and every entry are.
+/// A control net. Two nets are equal where kind, degrees and every entry are.
 #[derive(Clone, Debug, PartialEq, Eq, Hash)]
 pub struct Net {
     /// What `include/gadwemosh.h` says; the places that are not in use are 0.
@@ -88,42 +163,58 @@ impl Net {
         }
     }
 
-    /// The first net of polynomials over a frame. The frame's numbers stand vertex by vertex: r and s as
-    /// T, Z for a curve, r, s and t as U, V, Z for a patch. The coefficients stand one monomial after the
-    /// other, in the record's order: the exponent of T rising for a curve; for a patch that of U rising,
-    /// and for each of them that of V rising.
+    /// The first net of polynomials over a frame. The frame's numbers stand vertex by vertex: as T, Z for a
+    /// curve, as U, V, Z for a triangular patch, as T₁, Z₁ for r1 and s1 and T₂, Z₂ for r2 and s2 of a
+    /// rectangular one. The coefficients stand one monomial after the other, in the record's order: the
+    /// exponent of T rising for a curve; for a triangular patch that of U rising, and for each of them that
+    /// of V rising; for a rectangular patch that of T₁ rising, and for each of them that of T₂ rising.
     ///
-    /// Too few numbers are refused ([`Refused::SHORT`]), and numbers past those that kind and degree use
+    /// Too few numbers are refused ([`Refused::SHORT`]), and numbers past those that kind and degrees use
     /// are not looked at.
     pub fn first(
         kind: Kind,
-        degree: u8,
+        degrees: impl Into<Degrees>,
         frame: &[i64],
         coefficients: &[Components],
     ) -> Result<Net, Refused> {
         let mut net = Net::blank();
+        let degrees = degrees.into();
         // a degree outside uses nothing here, and is refused below
-        let monomials = kind.entries(degree).unwrap_or(0);
-        let frame: [i64; raw::FRAME] = filled(frame, kind.vertices() * kind.vertices())?;
+        let monomials = kind.entries(degrees).unwrap_or(0);
+        let frame_numbers = kind.vertices().len() * kind.coordinates();
+        let frame: [i64; raw::FRAME] = filled(frame, frame_numbers)?;
         let coefficients: [i64; raw::COEFFICIENTS] =
             filled(coefficients.as_flattened(), 4 * monomials)?;
-        let number = raw::first(kind as u8, degree, &frame, &coefficients, &mut net.places);
+        let number = raw::first(
+            kind as u8,
+            degrees.first,
+            degrees.second,
+            &frame,
+            &coefficients,
+            &mut net.places,
+        );
         answer(number).map(|()| net)
     }
 
     /// The net with these entries, in the order of [`Net::entries`]. Too few entries are refused
-    /// ([`Refused::SHORT`]), and entries past those of kind and degree are not looked at.
-    pub fn of_entries(kind: Kind, degree: u8, entries: &[Components]) -> Result<Net, Refused> {
-        let count = kind.entries(degree).ok_or(Refused::KIND)?;
+    /// ([`Refused::SHORT`]), and entries past those of kind and degrees are not looked at.
+    pub fn of_entries(
+        kind: Kind,
+        degrees: impl Into<Degrees>,
+        entries: &[Components],
+    ) -> Result<Net, Refused> {
+        let degrees = degrees.into();
+        let count = kind.entries(degrees).ok_or(Refused::KIND)?;
         let used = entries.get(..count).ok_or(Refused::SHORT)?.as_flattened();
         let mut net = Net::blank();
-        net.places[..2].copy_from_slice(&[kind as i64, i64::from(degree)]);
+        let head = [kind as u8, degrees.first, degrees.second];
+        net.places[..3].copy_from_slice(&head.map(i64::from));
         net.places[raw::ENTRIES..][..used.len()].copy_from_slice(used);
         // a move of no operation is judged after the net, so what it is refused for says how the net is
         let no_operation = Move {
             operation: 0,
             vertex: 0,
-            weights: [0; 3],
+            weights: [0; 4],
         };
         match net.take(no_operation) {
             Err(Refused::ARGUMENT) | Ok(()) => Ok(net),
@@ -137,24 +228,28 @@ impl Net {
         }
     }
 
-    /// Curve or patch.
+    /// Curve, triangular patch or rectangular patch.
     pub fn kind(&self) -> Kind {
-        if self.places[0] == Kind::Curve as i64 {
-            Kind::Curve
-        } else {
-            Kind::Patch
+        match self.places[0] {
+            1 => Kind::Curve,
+            2 => Kind::Triangular,
+            _ => Kind::Rectangular,
         }
     }
 
-    /// The degree.
-    pub fn degree(&self) -> u8 {
-        self.places[1] as u8
+    /// The degrees.
+    pub fn degrees(&self) -> Degrees {
+        Degrees {
+            first: self.places[1] as u8,
+            second: self.places[2] as u8,
+        }
     }
 
-    /// The entries in their order. For a curve the copies of s rise; for a patch the copies of r fall, and
-    /// for each of them those of s fall.
+    /// The entries in their order. For a curve the copies of s rise; for a triangular patch the copies of r
+    /// fall, and for each of them those of s fall; for a rectangular patch the copies of s1 rise, and for each
+    /// of them those of s2 rise.
     pub fn entries(&self) -> impl ExactSizeIterator<Item = Components> + DoubleEndedIterator + '_ {
-        let count = self.kind().entries(self.degree()).unwrap_or(0);
+        let count = self.kind().entries(self.degrees()).unwrap_or(0);
         let numbers = &self.places[raw::ENTRIES..][..4 * count];
         numbers
             .chunks_exact(4)
@@ -176,22 +271,33 @@ impl Net {
         ))
     }
 
-    /// Puts the point at the weights in a vertex's place.
+    /// Puts the point at the weights in a vertex's place. A vertex that the kind does not have is refused
+    /// ([`Refused::ARGUMENT`]).
     pub fn replace(&mut self, vertex: Vertex, weights: Weights) -> Result<(), Refused> {
         self.take(Move {
             operation: raw::REPLACE,
-            vertex: vertex as u8,
+            vertex: self.number_of(vertex),
             weights,
         })
     }
 
-    /// Puts a vertex's negative in its place.
+    /// Puts a vertex's negative in its place. A vertex that the kind does not have is refused
+    /// ([`Refused::ARGUMENT`]).
     pub fn flip(&mut self, vertex: Vertex) -> Result<(), Refused> {
         self.take(Move {
             operation: raw::FLIP,
-            vertex: vertex as u8,
-            weights: [0; 3],
+            vertex: self.number_of(vertex),
+            weights: [0; 4],
         })
+    }
+
+    /// The number of a vertex on this net; 0, which is no vertex, where the kind does not have it.
+    fn number_of(&self, vertex: Vertex) -> u8 {
+        if self.kind().vertices().contains(&vertex) {
+            vertex.number()
+        } else {
+            0
+        }
     }
 
     /// The point at the weights. [`project`](crate::project) says where it lies.

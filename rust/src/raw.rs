@@ -21,6 +21,7 @@ mod c {
         pub fn gadwemosh_first(
             kind: u8,
             degree: u8,
+            second: u8,
             frame: *const i64,
             frame_length: usize,
             coefficients: *const i64,
@@ -36,6 +37,7 @@ mod c {
             r: i64,
             s: i64,
             t: i64,
+            u: i64,
         ) -> u8;
         pub fn gadwemosh_point(
             net: *const i64,
@@ -43,6 +45,7 @@ mod c {
             r: i64,
             s: i64,
             t: i64,
+            u: i64,
             found: *mut i64,
             found_length: usize,
         ) -> u8;
@@ -80,10 +83,11 @@ pub const NET: usize = 193;
 /// At which place of a net its entries begin.
 pub const ENTRIES: usize = 12;
 
-/// How many numbers [`first`] wants of a frame at least; a curve uses the first four.
+/// How many numbers [`first`] wants of a frame at least; a curve uses the first four, a rectangular patch the
+/// first eight.
 pub const FRAME: usize = 9;
 
-/// How many coefficients [`first`] wants at least; kind and degree say how many it uses.
+/// How many coefficients [`first`] wants at least; kind and degrees say how many it uses.
 pub const COEFFICIENTS: usize = 180;
 
 /// No text of a record has more bytes.
@@ -121,17 +125,25 @@ pub fn open(record: &[u8], net: &mut [i64], offset: &mut u64) -> u8 {
     }
 }
 
-/// Makes the first net of polynomials over a frame, without a record (`gadwemosh_first`). The frame wants
-/// [`FRAME`] numbers and the coefficients want [`COEFFICIENTS`]; those that kind and degree do not use
-/// may be anything.
+/// Makes the first net of polynomials over a frame, without a record (`gadwemosh_first`). The second degree
+/// is that of a rectangular patch, and 0 for the other kinds. The frame wants [`FRAME`] numbers and the
+/// coefficients want [`COEFFICIENTS`]; those that kind and degrees do not use may be anything.
 #[inline]
 #[must_use]
-pub fn first(kind: u8, degree: u8, frame: &[i64], coefficients: &[i64], net: &mut [i64]) -> u8 {
+pub fn first(
+    kind: u8,
+    degree: u8,
+    second: u8,
+    frame: &[i64],
+    coefficients: &[i64],
+    net: &mut [i64],
+) -> u8 {
     // SAFETY: as in `open`.
     unsafe {
         c::gadwemosh_first(
             kind,
             degree,
+            second,
             frame.as_ptr(),
             frame.len(),
             coefficients.as_ptr(),
@@ -142,19 +154,22 @@ pub fn first(kind: u8, degree: u8, frame: &[i64], coefficients: &[i64], net: &mu
     }
 }
 
-/// Replaces or flips a vertex of a lent net (`gadwemosh_move`). The weights are those of r, s and t.
+/// Replaces or flips a vertex of a lent net (`gadwemosh_move`). The weights are those of r, s and t; for a
+/// rectangular patch the first two are those of the vertex's own pair. The others are 0.
 #[inline]
 #[must_use]
-pub fn make_move(net: &mut [i64], operation: u8, vertex: u8, [r, s, t]: [i64; 3]) -> u8 {
+pub fn make_move(net: &mut [i64], operation: u8, vertex: u8, weights: [i64; 4]) -> u8 {
+    let [r, s, t, u] = weights;
     // SAFETY: as in `open`.
-    unsafe { c::gadwemosh_move(net.as_mut_ptr(), net.len(), operation, vertex, r, s, t) }
+    unsafe { c::gadwemosh_move(net.as_mut_ptr(), net.len(), operation, vertex, r, s, t, u) }
 }
 
 /// Finds the point at the weights on a lent net (`gadwemosh_point`): x, y, z and w go into the first four
-/// places of `found`.
+/// places of `found`. The weights are those of r, s and t, or of r1, s1, r2 and s2; the others are 0.
 #[inline]
 #[must_use]
-pub fn point(net: &[i64], [r, s, t]: [i64; 3], found: &mut [i64]) -> u8 {
+pub fn point(net: &[i64], weights: [i64; 4], found: &mut [i64]) -> u8 {
+    let [r, s, t, u] = weights;
     // SAFETY: as in `open`.
     unsafe {
         c::gadwemosh_point(
@@ -163,6 +178,7 @@ pub fn point(net: &[i64], [r, s, t]: [i64; 3], found: &mut [i64]) -> u8 {
             r,
             s,
             t,
+            u,
             found.as_mut_ptr(),
             found.len(),
         )

@@ -8,7 +8,7 @@ use crate::Weights;
 /// The fields of a record.
 #[derive(Clone, Copy, Debug, PartialEq, Eq, Hash)]
 pub enum Field {
-    /// Kind and degree, a byte each.
+    /// Kind and degree, a byte each, and a byte for the second degree of a rectangular patch.
     Kind = 1,
     /// The frame.
     Frame = 2,
@@ -68,9 +68,9 @@ impl<'a> Record<'a> {
     }
 }
 
-/// Two or three weights; a third that is not there is 0.
+/// Up to four weights: a move has three, and a point two, three or four. What is not there is 0.
 fn weights(bytes: &[u8]) -> Weights {
-    let mut weights = [0; 3];
+    let mut weights = [0; 4];
     for (weight, two) in weights.iter_mut().zip(bytes.chunks_exact(2)) {
         *weight = i64::from(i16::from_be_bytes([two[0], two[1]]));
     }

@@ -15,9 +15,9 @@ impl Refused {
     pub const TAG: Refused = Refused(2);
     /// A length that a field of a record cannot have.
     pub const LENGTH: Refused = Refused(3);
-    /// A kind or a degree that no net has.
+    /// A kind or a degree that no net has, or a record's field 1 that is not of its kind's length.
     pub const KIND: Refused = Refused(4);
-    /// A number of the frame beyond 4, or determinant 0.
+    /// A number of the frame beyond 4, or a determinant 0.
     pub const FRAME: Refused = Refused(5);
     /// A coefficient beyond 1048576.
     pub const COEFFICIENT: Refused = Refused(6);
@@ -25,7 +25,7 @@ impl Refused {
     pub const FIRST_NET: Refused = Refused(7);
     /// An operation, a vertex or a weight that there is not, or an unused weight that is not 0.
     pub const ARGUMENT: Refused = Refused(8);
-    /// The replaced vertex, or every vertex of a point, has weight 0.
+    /// The replaced vertex, or every vertex of a point or of one of its pairs, has weight 0.
     pub const NO_WEIGHT: Refused = Refused(9);
     /// A number that was handed over, or a polar value that the call names, is beyond 2 to the 48th.
     pub const RANGE: Refused = Refused(10);
@@ -50,7 +50,7 @@ impl Refused {
                 "an operation, vertex or weight that there is not, or an unused weight other than 0"
             }
             Refused::NO_WEIGHT => {
-                "weight 0 for the replaced vertex, or for every vertex of a point"
+                "weight 0 for the replaced vertex, or for every vertex of a point or of a pair"
             }
             Refused::RANGE => "a number or a polar value beyond 2 to the 48th",
             Refused::SHORT => "a buffer with too few places",

@@ -1,7 +1,9 @@
 //! The package as a caller sees it. What the library itself answers is compared elsewhere
 //! (`tests/compare`); here are the things that this package adds.
 
-use gadwemosh::{project, text, write_text, Components, Field, Kind, Move, Net, Projection};
+use gadwemosh::{
+    project, text, write_text, Components, Degrees, Field, Kind, Move, Net, Projection,
+};
 use gadwemosh::{Record, RecordRefused, Refused, Vertex};
 use std::error::Error;
 
@@ -9,7 +11,7 @@ use std::error::Error;
 const CIRCLE: [Components; 3] = [[1, 0, 0, 1], [0, 2, 0, 0], [-1, 0, 0, 1]];
 const CIRCLE_NET: [Components; 3] = [[2, 0, 0, 2], [2, 2, 0, 2], [0, 4, 0, 4]];
 
-/// The patch of sample B8, Z², VZ, V², UZ, UV, U², and its net.
+/// The triangular patch of sample B8, Z², VZ, V², UZ, UV, U², and its net.
 const PATCH: [Components; 6] = [
     [0, 0, 0, 1],
     [0, 1, 0, 0],
@@ -28,18 +30,58 @@ const PATCH_NET: [Components; 6] = [
 ];
 const PATCH_FRAME: [i64; 9] = [1, 0, 1, 0, 1, 1, 0, 0, 1];
 
+/// The rectangular patch x = T₁²Z₂, y = T₁Z₁T₂, z = Z₁²T₂, w = Z₁²Z₂, and its net. The monomials of its
+/// degrees, 2 and 1, are Z₁²Z₂, Z₁²T₂, T₁Z₁Z₂, T₁Z₁T₂, T₁²Z₂, T₁²T₂.
+const RECT: [Components; 6] = [
+    [0, 0, 0, 1],
+    [0, 0, 1, 0],
+    [0, 0, 0, 0],
+    [0, 1, 0, 0],
+    [1, 0, 0, 0],
+    [0, 0, 0, 0],
+];
+const RECT_NET: [Components; 6] = [
+    [0, 0, 2, 2],
+    [0, 0, -2, 4],
+    [0, 1, 2, 2],
+    [0, -1, -2, 4],
+    [2, 2, 2, 2],
+    [4, -2, -2, 4],
+];
+const RECT_FRAME: [i64; 8] = [0, 1, 1, 1, 1, 1, -1, 2];
+
 fn circle() -> Net {
     Net::first(Kind::Curve, 2, &[0, 1, 1, 1], &CIRCLE).unwrap()
 }
 
-/// The circle's record with further fields.
-fn circle_record(further: &[u8]) -> Vec<u8> {
-    let mut record = vec![1, 0, 2, 1, 2, 2, 0, 8, 0, 0, 0, 1, 0, 1, 0, 1, 3, 0, 48];
-    for number in CIRCLE.as_flattened() {
+fn rect() -> Net {
+    Net::first(Kind::Rectangular, [2, 1], &RECT_FRAME, &RECT).unwrap()
+}
+
+/// A record: the fields of kind and frame, that of the coefficients, and further ones.
+fn record_of(kind_and_frame: &[u8], coefficients: &[Components], further: &[u8]) -> Vec<u8> {
+    let mut record = kind_and_frame.to_vec();
+    record.extend([3, 0, 16 * coefficients.len() as u8]);
+    for number in coefficients.as_flattened() {
         record.extend((*number as i32).to_be_bytes());
     }
     record.extend(further);
     record
+}
+
+/// The circle's record with further fields.
+fn circle_record(further: &[u8]) -> Vec<u8> {
+    let kind_and_frame = [1, 0, 2, 1, 2, 2, 0, 8, 0, 0, 0, 1, 0, 1, 0, 1];
+    record_of(&kind_and_frame, &CIRCLE, further)
+}
+
+/// The rectangular patch's record with further fields.
+fn rect_record(further: &[u8]) -> Vec<u8> {
+    let mut kind_and_frame = vec![1, 0, 3, 3, 2, 1, 2, 0, 16];
+    for number in RECT_FRAME {
+        kind_and_frame.extend((number as i16).to_be_bytes());
+    }
+    record_of(&kind_and_frame, &RECT, further)
 }
 
 #[test]
@@ -47,8 +89,8 @@ fn both_halves_of_the_circle() {
     let net = Net::open(&circle_record(&[])).unwrap();
     assert_eq!(net, circle());
     let (mut first, mut second) = (net.clone(), net);
-    first.replace(Vertex::S, [1, 1, 0]).unwrap();
-    second.replace(Vertex::R, [1, 1, 0]).unwrap();
+    first.replace(Vertex::S, [1, 1, 0, 0]).unwrap();
+    second.replace(Vertex::R, [1, 1, 0, 0]).unwrap();
     let halves = [
         [[2, 0, 0, 2], [4, 2, 0, 4], [6, 8, 0, 10]],
         [[6, 8, 0, 10], [2, 6, 0, 6], [0, 4, 0, 4]],
@@ -61,17 +103,26 @@ fn both_halves_of_the_circle() {
 
 #[test]
 fn a_net_from_numbers() {
-    let patch = Net::first(Kind::Patch, 2, &PATCH_FRAME, &PATCH).unwrap();
-    assert_eq!((patch.kind(), patch.degree()), (Kind::Patch, 2));
+    let patch = Net::first(Kind::Triangular, 2, &PATCH_FRAME, &PATCH).unwrap();
+    assert_eq!(
+        (patch.kind(), patch.degrees()),
+        (Kind::Triangular, 2.into())
+    );
     assert!(patch.entries().eq(PATCH_NET));
-    assert_eq!(patch.point([1, 1, 1]), Ok([6, 6, 2, 18]));
+    assert_eq!(patch.point([1, 1, 1, 0]), Ok([6, 6, 2, 18]));
     assert_eq!(patch.places()[..4], [2, 2, 0, 0]);
     assert_eq!(patch.places()[12..16], [2, 0, 0, 2]);
 
     // fewer numbers than are in use are refused, and further ones are not looked at
     let short = Err(Refused::SHORT);
-    assert_eq!(Net::first(Kind::Patch, 2, &PATCH_FRAME[..8], &PATCH), short);
-    assert_eq!(Net::first(Kind::Patch, 2, &PATCH_FRAME, &PATCH[..5]), short);
+    assert_eq!(
+        Net::first(Kind::Triangular, 2, &PATCH_FRAME[..8], &PATCH),
+        short
+    );
+    assert_eq!(
+        Net::first(Kind::Triangular, 2, &PATCH_FRAME, &PATCH[..5]),
+        short
+    );
     let (frame, mut further) = ([0, 1, 1, 1, i64::MAX], CIRCLE.to_vec());
     further.push([i64::MIN; 4]);
     assert_eq!(Net::first(Kind::Curve, 2, &frame, &further), Ok(circle()));
@@ -79,7 +130,7 @@ fn a_net_from_numbers() {
     let ones = [[1; 4]; 45];
     for (kind, frame) in [
         (Kind::Curve, &[0, 1, 1, 1][..]),
-        (Kind::Patch, &PATCH_FRAME),
+        (Kind::Triangular, &PATCH_FRAME),
     ] {
         for degree in 1..=kind.largest_degree() {
             let net = Net::first(kind, degree, frame, &ones).unwrap();
@@ -92,10 +143,151 @@ fn a_net_from_numbers() {
 }
 
 #[test]
+fn a_rectangular_patch_from_numbers() {
+    let net = rect();
+    assert_eq!(net.kind(), Kind::Rectangular);
+    assert_eq!(net.degrees(), Degrees::from([2, 1]));
+    assert!(net.entries().eq(RECT_NET));
+    assert_eq!(net.places()[..4], [3, 2, 1, 0]);
+    assert_eq!(net.point([1, 2, 3, -1]), Ok([8, 48, 72, 18]));
+
+    let make = |degrees: [u8; 2], frame: &[i64], coefficients: &[Components]| {
+        Net::first(Kind::Rectangular, degrees, frame, coefficients)
+    };
+    let further = [&RECT_FRAME[..], &[i64::MIN]].concat();
+    assert_eq!(make([2, 1], &further, &RECT), Ok(net));
+    assert_eq!(make([2, 1], &RECT_FRAME[..7], &RECT), Err(Refused::SHORT));
+    assert_eq!(make([2, 1], &RECT_FRAME, &RECT[..5]), Err(Refused::SHORT));
+    // determinant 0 in the first pair, and in the second
+    for flat in [[1, 2, 2, 4, 0, 1, 1, 1], [0, 1, 1, 1, 1, 2, 2, 4]] {
+        assert_eq!(make([2, 1], &flat, &RECT), Err(Refused::FRAME));
+    }
+    let far = make([5, 5], &[4, 3, 4, 4, 4, 3, 4, 4], &[[1 << 20; 4]; 36]);
+    assert_eq!(far, Err(Refused::FIRST_NET));
+}
+
+#[test]
+fn two_degrees() {
+    let ones = [[1; 4]; 49];
+    for p in 0..=6 {
+        for q in 0..=6 {
+            let made = Net::first(Kind::Rectangular, [p, q], &RECT_FRAME, &ones);
+            let of_entries = Net::of_entries(Kind::Rectangular, [p, q], &ones);
+            if (1..=5).contains(&p) && (1..=5).contains(&q) {
+                let count = usize::from(p + 1) * usize::from(q + 1);
+                assert_eq!(made.unwrap().entries().len(), count);
+                assert_eq!(of_entries.unwrap().entries().len(), count);
+            } else {
+                assert_eq!(made, Err(Refused::KIND));
+                assert_eq!(of_entries, Err(Refused::KIND));
+            }
+        }
+    }
+    // the other kinds have one degree
+    let curve = Net::first(Kind::Curve, [2, 1], &[0, 1, 1, 1], &CIRCLE);
+    assert_eq!(curve, Err(Refused::KIND));
+    let patch = Net::of_entries(Kind::Triangular, [2, 1], &PATCH_NET);
+    assert_eq!(patch, Err(Refused::KIND));
+}
+
+#[test]
+fn moves_in_each_pair() {
+    let moved = |make: fn(&mut Net) -> Result<(), Refused>| {
+        let mut net = rect();
+        make(&mut net).unwrap();
+        net.entries().collect::<Vec<_>>()
+    };
+    assert_eq!(
+        moved(|net| net.replace(Vertex::S1, [1, 1, 0, 0])),
+        [
+            [0, 0, 2, 2],
+            [0, 0, -2, 4],
+            [0, 1, 4, 4],
+            [0, -1, -4, 8],
+            [2, 4, 8, 8],
+            [4, -4, -8, 16],
+        ]
+    );
+    assert_eq!(
+        moved(|net| net.replace(Vertex::R2, [2, -1, 0, 0])),
+        [
+            [0, 0, 6, 0],
+            [0, 0, -2, 4],
+            [0, 3, 6, 0],
+            [0, -1, -2, 4],
+            [0, 6, 6, 0],
+            [4, -2, -2, 4],
+        ]
+    );
+    // a flip changes the sign of the entries that have an odd number of copies of the vertex
+    let signs_changed = |odd: &[usize]| {
+        let mut net = RECT_NET;
+        for &entry in odd {
+            net[entry] = net[entry].map(|number| -number);
+        }
+        net
+    };
+    assert_eq!(moved(|net| net.flip(Vertex::R1)), signs_changed(&[2, 3]));
+    assert_eq!(moved(|net| net.flip(Vertex::S1)), signs_changed(&[2, 3]));
+    assert_eq!(moved(|net| net.flip(Vertex::R2)), signs_changed(&[0, 2, 4]));
+    assert_eq!(moved(|net| net.flip(Vertex::S2)), signs_changed(&[1, 3, 5]));
+}
+
+#[test]
+fn refused_calls_on_a_rectangular_patch() {
+    let mut net = rect();
+    for vertex in [Vertex::R, Vertex::S, Vertex::T] {
+        assert_eq!(net.flip(vertex), Err(Refused::ARGUMENT));
+        assert_eq!(net.replace(vertex, [1, 1, 0, 0]), Err(Refused::ARGUMENT));
+    }
+    for vertex in [Vertex::S1, Vertex::S2] {
+        for weights in [[1, 1, 1, 0], [1, 1, 0, 1], [4097, 1, 0, 0]] {
+            assert_eq!(net.replace(vertex, weights), Err(Refused::ARGUMENT));
+        }
+        assert_eq!(net.replace(vertex, [1, 0, 0, 0]), Err(Refused::NO_WEIGHT));
+    }
+    // a weight outside is judged before a pair without weight
+    assert_eq!(net.point([0, 0, 1, 4097]), Err(Refused::ARGUMENT));
+    for weights in [[0, 0, 1, 1], [1, 1, 0, 0], [0; 4]] {
+        assert_eq!(net.point(weights), Err(Refused::NO_WEIGHT));
+    }
+    assert_eq!(net, rect());
+
+    let mut entries = [[0; 4]; 6];
+    entries[5][3] = 1 << 48;
+    let large = Net::of_entries(Kind::Rectangular, [2, 1], &entries).unwrap();
+    let mut moved = large.clone();
+    assert_eq!(moved.replace(Vertex::S2, [0, 2, 0, 0]), Err(Refused::RANGE));
+    assert_eq!(moved, large);
+    entries[5][3] += 1;
+    let beyond = Net::of_entries(Kind::Rectangular, [2, 1], &entries);
+    assert_eq!(beyond, Err(Refused::RANGE));
+}
+
+/// A vertex of another kind is refused, though its number may be that of a vertex here.
+#[test]
+fn vertices_of_other_kinds() {
+    let patch = Net::first(Kind::Triangular, 2, &PATCH_FRAME, &PATCH).unwrap();
+    for mut net in [circle(), patch] {
+        for vertex in [Vertex::R1, Vertex::S1, Vertex::R2, Vertex::S2] {
+            assert_eq!(net.flip(vertex), Err(Refused::ARGUMENT));
+        }
+        assert_eq!(net.replace(Vertex::S, [1, 1, 0, 1]), Err(Refused::ARGUMENT));
+        assert_eq!(net.point([1, 1, 0, 1]), Err(Refused::ARGUMENT));
+    }
+    for kind in [Kind::Curve, Kind::Triangular, Kind::Rectangular] {
+        let numbers: Vec<_> = kind.vertices().iter().map(|v| v.number()).collect();
+        assert_eq!(numbers, [1, 2, 3, 4][..numbers.len()]);
+    }
+}
+
+#[test]
 fn a_net_from_its_entries() {
+    let rectangular = Net::of_entries(Kind::Rectangular, [2, 1], &RECT_NET);
+    assert_eq!(rectangular, Ok(rect()));
     assert_eq!(Net::of_entries(Kind::Curve, 2, &CIRCLE_NET), Ok(circle()));
-    let patch = Net::first(Kind::Patch, 2, &PATCH_FRAME, &PATCH);
-    assert_eq!(Net::of_entries(Kind::Patch, 2, &PATCH_NET), patch);
+    let patch = Net::first(Kind::Triangular, 2, &PATCH_FRAME, &PATCH);
+    assert_eq!(Net::of_entries(Kind::Triangular, 2, &PATCH_NET), patch);
     let limit = 1 << 48;
     assert!(Net::of_entries(Kind::Curve, 1, &[[limit; 4], [-limit; 4]]).is_ok());
     for outside in [limit + 1, -limit - 1, i64::MIN] {
@@ -114,7 +306,7 @@ fn a_net_from_its_entries() {
         Err(Refused::KIND)
     );
     assert_eq!(
-        Net::of_entries(Kind::Patch, 9, &[[0; 4]; 55]),
+        Net::of_entries(Kind::Triangular, 9, &[[0; 4]; 55]),
         Err(Refused::KIND)
     );
 }
@@ -125,17 +317,23 @@ fn refused_calls_change_nothing() {
     let unknown = Move {
         operation: 3,
         vertex: 1,
-        weights: [1, 1, 0],
+        weights: [1, 1, 0, 0],
     };
     assert_eq!(net.take(unknown), Err(Refused::ARGUMENT));
-    assert_eq!(net.replace(Vertex::T, [1, 1, 0]), Err(Refused::ARGUMENT));
-    assert_eq!(net.replace(Vertex::S, [1, 4097, 0]), Err(Refused::ARGUMENT));
-    assert_eq!(net.replace(Vertex::S, [1, 0, 0]), Err(Refused::NO_WEIGHT));
-    assert_eq!(net.point([0, 0, 0]), Err(Refused::NO_WEIGHT));
+    assert_eq!(net.replace(Vertex::T, [1, 1, 0, 0]), Err(Refused::ARGUMENT));
+    assert_eq!(
+        net.replace(Vertex::S, [1, 4097, 0, 0]),
+        Err(Refused::ARGUMENT)
+    );
+    assert_eq!(
+        net.replace(Vertex::S, [1, 0, 0, 0]),
+        Err(Refused::NO_WEIGHT)
+    );
+    assert_eq!(net.point([0; 4]), Err(Refused::NO_WEIGHT));
     assert_eq!(net, circle());
     let mut large = Net::of_entries(Kind::Curve, 1, &[[1 << 48; 4], [0; 4]]).unwrap();
     let before = large.clone();
-    assert_eq!(large.replace(Vertex::R, [2, 0, 0]), Err(Refused::RANGE));
+    assert_eq!(large.replace(Vertex::R, [2, 0, 0, 0]), Err(Refused::RANGE));
     assert_eq!(large, before);
 
     let at = |refused, offset| Err(RecordRefused { refused, offset });
@@ -185,8 +383,8 @@ fn a_record_with_moves_of_its_own() {
     assert!(net
         .entries()
         .eq([[2, 0, 0, 2], [4, 2, 0, 4], [6, 8, 0, 10]]));
-    assert_eq!(record.point(), Some([1, -1, 0]));
-    let found = net.point([1, -1, 0]).unwrap();
+    assert_eq!(record.point(), Some([1, -1, 0, 0]));
+    let found = net.point([1, -1, 0, 0]).unwrap();
     assert_eq!(project(found), Ok(Projection::Finite([0.0, 1.0, 0.0])));
     let lines = "curve 2 2\nmove 2 refused 9\n0 2 0 0 2\n1 4 2 0 4\n2 6 8 0 10\n\
                  at 0000000000000000 3ff0000000000000 0000000000000000\n";
@@ -207,6 +405,51 @@ fn a_record_with_moves_of_its_own() {
         bare.as_ptr_range().end
     );
     assert_eq!(text(&bare[..40]), "refused 1 at 16\n");
+}
+
+/// A rectangular patch with a move in each pair, of which the second is refused, and a point.
+#[test]
+fn the_record_of_a_rectangular_patch() {
+    let moves = [1, 2, 0, 1, 0, 1, 0, 0, 1, 3, 0, 0, 0, 1, 0, 0];
+    let point = [5, 0, 8, 0, 1, 0xff, 0xff, 0, 2, 0, 1];
+    let bytes = rect_record(&[&[4, 0, 16][..], &moves, &point].concat());
+    let record = Record::open(&bytes).unwrap();
+    assert_eq!(record.first_net(), &rect());
+    assert_eq!(record.field(Field::Kind), [3, 2, 1]);
+    assert_eq!(record.field(Field::Frame), &bytes[9..25]);
+    let own: Vec<_> = record
+        .moves()
+        .iter()
+        .map(|own| (own.vertex, own.weights))
+        .collect();
+    assert_eq!(own, [(2, [1, 1, 0, 0]), (3, [0, 1, 0, 0])]);
+    assert_eq!(record.point(), Some([1, -1, 2, 1]));
+
+    let mut net = record.first_net().clone();
+    let taken: Vec<_> = record
+        .moves()
+        .into_iter()
+        .map(|own| net.take(own))
+        .collect();
+    assert_eq!(taken, [Ok(()), Err(Refused::NO_WEIGHT)]);
+    assert_eq!(net.point([1, -1, 2, 1]), Ok([8, 2, 2, 8]));
+    let lines = "rect 2 1 2\nmove 2 refused 9\n\
+                 0 0 0 0 2 2\n0 1 0 0 -2 4\n1 0 0 1 4 4\n1 1 0 -1 -4 8\n2 0 2 4 8 8\n2 1 4 -4 -8 16\n\
+                 at 3ff0000000000000 3fd0000000000000 3fd0000000000000\n";
+    assert_eq!(text(&bytes), lines);
+
+    // a kind that disagrees with the length of its field
+    let at = |refused, offset| Err(RecordRefused { refused, offset });
+    let mut record = rect_record(&[]);
+    record[3] = 1;
+    assert_eq!(Net::open(&record), at(Refused::KIND, 0));
+    let mut record = circle_record(&[]);
+    record[3] = 3;
+    assert_eq!(Net::open(&record), at(Refused::KIND, 0));
+    // the first pair has determinant 0
+    let mut record = rect_record(&[]);
+    record[14] = 0;
+    assert_eq!(Net::open(&record), at(Refused::FRAME, 6));
 }
 
 #[test]
@@ -239,8 +482,9 @@ fn errors_say_why() {
     let record: Box<dyn Error> = Net::open(&[]).unwrap_err().into();
     let said = "refused 2 at byte 0: a field must not stand there, or one is missing";
     assert_eq!(record.to_string(), said);
-    let call: Box<dyn Error + Send + Sync> = circle().point([0; 3]).unwrap_err().into();
-    let said = "refused 9: weight 0 for the replaced vertex, or for every vertex of a point";
+    let call: Box<dyn Error + Send + Sync> = circle().point([0; 4]).unwrap_err().into();
+    let said =
+        "refused 9: weight 0 for the replaced vertex, or for every vertex of a point or of a pair";
     assert_eq!(call.to_string(), said);
     assert_eq!(
         call.downcast_ref::<Refused>()

@@ -5,8 +5,8 @@ mod plain;
 mod records;
 
 use gadwemosh::raw;
-use plain::NET;
-use records::record;
+use plain::{Shape, NET};
+use records::{point, record};
 use std::fs::File;
 use std::hint::black_box;
 use std::process::{Command, Stdio};
@@ -50,9 +50,14 @@ fn process(program: &str, record: &str) -> f64 {
 fn main() {
     let words: Vec<String> = std::env::args().collect();
     println!("{:<28} {:>12} {:>12}", "", "library", "plain Rust");
-    for (kind, degree) in [(1u8, 1u8), (1, 3), (1, 10), (2, 1), (2, 3), (2, 8)] {
-        let word = if kind == 1 { "curve" } else { "patch" };
-        let s = record(kind, degree);
+    for (kind, degree, second) in [(1, 1, 0), (1, 3, 0), (1, 10, 0), (2, 1, 0), (2, 3, 0), (2, 8, 0), (3, 1, 1), (3, 3, 3), (3, 5, 5)] {
+        let shape = Shape { kind, degree, second };
+        let name = match kind {
+            1 => format!("curve {degree}"),
+            2 => format!("patch {degree}"),
+            _ => format!("rect {degree} {second}"),
+        };
+        let s = record(shape);
         let (mut lent, mut net) = ([0i64; NET], [0i64; NET]);
         let mut offset = 0u64;
         let mut layout = plain::Layout::default();
@@ -60,7 +65,7 @@ fn main() {
         assert_eq!(plain::open(&s, &mut net, &mut layout), (0, 0));
         assert_eq!(lent, net);
         row(
-            &format!("open {word} {degree}"),
+            &format!("open {name}"),
             both(
                 || {
                     black_box(raw::open(black_box(&s), &mut lent, &mut offset));
@@ -74,23 +79,23 @@ fn main() {
         assert_eq!(plain::read(&s, &mut frame, &mut coefficients).0, 0);
         let mut made = net;
         row(
-            &format!("first net {word} {degree}"),
+            &format!("first net {name}"),
             both(
                 || {
-                    black_box(raw::first(kind, degree, black_box(&frame), &coefficients, &mut lent));
+                    black_box(raw::first(kind, degree, second, black_box(&frame), &coefficients, &mut lent));
                 },
                 || {
-                    black_box(plain::first_of(kind, degree, black_box(&frame), &coefficients, &mut made));
+                    black_box(plain::first_of(shape, black_box(&frame), &coefficients, &mut made));
                 },
             ),
         );
         assert_eq!(lent, made);
         let (mut a, mut b) = (lent, net);
         for vertex in 1..=kind + 1 {
-            let mut w = [0; 3];
-            w[vertex as usize - 1] = 1;
+            let mut w = [0; 4];
+            w[if kind == 3 { (vertex - 1) % 2 } else { vertex - 1 } as usize] = 1;
             row(
-                &format!("replace {word} {degree} vertex {vertex}"),
+                &format!("replace {name} vertex {vertex}"),
                 both(
                     || {
                         black_box(raw::make_move(black_box(&mut a), raw::REPLACE, vertex, w));
@@ -102,16 +107,16 @@ fn main() {
             );
             assert_eq!(a, b);
         }
-        let t = if kind == 1 { 0 } else { 1 };
+        let w = point(kind);
         let (mut f, mut g) = ([0i64; 4], [0i64; 4]);
         row(
-            &format!("point {word} {degree}"),
+            &format!("point {name}"),
             both(
                 || {
-                    black_box(raw::point(black_box(&lent), [1, 1, t], &mut f));
+                    black_box(raw::point(black_box(&lent), w, &mut f));
                 },
                 || {
-                    black_box(plain::point(black_box(&net), black_box([1, 1, t]), &mut g));
+                    black_box(plain::point(black_box(&net), black_box(w), &mut g));
                 },
             ),
         );
@@ -119,7 +124,7 @@ fn main() {
         let (mut o, mut p) = ([0u8; 4096], [0u8; 4096]);
         let mut n = 0u64;
         row(
-            &format!("text {word} {degree}"),
+            &format!("text {name}"),
             both(
                 || {
                     black_box(raw::text(black_box(&s), &mut o, &mut n));

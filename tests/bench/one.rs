@@ -1,11 +1,11 @@
 //! Each call once, by the library and in plain Rust, for counting instructions:
-//! `one KIND DEGREE OPERATION VERTEX`. The functions with C names are what the counter looks for.
+//! `one KIND DEGREE SECOND OPERATION VERTEX`, the second degree of a rectangular patch and 0 of the others. The functions with C names are what the counter looks for.
 #[allow(dead_code)]
 mod plain;
 mod records;
 
 use gadwemosh::raw;
-use plain::{NET, PLACES};
+use plain::{Shape, NET, PLACES};
 use std::hint::black_box;
 
 #[no_mangle]
@@ -16,19 +16,19 @@ fn plain_open(s: &[u8], net: &mut [i64], layout: &mut plain::Layout) -> u8 {
 
 #[no_mangle]
 #[inline(never)]
-fn plain_first(kind: u8, degree: u8, frame: &[i64], coefficients: &[i64], net: &mut [i64]) -> u8 {
-    plain::first_of(kind, degree, frame, coefficients, net)
+fn plain_first(shape: Shape, frame: &[i64], coefficients: &[i64], net: &mut [i64]) -> u8 {
+    plain::first_of(shape, frame, coefficients, net)
 }
 
 #[no_mangle]
 #[inline(never)]
-fn plain_move(net: &mut [i64], operation: u8, vertex: u8, w: [i64; 3]) -> u8 {
+fn plain_move(net: &mut [i64], operation: u8, vertex: u8, w: [i64; 4]) -> u8 {
     if operation == 1 { plain::replace(net, vertex, w) } else { plain::flip(net, vertex) }
 }
 
 #[no_mangle]
 #[inline(never)]
-fn plain_point(net: &[i64], w: [i64; 3], found: &mut [i64]) -> u8 {
+fn plain_point(net: &[i64], w: [i64; 4], found: &mut [i64]) -> u8 {
     plain::point(net, w, found)
 }
 
@@ -41,17 +41,22 @@ fn plain_text(s: &[u8], out: &mut [u8]) -> usize {
 fn main() {
     let words: Vec<String> = std::env::args().collect();
     let byte = |k: usize| -> u8 { words[k].parse().unwrap() };
-    let (kind, degree, operation, vertex) = (byte(1), byte(2), byte(3), byte(4));
-    let s = records::record(kind, degree);
-    let point = [1, 1, kind as i64 - 1];
-    let weights = if operation == 1 { point } else { [0; 3] };
+    let shape = Shape { kind: byte(1), degree: byte(2), second: byte(3) };
+    let (Shape { kind, degree, second }, operation, vertex) = (shape, byte(4), byte(5));
+    let s = records::record(shape);
+    let point = records::point(kind);
+    let weights = match (operation, kind) {
+        (1, 3) => [1, 1, 0, 0],
+        (1, _) => point,
+        _ => [0; 4],
+    };
     let (mut frame, mut coefficients) = ([0; 9], [0; PLACES]);
     assert_eq!(plain::read(&s, &mut frame, &mut coefficients).0, 0);
 
     let (mut lent, mut made, mut found, mut out) = ([0i64; NET], [0i64; NET], [0i64; 4], [0u8; 4096]);
     let (mut offset, mut length) = (0u64, 0u64);
     let number = raw::open(&s, &mut lent, &mut offset)
-        + raw::first(kind, degree, &frame, &coefficients, &mut made)
+        + raw::first(kind, degree, second, &frame, &coefficients, &mut made)
         + raw::point(&lent, point, &mut found)
         + raw::make_move(&mut lent, operation, vertex, weights)
         + raw::text(&s, &mut out, &mut length);
@@ -60,7 +65,7 @@ fn main() {
     let (mut net, mut first, mut same, mut text) = ([0i64; NET], [0i64; NET], [0i64; 4], [0u8; 4096]);
     let mut layout = plain::Layout::default();
     let number = plain_open(black_box(&s), black_box(&mut net), &mut layout)
-        + plain_first(black_box(kind), black_box(degree), black_box(&frame), black_box(&coefficients), black_box(&mut first))
+        + plain_first(black_box(shape), black_box(&frame), black_box(&coefficients), black_box(&mut first))
         + plain_point(black_box(&net), black_box(point), black_box(&mut same))
         + plain_move(black_box(&mut net), black_box(operation), black_box(vertex), black_box(weights));
     assert_eq!(number, 0);

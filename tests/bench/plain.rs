@@ -14,17 +14,95 @@ const CURVE_SCALES: [i64; 10] = [1, 2, 3, 12, 10, 60, 105, 280, 252, 2520];
 const PATCH_SCALES: [i64; 8] = [1, 2, 6, 12, 60, 180, 420, 1680];
 const FACTORIALS: [i64; 11] = [1, 1, 2, 6, 24, 120, 720, 5040, 40320, 362880, 3628800];
 
-pub fn scale(kind: u8, degree: usize) -> i64 {
-    if kind == 1 { CURVE_SCALES[degree - 1] } else { PATCH_SCALES[degree - 1] }
+/// Kind and degrees of a net; the second degree is 0 but for a rectangular patch.
+#[derive(Clone, Copy, Default)]
+pub struct Shape {
+    pub kind: u8,
+    pub degree: u8,
+    pub second: u8,
 }
 
-/// How many entries a net of the kind has at a degree.
-pub fn count(kind: u8, m: usize) -> usize {
-    if kind == 1 { m + 1 } else { (m + 1) * (m + 2) / 2 }
+impl Shape {
+    pub fn known(self) -> bool {
+        let Shape { kind, degree, second } = self;
+        match kind {
+            1 => (1..=10).contains(&degree) && second == 0,
+            2 => (1..=8).contains(&degree) && second == 0,
+            3 => (1..=5).contains(&degree) && (1..=5).contains(&second),
+            _ => false,
+        }
+    }
+
+    fn vertices(self) -> u8 {
+        self.kind + 1
+    }
+
+    fn frame_numbers(self) -> usize {
+        match self.kind {
+            1 => 4,
+            2 => 9,
+            _ => 8,
+        }
+    }
+
+    /// How many numbers the entries have, four each.
+    pub fn numbers(self) -> usize {
+        self.first().numbers()
+    }
+
+    pub fn scale(self) -> i64 {
+        let first = self.first().scale();
+        if self.kind == 3 { first * self.second_pair().scale() } else { first }
+    }
+
+    /// The net as the first vertices see it: a patch, or one curve; a rectangular patch has rows for
+    /// its entries.
+    fn first(self) -> Group {
+        let dimension = if self.kind == 2 { 2 } else { 1 };
+        Group { dimension, degree: self.degree as usize, width: 4 * (self.second as usize + 1) }
+    }
+
+    /// As the second pair sees it: each row is a curve.
+    fn second_pair(self) -> Group {
+        Group { dimension: 1, degree: self.second as usize, width: 4 }
+    }
 }
 
-pub fn known(kind: u8, degree: u8, second: u8) -> bool {
-    second == 0 && degree >= 1 && ((kind == 1 && degree <= 10) || (kind == 2 && degree <= 8))
+/// A curve (dimension 1) or a triangular patch (2) whose entries have so many numbers.
+#[derive(Clone, Copy)]
+struct Group {
+    dimension: usize,
+    degree: usize,
+    width: usize,
+}
+
+impl Group {
+    fn count(self) -> usize {
+        if self.dimension == 1 { self.degree + 1 } else { (self.degree + 1) * (self.degree + 2) / 2 }
+    }
+
+    fn numbers(self) -> usize {
+        self.width * self.count()
+    }
+
+    fn scale(self) -> i64 {
+        if self.dimension == 1 { CURVE_SCALES[self.degree - 1] } else { PATCH_SCALES[self.degree - 1] }
+    }
+
+    /// The same of another degree.
+    fn of(self, degree: usize) -> Group {
+        Group { degree, ..self }
+    }
+
+    /// Where entry k of row n stands; a curve has one entry in each row.
+    fn place(self, n: usize, k: usize) -> usize {
+        if self.dimension == 1 { n } else { n * (n + 1) / 2 + k }
+    }
+
+    /// The last entry of row n.
+    fn last(self, n: usize) -> usize {
+        if self.dimension == 1 { 0 } else { n }
+    }
 }
 
 /// A place of the head; what is no byte counts as 255, which is no kind and no degree.
@@ -41,9 +119,9 @@ fn entries_mut(net: &mut [i64]) -> &mut [i64; PLACES] {
 }
 
 /// Puts a net into lent places; those that it does not use stay.
-fn put(net: &mut [i64], kind: u8, degree: u8, made: &[i64; PLACES]) {
-    net[..3].copy_from_slice(&[kind as i64, degree as i64, 0]);
-    let n = 4 * count(kind, degree as usize);
+fn put(net: &mut [i64], shape: Shape, made: &[i64; PLACES]) {
+    net[..3].copy_from_slice(&[shape.kind as i64, shape.degree as i64, shape.second as i64]);
+    let n = shape.numbers();
     entries_mut(net)[..n].copy_from_slice(&made[..n]);
 }
 
@@ -51,18 +129,32 @@ fn in_range(v: i64) -> bool {
     (-LIMIT..=LIMIT).contains(&v)
 }
 
-/// One blend, from degree m to m - 1, in place: a curve takes places j and j + 1, a patch the three
-/// corners of each small triangle. Says whether the blended numbers are in range.
-fn blend(xs: &mut [i64; PLACES], kind: u8, m: usize, w: [i64; 3]) -> bool {
-    let mut good = true;
-    if kind == 1 {
-        for i in 0..4 * m {
-            let v = w[0] * xs[i] + w[1] * xs[i + 4];
-            xs[i] = v;
-            good &= in_range(v);
-        }
-        return good;
+/// One blend to the degree below, in place, from place `at` on. Says whether the blended numbers are in
+/// range. Rows of four numbers, the most common, are blended by code of their own.
+#[inline(always)]
+fn blend(xs: &mut [i64; PLACES], at: usize, g: Group, w: [i64; 3]) -> bool {
+    match (g.dimension, g.width) {
+        (1, 4) => blend_curve(xs, at, g.degree, 4, w),
+        (1, width) => blend_curve(xs, at, g.degree, width, w),
+        _ => blend_patch(xs, g.degree, w),
     }
+}
+
+/// A curve takes entries j and j + 1.
+#[inline(always)]
+fn blend_curve(xs: &mut [i64; PLACES], at: usize, m: usize, width: usize, w: [i64; 3]) -> bool {
+    let mut good = true;
+    for i in at..at + width * m {
+        let v = w[0] * xs[i] + w[1] * xs[i + width];
+        xs[i] = v;
+        good &= in_range(v);
+    }
+    good
+}
+
+/// A patch, which is alone in its net, takes the three corners of each small triangle.
+fn blend_patch(xs: &mut [i64; PLACES], m: usize, w: [i64; 3]) -> bool {
+    let mut good = true;
     let mut p = 0;
     for n in 0..m {
         let d = 4 * (n + 1);
@@ -77,228 +169,294 @@ fn blend(xs: &mut [i64; PLACES], kind: u8, m: usize, w: [i64; 3]) -> bool {
 }
 
 /// All blends down to one entry, as far as they are in range.
-fn descend(xs: &mut [i64; PLACES], kind: u8, m: usize, w: [i64; 3]) -> bool {
-    for h in 0..m {
-        if !blend(xs, kind, m - h, w) {
+#[inline(always)]
+fn descend(xs: &mut [i64; PLACES], at: usize, g: Group, w: [i64; 3]) -> bool {
+    for degree in (1..=g.degree).rev() {
+        if !blend(xs, at, g.of(degree), w) {
             return false;
         }
     }
     true
 }
 
-fn all_in_range(xs: &[i64; PLACES], n: usize) -> bool {
-    xs[..n].iter().all(|&v| in_range(v))
+fn all_in_range(xs: &[i64]) -> bool {
+    xs.iter().all(|&v| in_range(v))
 }
 
-/// Kind and degree of a handed net, or its refusal.
-fn handed(net: &[i64]) -> Result<(u8, usize), u8> {
+/// Kind and degrees of a handed net, or its refusal.
+#[inline(always)]
+fn handed(net: &[i64]) -> Result<Shape, u8> {
     if net.len() < NET {
         return Err(11);
     }
-    let (kind, degree) = (byte(net[0]), byte(net[1]));
-    if !known(kind, degree, byte(net[2])) {
+    let shape = Shape { kind: byte(net[0]), degree: byte(net[1]), second: byte(net[2]) };
+    if !shape.known() {
         return Err(4);
     }
-    let m = degree as usize;
-    if !all_in_range(entries(net), 4 * count(kind, m)) {
+    if !all_in_range(&entries(net)[..shape.numbers()]) {
         return Err(10);
     }
-    Ok((kind, m))
+    Ok(shape)
 }
 
-fn weights_in(kind: u8, w: [i64; 3]) -> bool {
-    w.iter().all(|v| (-4096..=4096).contains(v)) && (kind == 2 || w[2] == 0)
+/// Whether all weights are within their limits and those past the used ones are 0.
+fn weights_in(w: [i64; 4], used: usize) -> bool {
+    let unused = match used {
+        2 => w[2] != 0 || w[3] != 0,
+        3 => w[3] != 0,
+        _ => false,
+    };
+    !unused && w.iter().all(|v| (-4096..=4096).contains(v))
 }
 
-fn place(n: usize, k: usize) -> usize {
-    n * (n + 1) / 2 + k
-}
-
-/// Copies the entries, the copies of the first vertex and of vertex v exchanged.
-fn rename(out: &mut [i64; PLACES], xs: &[i64; PLACES], kind: u8, m: usize, v: usize) {
-    if kind == 1 {
-        for n in 0..=m {
-            let from = if v == 0 { n } else { m - n };
-            out[4 * n..4 * n + 4].copy_from_slice(&xs[4 * from..4 * from + 4]);
-        }
-        return;
+/// Copies the entries from place `at` on, the copies of the first vertex and of vertex v exchanged.
+#[inline(always)]
+fn rename(out: &mut [i64; PLACES], xs: &[i64; PLACES], at: usize, g: Group, v: usize) {
+    match (g.dimension, g.width) {
+        (1, 4) => rename_curve(out, xs, at, g.degree, 4, v),
+        (1, width) => rename_curve(out, xs, at, g.degree, width, v),
+        _ => rename_patch(out, xs, g, v),
     }
+}
+
+#[inline(always)]
+fn rename_curve(out: &mut [i64; PLACES], xs: &[i64; PLACES], at: usize, m: usize, width: usize, v: usize) {
+    for n in 0..=m {
+        let (to, from) = (at + width * n, at + width * if v == 0 { n } else { m - n });
+        out[to..to + width].copy_from_slice(&xs[from..from + width]);
+    }
+}
+
+fn rename_patch(out: &mut [i64; PLACES], xs: &[i64; PLACES], g: Group, v: usize) {
+    let m = g.degree;
     for n in 0..=m {
         for k in 0..=n {
-            let to = place(n, k);
-            let from = match v {
-                0 => to,
-                1 => place(m - n + k, k),
-                _ => place(m - k, m - n),
+            let to = 4 * g.place(n, k);
+            let from = 4 * match v {
+                0 => g.place(n, k),
+                1 => g.place(m - n + k, k),
+                _ => g.place(m - k, m - n),
             };
-            out[4 * to..4 * to + 4].copy_from_slice(&xs[4 * from..4 * from + 4]);
+            out[to..to + 4].copy_from_slice(&xs[from..from + 4]);
         }
     }
+}
+
+/// What a vertex belongs to: how the net looks from there, and which of its vertices it is.
+fn seat(shape: Shape, vertex: u8) -> (Group, usize) {
+    let v = vertex as usize - 1;
+    if shape.kind == 3 && v >= 2 { (shape.second_pair(), v - 2) } else { (shape.first(), v) }
 }
 
 /// A replace: the number of the refusal, and the net is changed only where it is 0. The vertex comes
 /// first in a room of its own, where the blends in place leave the new net.
-pub fn replace(net: &mut [i64], vertex: u8, w: [i64; 3]) -> u8 {
-    let (kind, m) = match handed(net) {
+pub fn replace(net: &mut [i64], vertex: u8, w: [i64; 4]) -> u8 {
+    let shape = match handed(net) {
         Ok(shape) => shape,
         Err(number) => return number,
     };
-    if vertex < 1 || vertex > kind + 1 || !weights_in(kind, w) {
+    if vertex < 1 || vertex > shape.vertices() {
         return 8;
     }
-    let v = vertex as usize - 1;
+    let (g, v) = seat(shape, vertex);
+    if !weights_in(w, g.dimension + 1) {
+        return 8;
+    }
     if w[v] == 0 {
         return 9;
     }
-    let mut room = [0; PLACES];
-    rename(&mut room, entries(net), kind, m, v);
-    let mut first = w;
+    let mut first = [w[0], w[1], w[2]];
     first.swap(0, v);
-    if !descend(&mut room, kind, m, first) {
-        return 10;
+    let n = shape.numbers();
+    let mut room = [0; PLACES];
+    let mut at = 0;
+    while at < n {
+        rename(&mut room, entries(net), at, g, v);
+        if !descend(&mut room, at, g, first) {
+            return 10;
+        }
+        at += g.numbers();
     }
-    rename(entries_mut(net), &room, kind, m, v);
+    at = 0;
+    while at < n {
+        rename(entries_mut(net), &room, at, g, v);
+        at += g.numbers();
+    }
     0
 }
 
 /// A flip.
 pub fn flip(net: &mut [i64], vertex: u8) -> u8 {
-    let (kind, m) = match handed(net) {
+    let shape = match handed(net) {
         Ok(shape) => shape,
         Err(number) => return number,
     };
-    if vertex < 1 || vertex > kind + 1 {
+    if vertex < 1 || vertex > shape.vertices() {
         return 8;
     }
-    let entries = entries_mut(net);
-    let v = vertex - 1;
-    if kind == 1 {
-        for j in 0..=m {
-            let c = if v == 0 { m - j } else { j };
-            if c % 2 == 1 {
-                for x in &mut entries[4 * j..4 * j + 4] {
-                    *x = -*x;
+    let (g, v) = seat(shape, vertex);
+    for xs in entries_mut(net)[..shape.numbers()].chunks_exact_mut(g.numbers()) {
+        for n in 0..=g.degree {
+            for k in 0..=g.last(n) {
+                let copies = match v {
+                    0 => g.degree - n,
+                    1 => n - k,
+                    _ => k,
+                };
+                if copies % 2 == 1 {
+                    let p = g.width * g.place(n, k);
+                    for x in &mut xs[p..p + g.width] {
+                        *x = -*x;
+                    }
                 }
             }
-        }
-        return 0;
-    }
-    let mut p = 0;
-    for n in 0..=m {
-        for k in 0..=n {
-            let c = match v {
-                0 => m - n,
-                1 => n - k,
-                _ => k,
-            };
-            if c % 2 == 1 {
-                for x in &mut entries[4 * p..4 * p + 4] {
-                    *x = -*x;
-                }
-            }
-            p += 1;
         }
     }
     0
 }
 
-/// A point.
-pub fn point(net: &[i64], w: [i64; 3], found: &mut [i64]) -> u8 {
+/// A point: all blends with the first vertices, and of a rectangular patch then those of the row that
+/// is left at the front with the second pair.
+pub fn point(net: &[i64], w: [i64; 4], found: &mut [i64]) -> u8 {
     if found.len() < 4 {
         return 11;
     }
-    let (kind, m) = match handed(net) {
+    let shape = match handed(net) {
         Ok(shape) => shape,
         Err(number) => return number,
     };
-    if !weights_in(kind, w) {
+    if !weights_in(w, shape.vertices() as usize) {
         return 8;
     }
-    if w == [0, 0, 0] {
+    let second = [w[2], w[3], 0];
+    let first = if shape.kind == 3 { [w[0], w[1], 0] } else { [w[0], w[1], w[2]] };
+    if first == [0, 0, 0] || (shape.kind == 3 && second == [0, 0, 0]) {
         return 9;
     }
-    let n = 4 * count(kind, m);
+    let n = shape.numbers();
     let mut room = [0; PLACES];
     room[..n].copy_from_slice(&entries(net)[..n]);
-    if !descend(&mut room, kind, m, w) {
+    if !descend(&mut room, 0, shape.first(), first) {
+        return 10;
+    }
+    if shape.kind == 3 && !descend(&mut room, 0, shape.second_pair(), second) {
         return 10;
     }
     found[..4].copy_from_slice(&room[..4]);
     0
 }
 
-/// The first net of judged polynomials over a judged frame: scaled coefficients, then blends with the
-/// frame's vertices, the last row first, each shared by all entries that have its points.
-fn first(kind: u8, degree: u8, frame: &[i64; 9], coefficients: &[i64; PLACES], net: &mut [i64]) -> u8 {
-    let m = degree as usize;
-    let mut base = [0i64; PLACES];
-    let all = scale(kind, m);
-    let mut p = 0;
-    for n in 0..=m {
-        for k in 0..=(if kind == 1 { 0 } else { n }) {
-            let (h, l) = if kind == 1 { (n, 0) } else { (n - k, k) };
-            let multinomial = FACTORIALS[m] / (FACTORIALS[h] * FACTORIALS[l] * FACTORIALS[m - h - l]);
-            let times = all / multinomial;
-            let from = if kind == 1 { h } else { h * (2 * m + 3 - h) / 2 + l };
-            for c in 0..4 {
-                base[4 * p + c] = coefficients[4 * from + c] * times;
-            }
-            p += 1;
-        }
-    }
+/// The first net of judged polynomials over a judged frame: from coefficients to entries with the first
+/// vertices, and of a rectangular patch then in each row with the second pair.
+fn first(shape: Shape, frame: &[i64; 9], coefficients: &[i64; PLACES], net: &mut [i64]) -> u8 {
     let mut made = [0; PLACES];
-    let d = kind as usize + 1;
-    let weights = |v: usize| {
-        let row = &frame[d * v..d * v + d];
-        if kind == 1 { [row[1], row[0], 0] } else { [row[2], row[0], row[1]] }
-    };
-    let mut row = [0; PLACES];
-    let mut one = [0; PLACES];
-    for n in (0..=m).rev() {
-        let used = 4 * count(kind, n);
-        row[..used].copy_from_slice(&base[..used]);
-        let last = if kind == 1 { 0 } else { n };
-        for k in 0..=last {
-            let used = 4 * count(kind, n - k);
-            one[..used].copy_from_slice(&row[..used]);
-            for left in (1..=n - k).rev() {
-                blend(&mut one, kind, left, weights(1));
-            }
-            let p = if kind == 1 { n } else { place(n, k) };
-            made[4 * p..4 * p + 4].copy_from_slice(&one[..4]);
-            if k < last {
-                blend(&mut row, kind, n - k, weights(2));
-            }
-        }
-        if n > 0 {
-            blend(&mut base, kind, n, weights(0));
+    let (mut base, mut row, mut one) = ([0; PLACES], [0; PLACES], [0; PLACES]);
+    let g = shape.first();
+    scaled(&mut base, coefficients, 0, g);
+    over_frame(&mut made, 0, g, frame, [&mut base, &mut row, &mut one]);
+    let n = shape.numbers();
+    if shape.kind == 3 {
+        let g = shape.second_pair();
+        let mut at = 0;
+        while at < n {
+            scaled(&mut base, &made, at, g);
+            over_frame(&mut made, at, g, &frame[4..], [&mut base, &mut row, &mut one]);
+            at += g.numbers();
         }
     }
-    if !all_in_range(&made, 4 * count(kind, m)) {
+    if !all_in_range(&made[..n]) {
         return 7;
     }
-    put(net, kind, degree, &made);
+    put(net, shape, &made);
     0
 }
 
+/// From scaled coefficients, the base, to the entries from place `at` on, of one group of vertices: blends
+/// with the vertices, the last row first, each shared by all entries that have its points.
+fn over_frame(made: &mut [i64; PLACES], at: usize, g: Group, f: &[i64], [base, row, one]: [&mut [i64; PLACES]; 3]) {
+    let (r, s, t) = if g.dimension == 1 {
+        ([f[1], f[0], 0], [f[3], f[2], 0], [0; 3])
+    } else {
+        ([f[2], f[0], f[1]], [f[5], f[3], f[4]], [f[8], f[6], f[7]])
+    };
+    for n in (0..=g.degree).rev() {
+        let used = g.of(n).numbers();
+        row[..used].copy_from_slice(&base[..used]);
+        let last = g.last(n);
+        for k in 0..last {
+            let used = g.of(n - k).numbers();
+            one[..used].copy_from_slice(&row[..used]);
+            blends(one, g.of(n - k), s);
+            copy(made, at + g.width * g.place(n, k), one, g.width);
+            blend(row, 0, g.of(n - k), t);
+        }
+        blends(row, g.of(n - last), s);
+        copy(made, at + g.width * g.place(n, last), row, g.width);
+        if n > 0 {
+            blend(base, 0, g.of(n), r);
+        }
+    }
+}
+
+/// Puts the entry at the front into its place; one of four numbers without a call.
+fn copy(made: &mut [i64; PLACES], to: usize, xs: &[i64; PLACES], width: usize) {
+    if width == 4 {
+        made[to..to + 4].copy_from_slice(&xs[..4]);
+    } else {
+        made[to..to + width].copy_from_slice(&xs[..width]);
+    }
+}
+
+/// All blends down to one entry, in range or not.
+fn blends(xs: &mut [i64; PLACES], g: Group, w: [i64; 3]) {
+    for degree in (1..=g.degree).rev() {
+        blend(xs, 0, g.of(degree), w);
+    }
+}
+
+/// The coefficients from place `at` on, each times the scale over its multinomial, in the order of the
+/// entries.
+fn scaled(base: &mut [i64; PLACES], coefficients: &[i64; PLACES], at: usize, g: Group) {
+    let m = g.degree;
+    let all = g.scale();
+    for n in 0..=m {
+        for k in 0..=g.last(n) {
+            let (h, l) = (n - k, k);
+            let times = all / (FACTORIALS[m] / (FACTORIALS[h] * FACTORIALS[l] * FACTORIALS[m - h - l]));
+            let from = at + g.width * if g.dimension == 1 { h } else { h * (2 * m + 3 - h) / 2 + l };
+            let to = g.width * g.place(n, k);
+            match g.width {
+                4 => multiplied(base, to, coefficients, from, 4, times),
+                width => multiplied(base, to, coefficients, from, width, times),
+            }
+        }
+    }
+}
+
+#[inline(always)]
+fn multiplied(base: &mut [i64; PLACES], to: usize, coefficients: &[i64; PLACES], from: usize, width: usize, times: i64) {
+    for c in 0..width {
+        base[to + c] = coefficients[from + c] * times;
+    }
+}
+
 /// The same with its judgements, for polynomials that come from elsewhere.
-pub fn first_of(kind: u8, degree: u8, frame: &[i64], coefficients: &[i64], net: &mut [i64]) -> u8 {
+pub fn first_of(shape: Shape, frame: &[i64], coefficients: &[i64], net: &mut [i64]) -> u8 {
     if frame.len() < 9 || coefficients.len() < PLACES || net.len() < NET {
         return 11;
     }
     let frame = frame[..9].try_into().unwrap();
     let coefficients: &[i64; PLACES] = coefficients[..PLACES].try_into().unwrap();
-    if !known(kind, degree, 0) {
+    if !shape.known() {
         return 4;
     }
-    let d = kind as usize + 1;
-    if frame_outside(d, frame) {
+    if frame_outside(shape, frame) {
         return 5;
     }
-    if coefficients[..4 * count(kind, degree as usize)].iter().any(|v| v.unsigned_abs() > 1 << 20) {
+    if coefficients[..shape.numbers()].iter().any(|v| v.unsigned_abs() > 1 << 20) {
         return 6;
     }
-    first(kind, degree, frame, coefficients, net)
+    first(shape, frame, coefficients, net)
 }
 
 // ---- records
@@ -314,21 +472,40 @@ fn be32(b: &[u8]) -> i64 {
 /// Where the values of the fields stand: start and length.
 #[derive(Clone, Copy, Default)]
 pub struct Layout {
-    pub kind: u8,
-    pub degree: u8,
+    pub shape: Shape,
     pub fields: [(usize, usize); 5],
 }
 
-fn determinant(d: usize, f: &[i64; 9]) -> i64 {
-    if d == 2 {
-        return f[0] * f[3] - f[1] * f[2];
-    }
+/// Of a pair of vertices.
+fn determinant(f: &[i64]) -> i64 {
+    f[0] * f[3] - f[1] * f[2]
+}
+
+/// Of three vertices.
+fn determinant_of_three(f: &[i64]) -> i64 {
     f[0] * (f[4] * f[8] - f[5] * f[7]) - f[1] * (f[3] * f[8] - f[5] * f[6]) + f[2] * (f[3] * f[7] - f[4] * f[6])
 }
 
-/// Whether a number is outside, or the determinant is 0.
-fn frame_outside(d: usize, frame: &[i64; 9]) -> bool {
-    frame[..d * d].iter().any(|v| v.unsigned_abs() > 4) || determinant(d, frame) == 0
+/// Whether a number is outside, or a determinant is 0.
+fn frame_outside(shape: Shape, frame: &[i64; 9]) -> bool {
+    if frame[..shape.frame_numbers()].iter().any(|v| v.unsigned_abs() > 4) {
+        return true;
+    }
+    match shape.kind {
+        1 => determinant(frame) == 0,
+        2 => determinant_of_three(frame) == 0,
+        _ => determinant(frame) == 0 || determinant(&frame[4..]) == 0,
+    }
+}
+
+/// The shape that field 1 names: a rectangular patch by three bytes, the others by two.
+fn named(value: &[u8]) -> Option<Shape> {
+    let shape = match *value {
+        [kind @ (1 | 2), degree] => Shape { kind, degree, second: 0 },
+        [3, degree, second] => Shape { kind: 3, degree, second },
+        _ => return None,
+    };
+    shape.known().then_some(shape)
 }
 
 /// Reads a record: the refusal's number and offset, or 0 and the layout with frame and coefficients.
@@ -346,13 +523,12 @@ pub fn read(s: &[u8], frame: &mut [i64; 9], coefficients: &mut [i64; PLACES]) ->
             continue;
         }
         let n = u16::from_be_bytes([s[at + 1], s[at + 2]]) as usize;
-        let d = l.kind as usize + 1;
         let right = match tag {
-            1 => n == 2,
-            2 => n == 2 * d * d,
-            3 => n == 16 * count(l.kind, l.degree as usize),
+            1 => n == 2 || n == 3,
+            2 => n == 2 * l.shape.frame_numbers(),
+            3 => n == 4 * l.shape.numbers(),
             4 => n % 8 == 0 && n <= 256,
-            _ => n == 2 * d,
+            _ => n == 2 * l.shape.vertices() as usize,
         };
         if !right {
             return (3, at, l);
@@ -363,17 +539,16 @@ pub fn read(s: &[u8], frame: &mut [i64; 9], coefficients: &mut [i64; PLACES]) ->
         let value = &s[at + 3..at + 3 + n];
         match tag {
             1 => {
-                if !known(value[0], value[1], 0) {
+                let Some(shape) = named(value) else {
                     return (4, at, l);
-                }
-                l.kind = value[0];
-                l.degree = value[1];
+                };
+                l.shape = shape;
             }
             2 => {
                 for (k, b) in value.chunks_exact(2).enumerate() {
                     frame[k] = be16(b);
                 }
-                if frame_outside(d, frame) {
+                if frame_outside(l.shape, frame) {
                     return (5, at, l);
                 }
             }
@@ -409,7 +584,7 @@ pub fn open(s: &[u8], net: &mut [i64], layout: &mut Layout) -> (u8, usize) {
     if number != 0 {
         return (number, offset);
     }
-    let number = first(l.kind, l.degree, &frame, &coefficients, net);
+    let number = first(l.shape, &frame, &coefficients, net);
     if number != 0 {
         return (number, l.fields[2].0 - 3);
     }
@@ -442,6 +617,14 @@ impl Out<'_> {
             }
         }
         self.word(&digits[k..]);
+    }
+
+    fn indices(&mut self, list: &[usize]) {
+        self.decimal(list[0] as u64);
+        for &i in &list[1..] {
+            self.word(b" ");
+            self.decimal(i as u64);
+        }
     }
 
     fn signed(&mut self, v: i64) {
@@ -502,19 +685,50 @@ fn make(s: &[u8], bytes: &mut [u8]) -> usize {
     out.at
 }
 
+/// A line for each entry, with its index: j, or i j k, or i j.
+fn lines(out: &mut Out, shape: Shape, entries: &[i64; PLACES]) {
+    let g = shape.first();
+    let mut entry = entries.chunks_exact(4);
+    for n in 0..=g.degree {
+        for k in 0..=g.last(n) {
+            for j in 0..=shape.second as usize {
+                match shape.kind {
+                    1 => out.indices(&[n]),
+                    2 => out.indices(&[g.degree - n, n - k, k]),
+                    _ => out.indices(&[n, j]),
+                }
+                for &v in entry.next().unwrap() {
+                    out.word(b" ");
+                    out.signed(v);
+                }
+                out.word(b"\n");
+            }
+        }
+    }
+}
+
 fn accepted(s: &[u8], out: &mut Out, net: &mut [i64; NET], l: &Layout) {
-    let (kind, m) = (l.kind, l.degree as usize);
-    out.word(if kind == 1 { b"curve " } else { b"patch " });
-    out.decimal(m as u64);
+    let shape = l.shape;
+    let word: &[u8] = match shape.kind {
+        1 => b"curve ",
+        2 => b"patch ",
+        _ => b"rect ",
+    };
+    out.word(word);
+    out.decimal(shape.degree as u64);
+    if shape.kind == 3 {
+        out.word(b" ");
+        out.decimal(shape.second as u64);
+    }
     out.word(b" ");
-    out.decimal(scale(kind, m) as u64);
+    out.decimal(shape.scale() as u64);
     out.word(b"\n");
     let moves = &s[l.fields[3].0..l.fields[3].0 + l.fields[3].1];
     for (k, b) in moves.chunks_exact(8).enumerate() {
-        let w = [be16(&b[2..]), be16(&b[4..]), be16(&b[6..])];
+        let w = [be16(&b[2..]), be16(&b[4..]), be16(&b[6..]), 0];
         let number = match b[0] {
             1 => replace(net, b[1], w),
-            2 if w == [0, 0, 0] => flip(net, b[1]),
+            2 if w == [0; 4] => flip(net, b[1]),
             _ => 8,
         };
         if number != 0 {
@@ -525,30 +739,13 @@ fn accepted(s: &[u8], out: &mut Out, net: &mut [i64; NET], l: &Layout) {
             out.word(b"\n");
         }
     }
-    let entries = entries(net);
-    let mut p = 0;
-    for n in 0..=m {
-        for k in 0..=(if kind == 1 { 0 } else { n }) {
-            if kind == 1 {
-                out.decimal(n as u64);
-            } else {
-                out.decimal((m - n) as u64);
-                out.word(b" ");
-                out.decimal((n - k) as u64);
-                out.word(b" ");
-                out.decimal(k as u64);
-            }
-            for c in 0..4 {
-                out.word(b" ");
-                out.signed(entries[4 * p + c]);
-            }
-            out.word(b"\n");
-            p += 1;
-        }
-    }
+    lines(out, shape, entries(net));
     if l.fields[4].1 != 0 {
-        let b = &s[l.fields[4].0..];
-        let w = [be16(b), be16(&b[2..]), if kind == 2 { be16(&b[4..]) } else { 0 }];
+        let mut w = [0; 4];
+        let (start, length) = l.fields[4];
+        for (weight, b) in w.iter_mut().zip(s[start..start + length].chunks_exact(2)) {
+            *weight = be16(b);
+        }
         let mut f = [0; 4];
         let number = point(net, w, &mut f);
         if number != 0 {

@@ -20,7 +20,7 @@ static void print_net(const char *name, const int64_t *net) {
 /* A copy of the net with one vertex replaced by the point at (1, 1). */
 static int half(const int64_t *net, uint8_t vertex, int64_t *copy) {
     memcpy(copy, net, GADWEMOSH_NET * sizeof *net);
-    uint8_t refused = gadwemosh_move(copy, GADWEMOSH_NET, GADWEMOSH_REPLACE, vertex, 1, 1, 0);
+    uint8_t refused = gadwemosh_move(copy, GADWEMOSH_NET, GADWEMOSH_REPLACE, vertex, 1, 1, 0, 0);
     if (refused != 0)
         fprintf(stderr, "move refused: %u\n", refused);
     return refused == 0;
@@ -39,7 +39,7 @@ static void take_own_moves(const uint8_t *record, size_t record_length, int64_t 
     for (uint64_t n = 0; n < length / 8; n++) {
         const uint8_t *own = record + start + 8 * n;
         uint8_t refused = gadwemosh_move(net, GADWEMOSH_NET, own[0], own[1], weight(own + 2), weight(own + 4),
-                                         weight(own + 6));
+                                         weight(own + 6), 0);
         if (refused != 0)
             printf("move %" PRIu64 ": refused %u\n", n + 1, refused);
     }
@@ -54,7 +54,7 @@ static int print_own_point(const uint8_t *record, size_t record_length, const in
     gadwemosh_field(record, record_length, GADWEMOSH_FIELD_POINT, &start, &length);
     if (length == 0)
         return 1;
-    refused = gadwemosh_point(net, GADWEMOSH_NET, weight(record + start), weight(record + start + 2), 0, found, 4);
+    refused = gadwemosh_point(net, GADWEMOSH_NET, weight(record + start), weight(record + start + 2), 0, 0, found, 4);
     if (refused == 0)
         refused = gadwemosh_project(found[0], found[1], found[2], found[3], &outcome, bits, 3, direction, 4);
     if (refused != 0) {

@@ -23,13 +23,17 @@ enum { MORE = GADWEMOSH_NET + 2 };
 static uint8_t record[2048];
 static size_t length;
 
-/* The circle of the record, and the triangle of document 01's sample B8. */
+/* The circle of the record, the triangular patch of document 01's sample B8, and the rectangular patch
+ * x = T1^2 Z2, y = T1 Z1 T2, z = Z1^2 T2, w = Z1^2 Z2 of degrees 2 and 1. */
 static const int64_t circle_frame[9] = {0, 1, 1, 1};
 static const int64_t circle[180] = {1, 0, 0, 1, 0, 2, 0, 0, -1, 0, 0, 1};
 static const int64_t circle_net[12] = {2, 0, 0, 2, 2, 2, 0, 2, 0, 4, 0, 4};
 static const int64_t patch_frame[9] = {1, 0, 1, 0, 1, 1, 0, 0, 1};
 static const int64_t patch[180] = {0, 0, 0, 1, 0, 1, 0, 0, 0, 0, 0, 0, 1, 0, 0, 0, 0, 0, 1, 0};
 static const int64_t patch_net[24] = {2, 0, 0, 2, 1, 1, 1, 2, 1, 0, 0, 2, 0, 2, 0, 2, 0, 1, 0, 2, 0, 0, 0, 2};
+static const int64_t rect_frame[9] = {0, 1, 1, 1, 1, 1, -1, 2, INT64_MIN};
+static const int64_t rect[180] = {0, 0, 0, 1, 0, 0, 1, 0, 0, 0, 0, 0, 0, 1, 0, 0, 1, 0, 0, 0};
+static const int64_t rect_net[24] = {0, 0, 2, 2, 0, 0, -2, 4, 0, 1, 2, 2, 0, -1, -2, 4, 2, 2, 2, 2, 4, -2, -2, 4};
 
 /* A run in which no two places hold the same; every number is out of range as an entry. */
 static void fill(int64_t *net) {
@@ -42,14 +46,34 @@ static int same(const int64_t *a, const int64_t *b) {
 }
 
 /* The net of the numbers stands in the places, and every place that is not in use holds what it held. */
-static int holds(const int64_t *net, const int64_t *old, int kind, int degree, const int64_t *entries, int count) {
+static int holds(const int64_t *net, const int64_t *old, int kind, int degree, int second, const int64_t *entries,
+                 int count) {
     int64_t wanted[MORE];
     memcpy(wanted, old, sizeof wanted);
     wanted[0] = kind;
     wanted[1] = degree;
-    wanted[2] = 0;
+    wanted[2] = second;
     memcpy(wanted + GADWEMOSH_ENTRIES, entries, (size_t)count * sizeof *entries);
     return same(net, wanted);
+}
+
+/* Puts a number of so many bytes, the high one first; the next one goes to the place returned. */
+static uint8_t *put(uint8_t *at, int bytes, int64_t number) {
+    while (bytes-- > 0)
+        *at++ = (uint8_t)(number >> (8 * bytes));
+    return at;
+}
+
+/* The record of the rectangular patch, with a move of s2 and a point: 146 bytes. */
+static void make_rect_record(uint8_t *bytes) {
+    uint8_t *at = bytes;
+    memcpy(at, "\1\0\3\3\2\1\2\0\20", 9), at += 9;
+    for (int i = 0; i < 8; i++)
+        at = put(at, 2, rect_frame[i]);
+    memcpy(at, "\3\0\140", 3), at += 3;
+    for (int i = 0; i < 24; i++)
+        at = put(at, 4, rect[i]);
+    memcpy(at, "\4\0\10\1\4\0\1\0\1\0\0\5\0\10\0\1\377\377\0\2\0\1", 22);
 }
 
 static void test_open(void) {
@@ -67,10 +91,35 @@ static void test_open(void) {
     EXPECT(gadwemosh_open(record, 30, net, MORE, &offset) == 1);
     EXPECT(offset == 16 && same(net, old));
     EXPECT(gadwemosh_open(record, length, net, MORE, &offset) == 0);
-    EXPECT(offset == 0 && holds(net, old, 1, 2, circle_net, 12));
+    EXPECT(offset == 0 && holds(net, old, 1, 2, 0, circle_net, 12));
     fill(net);
     EXPECT(gadwemosh_open(record, length, net, GADWEMOSH_NET, &offset) == 0);
-    EXPECT(offset == 0 && holds(net, old, 1, 2, circle_net, 12));
+    EXPECT(offset == 0 && holds(net, old, 1, 2, 0, circle_net, 12));
+}
+
+static void test_open_rect(void) {
+    uint8_t bytes[146];
+    int64_t net[MORE], old[MORE];
+    uint64_t offset = 5;
+    fill(net);
+    fill(old);
+    make_rect_record(bytes);
+    EXPECT(gadwemosh_open(bytes, 146, net, 192, &offset) == 11 && offset == 0 && same(net, old));
+    /* the coefficients are cut short: field 3 begins at byte 25 */
+    EXPECT(gadwemosh_open(bytes, 30, net, MORE, &offset) == 1 && offset == 25 && same(net, old));
+    EXPECT(gadwemosh_open(bytes, 146, net, MORE, &offset) == 0 && offset == 0);
+    EXPECT(holds(net, old, 3, 2, 1, rect_net, 24));
+    memcpy(old, net, sizeof net);
+    /* s2 is -2 times r2 */
+    memcpy(bytes + 21, "\377\376\377\376", 4);
+    EXPECT(gadwemosh_open(bytes, 146, net, MORE, &offset) == 5 && offset == 6 && same(net, old));
+    /* a second degree outside, and kinds that have none */
+    bytes[5] = 6;
+    EXPECT(gadwemosh_open(bytes, 146, net, MORE, &offset) == 4 && offset == 0 && same(net, old));
+    bytes[5] = 0, bytes[3] = 1;
+    EXPECT(gadwemosh_open(bytes, 146, net, MORE, &offset) == 4 && offset == 0 && same(net, old));
+    bytes[3] = 2;
+    EXPECT(gadwemosh_open(bytes, 146, net, MORE, &offset) == 4 && offset == 0 && same(net, old));
 }
 
 static void test_first(void) {
@@ -78,34 +127,72 @@ static void test_first(void) {
     int64_t frame[9], coefficients[182], net[MORE], old[MORE];
     fill(net);
     fill(old);
-    EXPECT(gadwemosh_first(1, 2, circle_frame, 8, circle, 180, net, MORE) == 11 && same(net, old));
-    EXPECT(gadwemosh_first(1, 2, circle_frame, 9, circle, 179, net, MORE) == 11 && same(net, old));
-    EXPECT(gadwemosh_first(1, 2, circle_frame, 9, circle, 180, net, 192) == 11 && same(net, old));
+    EXPECT(gadwemosh_first(1, 2, 0, circle_frame, 8, circle, 180, net, MORE) == 11 && same(net, old));
+    EXPECT(gadwemosh_first(1, 2, 0, circle_frame, 9, circle, 179, net, MORE) == 11 && same(net, old));
+    EXPECT(gadwemosh_first(1, 2, 0, circle_frame, 9, circle, 180, net, 192) == 11 && same(net, old));
     /* a short run comes before what is refused of the polynomials */
-    EXPECT(gadwemosh_first(3, 2, line, 9, circle, 180, net, 192) == 11 && same(net, old));
-    EXPECT(gadwemosh_first(3, 2, line, 9, circle, 180, net, MORE) == 4 && same(net, old));
-    EXPECT(gadwemosh_first(1, 11, circle_frame, 9, circle, 180, net, MORE) == 4 && same(net, old));
-    EXPECT(gadwemosh_first(2, 9, patch_frame, 9, patch, 180, net, MORE) == 4 && same(net, old));
-    EXPECT(gadwemosh_first(1, 2, line, 9, circle, 180, net, MORE) == 5 && same(net, old));
+    EXPECT(gadwemosh_first(4, 2, 0, line, 9, circle, 180, net, 192) == 11 && same(net, old));
+    EXPECT(gadwemosh_first(4, 2, 0, line, 9, circle, 180, net, MORE) == 4 && same(net, old));
+    EXPECT(gadwemosh_first(1, 11, 0, circle_frame, 9, circle, 180, net, MORE) == 4 && same(net, old));
+    EXPECT(gadwemosh_first(2, 9, 0, patch_frame, 9, patch, 180, net, MORE) == 4 && same(net, old));
+    EXPECT(gadwemosh_first(1, 2, 0, line, 9, circle, 180, net, MORE) == 5 && same(net, old));
     memcpy(coefficients, circle, sizeof circle);
     coefficients[11] = 1048577;
-    EXPECT(gadwemosh_first(1, 2, circle_frame, 9, coefficients, 180, net, MORE) == 6 && same(net, old));
+    EXPECT(gadwemosh_first(1, 2, 0, circle_frame, 9, coefficients, 180, net, MORE) == 6 && same(net, old));
     for (int i = 0; i < 182; i++)
         coefficients[i] = 1048576;
-    EXPECT(gadwemosh_first(1, 10, far, 9, coefficients, 180, net, MORE) == 7 && same(net, old));
-    EXPECT(gadwemosh_first(1, 2, circle_frame, 9, circle, 180, net, MORE) == 0);
-    EXPECT(holds(net, old, 1, 2, circle_net, 12));
+    EXPECT(gadwemosh_first(1, 10, 0, far, 9, coefficients, 180, net, MORE) == 7 && same(net, old));
+    EXPECT(gadwemosh_first(1, 2, 0, circle_frame, 9, circle, 180, net, MORE) == 0);
+    EXPECT(holds(net, old, 1, 2, 0, circle_net, 12));
     fill(net);
-    EXPECT(gadwemosh_first(2, 2, patch_frame, 9, patch, 180, net, GADWEMOSH_NET) == 0);
-    EXPECT(holds(net, old, 2, 2, patch_net, 24));
+    EXPECT(gadwemosh_first(2, 2, 0, patch_frame, 9, patch, 180, net, GADWEMOSH_NET) == 0);
+    EXPECT(holds(net, old, 2, 2, 0, patch_net, 24));
     /* of frame and coefficients only what the kind and degree take is looked at, and more is taken */
     for (int i = 0; i < 9; i++)
         frame[i] = i < 4 ? circle_frame[i] : INT64_MAX - i;
     for (int i = 0; i < 182; i++)
         coefficients[i] = i < 12 ? circle[i] : INT64_MIN + i;
     fill(net);
-    EXPECT(gadwemosh_first(1, 2, frame, 9, coefficients, 182, net, MORE) == 0);
-    EXPECT(holds(net, old, 1, 2, circle_net, 12));
+    EXPECT(gadwemosh_first(1, 2, 0, frame, 9, coefficients, 182, net, MORE) == 0);
+    EXPECT(holds(net, old, 1, 2, 0, circle_net, 12));
+}
+
+static void test_first_rect(void) {
+    const int64_t flat_first[9] = {1, 2, 2, 4, 0, 1, 1, 1}, flat_second[9] = {0, 1, 1, 1, 1, 2, 2, 4};
+    const int64_t far[9] = {4, 3, 4, 4, 4, 3, 4, 4}, outside[9] = {0, 1, 1, 1, 0, 1, 1, 5}, none[180] = {0};
+    int64_t coefficients[180], net[MORE], old[MORE];
+    fill(net);
+    fill(old);
+    /* nine places are wanted of a frame of eight numbers */
+    EXPECT(gadwemosh_first(3, 2, 1, rect_frame, 8, rect, 180, net, MORE) == 11 && same(net, old));
+    EXPECT(gadwemosh_first(3, 2, 1, rect_frame, 9, rect, 179, net, MORE) == 11 && same(net, old));
+    EXPECT(gadwemosh_first(3, 2, 1, rect_frame, 9, rect, 180, net, 192) == 11 && same(net, old));
+    EXPECT(gadwemosh_first(3, 2, 0, rect_frame, 9, rect, 180, net, MORE) == 4 && same(net, old));
+    EXPECT(gadwemosh_first(3, 2, 6, rect_frame, 9, rect, 180, net, MORE) == 4 && same(net, old));
+    EXPECT(gadwemosh_first(3, 0, 1, rect_frame, 9, rect, 180, net, MORE) == 4 && same(net, old));
+    EXPECT(gadwemosh_first(3, 6, 1, rect_frame, 9, rect, 180, net, MORE) == 4 && same(net, old));
+    EXPECT(gadwemosh_first(1, 2, 1, circle_frame, 9, circle, 180, net, MORE) == 4 && same(net, old));
+    EXPECT(gadwemosh_first(2, 2, 1, patch_frame, 9, patch, 180, net, MORE) == 4 && same(net, old));
+    EXPECT(gadwemosh_first(3, 2, 1, flat_first, 9, rect, 180, net, MORE) == 5 && same(net, old));
+    EXPECT(gadwemosh_first(3, 2, 1, flat_second, 9, rect, 180, net, MORE) == 5 && same(net, old));
+    EXPECT(gadwemosh_first(3, 2, 1, outside, 9, rect, 180, net, MORE) == 5 && same(net, old));
+    for (int i = 0; i < 180; i++)
+        coefficients[i] = 1048576;
+    EXPECT(gadwemosh_first(3, 5, 5, far, 9, coefficients, 180, net, MORE) == 7 && same(net, old));
+    /* the last coefficient that is taken, and the one after it */
+    memcpy(coefficients, rect, sizeof rect);
+    coefficients[23] = 1048577;
+    EXPECT(gadwemosh_first(3, 2, 1, rect_frame, 9, coefficients, 180, net, MORE) == 6 && same(net, old));
+    coefficients[23] = 0, coefficients[24] = INT64_MIN;
+    EXPECT(gadwemosh_first(3, 2, 1, rect_frame, 9, coefficients, 180, net, MORE) == 0);
+    EXPECT(holds(net, old, 3, 2, 1, rect_net, 24));
+    /* the places past the last entry, for all degrees */
+    for (int p = 1; p <= 5; p++)
+        for (int q = 1; q <= 5; q++) {
+            fill(net);
+            EXPECT(gadwemosh_first(3, (uint8_t)p, (uint8_t)q, rect_frame, 9, none, 180, net, GADWEMOSH_NET) == 0);
+            EXPECT(holds(net, old, 3, p, q, none, 4 * GADWEMOSH_RECT_ENTRIES(p, q)));
+        }
 }
 
 /* What stands in one place of the head makes a move and a point of a net refused 4. */
@@ -114,21 +201,21 @@ static void test_head(const int64_t *good, int place, int64_t number) {
     memcpy(net, good, sizeof net);
     net[place] = number;
     memcpy(old, net, sizeof net);
-    EXPECT(gadwemosh_move(net, MORE, GADWEMOSH_FLIP, 1, 0, 0, 0) == 4 && same(net, old));
-    EXPECT(gadwemosh_move(net, MORE, 3, 9, 4097, 0, 0) == 4 && same(net, old));
-    EXPECT(gadwemosh_point(net, MORE, 1, 1, 0, found, 4) == 4 && same(net, old) && found[0] == -1);
+    EXPECT(gadwemosh_move(net, MORE, GADWEMOSH_FLIP, 1, 0, 0, 0, 0) == 4 && same(net, old));
+    EXPECT(gadwemosh_move(net, MORE, 3, 9, 4097, 0, 0, 0) == 4 && same(net, old));
+    EXPECT(gadwemosh_point(net, MORE, 1, 1, 0, 0, found, 4) == 4 && same(net, old) && found[0] == -1);
 }
 
 static void test_heads(void) {
     /* 257 and -255 have the low byte 1, 258 has 2, 256 has 0: none is read as a byte */
-    const int64_t kinds[] = {0, 3, 255, 256, 257, 258, -1, -255, INT64_MAX, INT64_MIN};
+    const int64_t kinds[] = {0, 3, 4, 255, 256, 257, 258, -1, -255, INT64_MAX, INT64_MIN};
     const int64_t degrees[] = {0, 11, 255, 256, 257, 258, -1, -254, INT64_MAX, INT64_MIN};
     const int64_t seconds[] = {1, 2, 10, 255, 256, -1, -256, INT64_MAX, INT64_MIN};
     int64_t curve[MORE], triangle[MORE];
     fill(curve);
     fill(triangle);
-    gadwemosh_first(1, 2, circle_frame, 9, circle, 180, curve, MORE);
-    gadwemosh_first(2, 2, patch_frame, 9, patch, 180, triangle, MORE);
+    gadwemosh_first(1, 2, 0, circle_frame, 9, circle, 180, curve, MORE);
+    gadwemosh_first(2, 2, 0, patch_frame, 9, patch, 180, triangle, MORE);
     for (size_t i = 0; i < sizeof kinds / sizeof *kinds; i++)
         test_head(curve, 0, kinds[i]);
     for (size_t i = 0; i < sizeof degrees / sizeof *degrees; i++) {
@@ -142,60 +229,161 @@ static void test_heads(void) {
     }
 }
 
+static void test_heads_rect(void) {
+    /* -253 has the low byte 3, 257 and -255 have 1 */
+    const int64_t kinds[] = {0, 1, 2, 4, 255, 256, 259, -1, -253, INT64_MAX, INT64_MIN};
+    const int64_t degrees[] = {0, 6, 255, 256, 257, -1, -255, INT64_MAX, INT64_MIN};
+    int64_t net[MORE];
+    fill(net);
+    gadwemosh_first(3, 2, 1, rect_frame, 9, rect, 180, net, MORE);
+    for (size_t i = 0; i < sizeof kinds / sizeof *kinds; i++)
+        test_head(net, 0, kinds[i]);
+    for (size_t i = 0; i < sizeof degrees / sizeof *degrees; i++) {
+        test_head(net, 1, degrees[i]);
+        test_head(net, 2, degrees[i]);
+    }
+}
+
 static void test_move(void) {
     const int64_t flipped[12] = {2, 0, 0, 2, -2, -2, 0, -2, 0, 4, 0, 4};
     const int64_t halved[12] = {2, 0, 0, 2, 4, 2, 0, 4, 6, 8, 0, 10};
     const int64_t patch_flipped[24] = {2, 0, 0, 2, 1, 1, 1, 2, -1, 0, 0, -2, 0, 2, 0, 2, 0, -1, 0, -2, 0, 0, 0, 2};
     int64_t net[MORE], old[MORE];
     fill(net);
-    gadwemosh_first(1, 2, circle_frame, 9, circle, 180, net, MORE);
+    gadwemosh_first(1, 2, 0, circle_frame, 9, circle, 180, net, MORE);
     memcpy(old, net, sizeof net);
-    EXPECT(gadwemosh_move(net, 192, 1, 2, 1, 1, 0) == 11 && same(net, old));
-    EXPECT(gadwemosh_move(net, 0, 3, 2, 1, 1, 0) == 11 && same(net, old));
-    EXPECT(gadwemosh_move(net, MORE, 3, 2, 1, 1, 0) == 8 && same(net, old));
-    EXPECT(gadwemosh_move(net, MORE, 1, 3, 1, 1, 0) == 8 && same(net, old));
-    EXPECT(gadwemosh_move(net, MORE, 1, 2, 4097, 1, 0) == 8 && same(net, old));
-    EXPECT(gadwemosh_move(net, MORE, 1, 2, 1, 1, 1) == 8 && same(net, old));
-    EXPECT(gadwemosh_move(net, MORE, 2, 2, 0, 1, 0) == 8 && same(net, old));
-    EXPECT(gadwemosh_move(net, MORE, 1, 2, 1, 0, 0) == 9 && same(net, old));
+    EXPECT(gadwemosh_move(net, 192, 1, 2, 1, 1, 0, 0) == 11 && same(net, old));
+    EXPECT(gadwemosh_move(net, 0, 3, 2, 1, 1, 0, 0) == 11 && same(net, old));
+    EXPECT(gadwemosh_move(net, MORE, 3, 2, 1, 1, 0, 0) == 8 && same(net, old));
+    EXPECT(gadwemosh_move(net, MORE, 1, 3, 1, 1, 0, 0) == 8 && same(net, old));
+    EXPECT(gadwemosh_move(net, MORE, 1, 2, 4097, 1, 0, 0) == 8 && same(net, old));
+    EXPECT(gadwemosh_move(net, MORE, 1, 2, 1, 1, 1, 0) == 8 && same(net, old));
+    EXPECT(gadwemosh_move(net, MORE, 1, 2, 1, 1, 0, 1) == 8 && same(net, old));
+    EXPECT(gadwemosh_move(net, MORE, 2, 2, 0, 1, 0, 0) == 8 && same(net, old));
+    EXPECT(gadwemosh_move(net, MORE, 1, 2, 1, 0, 0, 0) == 9 && same(net, old));
     /* B4: flip r. The places that are not in use hold numbers out of range, which nobody looks at */
-    EXPECT(gadwemosh_move(net, MORE, 2, 1, 0, 0, 0) == 0);
-    EXPECT(holds(net, old, 1, 2, flipped, 12));
-    EXPECT(gadwemosh_move(net, GADWEMOSH_NET, 2, 1, 0, 0, 0) == 0 && same(net, old));
+    EXPECT(gadwemosh_move(net, MORE, 2, 1, 0, 0, 0, 0) == 0);
+    EXPECT(holds(net, old, 1, 2, 0, flipped, 12));
+    EXPECT(gadwemosh_move(net, GADWEMOSH_NET, 2, 1, 0, 0, 0, 0) == 0 && same(net, old));
     /* B3: replace s */
-    EXPECT(gadwemosh_move(net, GADWEMOSH_NET, 1, 2, 1, 1, 0) == 0);
-    EXPECT(holds(net, old, 1, 2, halved, 12));
+    EXPECT(gadwemosh_move(net, GADWEMOSH_NET, 1, 2, 1, 1, 0, 0) == 0);
+    EXPECT(holds(net, old, 1, 2, 0, halved, 12));
     /* the last number in use is looked at */
     net[23] = INT64_C(281474976710657);
     memcpy(old, net, sizeof net);
-    EXPECT(gadwemosh_move(net, MORE, 2, 1, 0, 0, 0) == 10 && same(net, old));
-    EXPECT(gadwemosh_move(net, MORE, 3, 1, 0, 0, 0) == 10 && same(net, old));
+    EXPECT(gadwemosh_move(net, MORE, 2, 1, 0, 0, 0, 0) == 10 && same(net, old));
+    EXPECT(gadwemosh_move(net, MORE, 3, 1, 0, 0, 0, 0) == 10 && same(net, old));
     /* the largest number in range leads beyond it */
     net[23] = INT64_C(-281474976710656);
     memcpy(old, net, sizeof net);
-    EXPECT(gadwemosh_move(net, MORE, 1, 1, 1, 2, 0) == 10 && same(net, old));
-    EXPECT(gadwemosh_move(net, MORE, 2, 2, 0, 0, 0) == 0 && net[23] == old[23]);
+    EXPECT(gadwemosh_move(net, MORE, 1, 1, 1, 2, 0, 0) == 10 && same(net, old));
+    EXPECT(gadwemosh_move(net, MORE, 2, 2, 0, 0, 0, 0) == 0 && net[23] == old[23]);
     fill(net);
-    gadwemosh_first(2, 2, patch_frame, 9, patch, 180, net, MORE);
+    gadwemosh_first(2, 2, 0, patch_frame, 9, patch, 180, net, MORE);
     memcpy(old, net, sizeof net);
-    EXPECT(gadwemosh_move(net, MORE, 2, 3, 0, 0, 0) == 0);
-    EXPECT(holds(net, old, 2, 2, patch_flipped, 24));
+    EXPECT(gadwemosh_move(net, MORE, 1, 4, 1, 1, 1, 0) == 8 && same(net, old));
+    EXPECT(gadwemosh_move(net, MORE, 1, 3, 1, 1, 1, 1) == 8 && same(net, old));
+    EXPECT(gadwemosh_move(net, MORE, 2, 3, 0, 0, 0, 0) == 0);
+    EXPECT(holds(net, old, 2, 2, 0, patch_flipped, 24));
+}
+
+/* A move of the rectangular patch that is taken: the net that it leaves. */
+static void test_rect_moved(uint8_t operation, uint8_t vertex, int64_t r, int64_t s, const int64_t *entries) {
+    int64_t net[MORE], old[MORE];
+    fill(net);
+    gadwemosh_first(3, 2, 1, rect_frame, 9, rect, 180, net, MORE);
+    memcpy(old, net, sizeof net);
+    EXPECT(gadwemosh_move(net, GADWEMOSH_NET, operation, vertex, r, s, 0, 0) == 0);
+    EXPECT(holds(net, old, 3, 2, 1, entries, 24));
+}
+
+static void test_move_rect(void) {
+    /* with degree 2 in the first pair, r1 and s1 flip the same entries */
+    const int64_t r1_flipped[24] = {0, 0, 2, 2, 0, 0, -2, 4, 0, -1, -2, -2, 0, 1, 2, -4, 2, 2, 2, 2, 4, -2, -2, 4};
+    const int64_t r2_flipped[24] = {0, 0,  -2, -2, 0,  0,  -2, 4,  0, -1, -2, -2,
+                                    0, -1, -2, 4,  -2, -2, -2, -2, 4, -2, -2, 4};
+    const int64_t s2_flipped[24] = {0, 0, 2, 2, 0, 0, 2, -4, 0, 1, 2, 2, 0, 1, 2, -4, 2, 2, 2, 2, -4, 2, 2, -4};
+    const int64_t s1_replaced[24] = {0, 0, 2, 2, 0, 0, -2, 4, 0, 1, 4, 4, 0, -1, -4, 8, 2, 4, 8, 8, 4, -4, -8, 16};
+    const int64_t r2_replaced[24] = {0, 0, 6, 0, 0, 0, -2, 4, 0, 3, 6, 0, 0, -1, -2, 4, 0, 6, 6, 0, 4, -2, -2, 4};
+    const int64_t s2_replaced[24] = {0, 0, 2, 2, 0, 0, 0, 6, 0, 1, 2, 2, 0, 0, 0, 6, 2, 2, 2, 2, 6, 0, 0, 6};
+    int64_t net[MORE], old[MORE];
+    fill(net);
+    gadwemosh_first(3, 2, 1, rect_frame, 9, rect, 180, net, MORE);
+    memcpy(old, net, sizeof net);
+    EXPECT(gadwemosh_move(net, 192, 1, 4, 1, 1, 0, 0) == 11 && same(net, old));
+    EXPECT(gadwemosh_move(net, MORE, 1, 0, 1, 1, 0, 0) == 8 && same(net, old));
+    EXPECT(gadwemosh_move(net, MORE, 1, 5, 1, 1, 0, 0) == 8 && same(net, old));
+    EXPECT(gadwemosh_move(net, MORE, 2, 5, 0, 0, 0, 0) == 8 && same(net, old));
+    for (uint8_t vertex = 1; vertex <= 4; vertex++) {
+        EXPECT(gadwemosh_move(net, MORE, 1, vertex, 1, 1, 1, 0) == 8 && same(net, old));
+        EXPECT(gadwemosh_move(net, MORE, 1, vertex, 1, 1, 0, 1) == 8 && same(net, old));
+        EXPECT(gadwemosh_move(net, MORE, 1, vertex, 1, -4097, 0, 0) == 8 && same(net, old));
+        EXPECT(gadwemosh_move(net, MORE, 2, vertex, 0, 0, 0, 1) == 8 && same(net, old));
+        EXPECT(gadwemosh_move(net, MORE, 1, vertex, vertex % 2 == 0, vertex % 2, 0, 0) == 9 && same(net, old));
+    }
+    test_rect_moved(GADWEMOSH_FLIP, GADWEMOSH_R1, 0, 0, r1_flipped);
+    test_rect_moved(GADWEMOSH_FLIP, GADWEMOSH_S1, 0, 0, r1_flipped);
+    test_rect_moved(GADWEMOSH_FLIP, GADWEMOSH_R2, 0, 0, r2_flipped);
+    test_rect_moved(GADWEMOSH_FLIP, GADWEMOSH_S2, 0, 0, s2_flipped);
+    test_rect_moved(GADWEMOSH_REPLACE, GADWEMOSH_S1, 1, 1, s1_replaced);
+    test_rect_moved(GADWEMOSH_REPLACE, GADWEMOSH_R2, 2, -1, r2_replaced);
+    test_rect_moved(GADWEMOSH_REPLACE, GADWEMOSH_S2, 1, 1, s2_replaced);
+    /* the last number in use, out of range and in range */
+    net[35] = GADWEMOSH_LARGEST + 1;
+    memcpy(old, net, sizeof net);
+    EXPECT(gadwemosh_move(net, MORE, 2, 1, 0, 0, 0, 0) == 10 && same(net, old));
+    net[35] = GADWEMOSH_LARGEST;
+    memcpy(old, net, sizeof net);
+    EXPECT(gadwemosh_move(net, MORE, 1, 4, 0, 2, 0, 0) == 10 && same(net, old));
+    EXPECT(gadwemosh_move(net, MORE, 1, 4, 0, -1, 0, 0) == 0 && net[35] == -GADWEMOSH_LARGEST);
 }
 
 static void test_point(void) {
     int64_t net[MORE], old[MORE], found[5] = {-1, -2, -3, -4, -5};
     fill(net);
-    gadwemosh_first(1, 2, circle_frame, 9, circle, 180, net, MORE);
+    gadwemosh_first(1, 2, 0, circle_frame, 9, circle, 180, net, MORE);
     memcpy(old, net, sizeof net);
-    EXPECT(gadwemosh_point(net, MORE, 1, 1, 0, found, 3) == 11 && found[0] == -1);
-    EXPECT(gadwemosh_point(net, 192, 1, 1, 0, found, 5) == 11 && found[0] == -1);
-    EXPECT(gadwemosh_point(net, MORE, 1, 1, 1, found, 5) == 8 && found[0] == -1);
-    EXPECT(gadwemosh_point(net, MORE, 0, 0, 0, found, 5) == 9 && found[0] == -1);
-    EXPECT(gadwemosh_point(net, MORE, 1, 1, 0, found, 5) == 0 && same(net, old));
+    EXPECT(gadwemosh_point(net, MORE, 1, 1, 0, 0, found, 3) == 11 && found[0] == -1);
+    EXPECT(gadwemosh_point(net, 192, 1, 1, 0, 0, found, 5) == 11 && found[0] == -1);
+    EXPECT(gadwemosh_point(net, MORE, 1, 1, 1, 0, found, 5) == 8 && found[0] == -1);
+    EXPECT(gadwemosh_point(net, MORE, 0, 0, 0, 0, found, 5) == 9 && found[0] == -1);
+    EXPECT(gadwemosh_point(net, MORE, 1, 1, 0, 0, found, 5) == 0 && same(net, old));
     EXPECT(found[0] == 6 && found[1] == 8 && found[2] == 0 && found[3] == 10 && found[4] == -5);
-    gadwemosh_first(2, 2, patch_frame, 9, patch, 180, net, MORE);
-    EXPECT(gadwemosh_point(net, GADWEMOSH_NET, 1, 1, 1, found, 4) == 0);
+    gadwemosh_first(2, 2, 0, patch_frame, 9, patch, 180, net, MORE);
+    EXPECT(gadwemosh_point(net, GADWEMOSH_NET, 1, 1, 1, 0, found, 4) == 0);
     EXPECT(found[0] == 6 && found[1] == 6 && found[2] == 2 && found[3] == 18 && found[4] == -5);
+    EXPECT(gadwemosh_point(net, GADWEMOSH_NET, 1, 1, 1, 1, found, 4) == 8 && found[0] == 6);
+}
+
+static void test_point_rect(void) {
+    /* degrees 1 and 1, entries (0, 0), (0, 1), (1, 0), (1, 1) */
+    const int64_t signs[2][4] = {{1, 1, -1, -1}, {1, -1, 1, -1}};
+    int64_t net[MORE], old[MORE], found[5] = {-1, -2, -3, -4, -5};
+    fill(net);
+    gadwemosh_first(3, 2, 1, rect_frame, 9, rect, 180, net, MORE);
+    memcpy(old, net, sizeof net);
+    EXPECT(gadwemosh_point(net, MORE, 1, 1, 1, 1, found, 3) == 11 && found[0] == -1);
+    EXPECT(gadwemosh_point(net, MORE, 1, 1, 1, 4097, found, 5) == 8 && found[0] == -1);
+    EXPECT(gadwemosh_point(net, MORE, 1, 1, -4097, 1, found, 5) == 8 && found[0] == -1);
+    /* a pair without weight, and a weight outside before it */
+    EXPECT(gadwemosh_point(net, MORE, 0, 0, 1, 1, found, 5) == 9 && found[0] == -1);
+    EXPECT(gadwemosh_point(net, MORE, 1, 1, 0, 0, found, 5) == 9 && found[0] == -1);
+    EXPECT(gadwemosh_point(net, MORE, 0, 0, 0, 0, found, 5) == 9 && found[0] == -1);
+    EXPECT(gadwemosh_point(net, MORE, 0, 0, 1, 4097, found, 5) == 8 && found[0] == -1);
+    EXPECT(gadwemosh_point(net, MORE, 1, 2, 3, -1, found, 5) == 0 && same(net, old));
+    EXPECT(found[0] == 8 && found[1] == 48 && found[2] == 72 && found[3] == 18 && found[4] == -5);
+    /* at the vertices the point is an entry */
+    EXPECT(gadwemosh_point(net, MORE, 0, 1, 1, 0, found, 5) == 0);
+    EXPECT(memcmp(found, net + GADWEMOSH_RECT_PLACE(1, 2, 0), 4 * sizeof *found) == 0);
+    /* the first pair's point is named with the second pair's vertices, and not the other way round */
+    net[1] = 1, net[2] = 1;
+    for (int way = 0; way < 2; way++) {
+        for (int i = 0; i < 16; i++)
+            net[GADWEMOSH_ENTRIES + i] = signs[way][i / 4] * GADWEMOSH_LARGEST;
+        found[0] = -1;
+        EXPECT(gadwemosh_point(net, MORE, 1, 1, 1, 1, found, 5) == (way == 0 ? 0 : 10));
+        EXPECT(found[0] == (way == 0 ? 0 : -1));
+    }
 }
 
 /* A refused projection: the number, outcome 0, and every other place as it was. */
@@ -316,6 +504,31 @@ static void test_fields(void) {
     test_field(bytes, size + 18, GADWEMOSH_FIELD_POINT, 0, size + 14, 4);
 }
 
+static void test_fields_rect(void) {
+    uint8_t bytes[146];
+    make_rect_record(bytes);
+    test_field(bytes, 146, GADWEMOSH_FIELD_KIND, 0, 3, 3);
+    test_field(bytes, 146, GADWEMOSH_FIELD_FRAME, 0, 9, 16);
+    test_field(bytes, 146, GADWEMOSH_FIELD_COEFFICIENTS, 0, 28, 96);
+    test_field(bytes, 146, GADWEMOSH_FIELD_MOVES, 0, 127, 8);
+    test_field(bytes, 146, GADWEMOSH_FIELD_POINT, 0, 138, 8);
+    test_field(bytes, 135, GADWEMOSH_FIELD_POINT, 0, 135, 0);
+    test_field(bytes, 124, GADWEMOSH_FIELD_MOVES, 0, 124, 0);
+    /* a point of three weights, a frame of nine numbers, and kinds that field 1 is too long or too short for */
+    bytes[137] = 6;
+    test_no_fields(bytes, 144, 3);
+    bytes[137] = 8, bytes[8] = 18;
+    test_no_fields(bytes, 146, 3);
+    bytes[8] = 16, bytes[3] = 2;
+    test_no_fields(bytes, 146, 4);
+    bytes[3] = 3, bytes[2] = 2;
+    test_no_fields(bytes, 146, 4);
+    bytes[2] = 4;
+    test_no_fields(bytes, 146, 3);
+    bytes[2] = 1;
+    test_no_fields(bytes, 146, 3);
+}
+
 static void test_text(void) {
     const char *text = "curve 2 2\n0 2 0 0 2\n1 2 2 0 2\n2 0 4 0 4\n"
                        "at 3fe3333333333333 3fe999999999999a 0000000000000000\n";
@@ -337,6 +550,19 @@ static void test_text(void) {
     EXPECT(memcmp(out, "refused 2 at 0\n-", 16) == 0);
 }
 
+static void test_text_rect(void) {
+    const char *text = "rect 2 1 2\n"
+                       "0 0 0 0 2 2\n0 1 0 0 0 6\n1 0 0 1 2 2\n1 1 0 0 0 6\n2 0 2 2 2 2\n2 1 6 0 0 6\n"
+                       "far 1 0 0 10\n";
+    uint8_t bytes[146], out[200];
+    uint64_t size = 7;
+    make_rect_record(bytes);
+    memset(out, '-', sizeof out);
+    EXPECT(gadwemosh_text(bytes, 146, out, strlen(text) - 1, &size) == 11 && size == 0 && out[0] == '-');
+    EXPECT(gadwemosh_text(bytes, 146, out, strlen(text), &size) == 0);
+    EXPECT(size == strlen(text) && memcmp(out, text, size) == 0 && out[size] == '-');
+}
+
 /* The header's own arithmetic: entries follow each other in order, four places each. */
 static void test_places(void) {
     for (int m = 1; m <= 10; m++) {
@@ -348,18 +574,33 @@ static void test_places(void) {
         EXPECT(place == GADWEMOSH_ENTRIES + 4 * GADWEMOSH_PATCH_ENTRIES(m));
     }
     EXPECT(GADWEMOSH_PATCH_PLACE(0, 8) + 4 == GADWEMOSH_NET - 1);
+    for (int p = 1; p <= 5; p++)
+        for (int q = 1; q <= 5; q++) {
+            int place = GADWEMOSH_ENTRIES;
+            for (int i = 0; i <= p; i++)
+                for (int j = 0; j <= q; j++, place += 4)
+                    EXPECT(GADWEMOSH_RECT_PLACE(q, i, j) == place);
+            EXPECT(place == GADWEMOSH_ENTRIES + 4 * GADWEMOSH_RECT_ENTRIES(p, q));
+        }
 }
 
 int main(void) {
     length = fread(record, 1, sizeof record, stdin);
     test_open();
+    test_open_rect();
     test_first();
+    test_first_rect();
     test_heads();
+    test_heads_rect();
     test_move();
+    test_move_rect();
     test_point();
+    test_point_rect();
     test_project();
     test_fields();
+    test_fields_rect();
     test_text();
+    test_text_rect();
     test_places();
     printf("%d right, %d wrong\n", right, wrong);
     return wrong != 0;

@@ -2,9 +2,10 @@
  *
  * Each call is made on a stack of its own, every byte of which was set to one value before. The lowest byte
  * that has another value afterwards says how deep the call went. What is counted begins at the frame of the
- * function that makes the call, so it has the call's arguments in it. The inputs are the largest: a patch of
- * degree 8 with 32 moves and a point. Each call is made twice and the second time is counted: at its first
- * call of memcpy or memset a program may have them looked up by the dynamic linker, which takes stack too. */
+ * function that makes the call, so it has the call's arguments in it. The inputs are the largest: a triangular
+ * patch of degree 8 and a rectangular one of degrees 5 and 5, each with 32 moves and a point. Each call is made
+ * twice and the second time is counted: at its first call of memcpy or memset a program may have them looked up
+ * by the dynamic linker, which takes stack too. */
 #define _XOPEN_SOURCE 700
 #include "gadwemosh.h"
 
@@ -18,60 +19,89 @@ static uint8_t stack[SIZE];
 static uint8_t *begin;
 static ucontext_t here, there;
 
+/* A kind with its largest degrees: a frame, how many monomials and vertices it has, and the weights that replace
+ * the last vertex by itself. */
+struct shape {
+    const char *name;
+    uint8_t kind, degree, second;
+    int frame_numbers, monomials, vertices;
+    int64_t frame[GADWEMOSH_FRAME];
+    int64_t last[3];
+};
+
+static const struct shape shapes[] = {
+    {"triangular", GADWEMOSH_PATCH, 8, 0, 9, GADWEMOSH_PATCH_ENTRIES(8), 3, {1, 0, 1, 0, 1, 1, 0, 0, 1}, {0, 0, 1}},
+    {"rectangular", GADWEMOSH_RECT, 5, 5, 8, GADWEMOSH_RECT_ENTRIES(5, 5), 4, {0, 1, 1, 1, 1, 1, -1, 2}, {0, 1, 0}},
+};
+
+static const struct shape *shape;
 static uint8_t record[GADWEMOSH_LONGEST_RECORD];
-static int64_t net[GADWEMOSH_NET], frame[GADWEMOSH_FRAME] = {1, 0, 1, 0, 1, 1, 0, 0, 1};
-static int64_t coefficients[GADWEMOSH_COEFFICIENTS], found[4], direction[4];
+static size_t record_length;
+static int64_t net[GADWEMOSH_NET], coefficients[GADWEMOSH_COEFFICIENTS], found[4], direction[4];
 static uint64_t bits[3], offset, start, length;
 static uint8_t out[GADWEMOSH_LONGEST_TEXT], outcome, answer;
 
-/* Puts a number of one, two or four bytes into the record. */
+/* Puts a number of one, two or four bytes behind the record. */
 static void put(int bytes, int64_t number) {
-    static size_t at;
     while (bytes-- > 0)
-        record[at++] = (uint8_t)(number >> (8 * bytes));
+        record[record_length++] = (uint8_t)(number >> (8 * bytes));
+}
+
+/* A move that replaces a vertex by itself: its weight stands in the place of its own pair, or of the three. */
+static void put_move(int vertex) {
+    int place = shape->kind == GADWEMOSH_RECT ? vertex % 2 : vertex;
+    put(1, GADWEMOSH_REPLACE), put(1, vertex + 1);
+    for (int v = 0; v < 3; v++)
+        put(2, v == place ? 1 : 0);
 }
 
 static void make_record(void) {
+    record_length = 0;
     for (int i = 0; i < GADWEMOSH_COEFFICIENTS; i++)
         coefficients[i] = i % 7 - 3;
-    put(1, GADWEMOSH_FIELD_KIND), put(2, 2);
-    put(1, GADWEMOSH_PATCH), put(1, 8);
-    put(1, GADWEMOSH_FIELD_FRAME), put(2, 18);
-    for (int i = 0; i < GADWEMOSH_FRAME; i++)
-        put(2, frame[i]);
-    put(1, GADWEMOSH_FIELD_COEFFICIENTS), put(2, 720);
-    for (int i = 0; i < GADWEMOSH_COEFFICIENTS; i++)
+    put(1, GADWEMOSH_FIELD_KIND), put(2, shape->second == 0 ? 2 : 3);
+    put(1, shape->kind), put(1, shape->degree);
+    if (shape->second != 0)
+        put(1, shape->second);
+    put(1, GADWEMOSH_FIELD_FRAME), put(2, 2 * shape->frame_numbers);
+    for (int i = 0; i < shape->frame_numbers; i++)
+        put(2, shape->frame[i]);
+    put(1, GADWEMOSH_FIELD_COEFFICIENTS), put(2, 16 * shape->monomials);
+    for (int i = 0; i < 4 * shape->monomials; i++)
         put(4, coefficients[i]);
     put(1, GADWEMOSH_FIELD_MOVES), put(2, 256);
-    for (int i = 0; i < 32; i++) {
-        put(1, GADWEMOSH_REPLACE), put(1, 1 + i % 3);
-        for (int v = 0; v < 3; v++)
-            put(2, v == i % 3 ? 1 : 0);
-    }
-    put(1, GADWEMOSH_FIELD_POINT), put(2, 6);
-    for (int v = 0; v < 3; v++)
+    for (int i = 0; i < 32; i++)
+        put_move(i % shape->vertices);
+    put(1, GADWEMOSH_FIELD_POINT), put(2, 2 * shape->vertices);
+    for (int v = 0; v < shape->vertices; v++)
         put(2, 1);
 }
 
 static void call_open(void) {
-    answer = gadwemosh_open(record, sizeof record, net, GADWEMOSH_NET, &offset);
+    answer = gadwemosh_open(record, record_length, net, GADWEMOSH_NET, &offset);
 }
 
 static void call_field(void) {
-    answer = gadwemosh_field(record, sizeof record, GADWEMOSH_FIELD_POINT, &start, &length);
+    answer = gadwemosh_field(record, record_length, GADWEMOSH_FIELD_POINT, &start, &length);
 }
 
 static void call_first(void) {
-    answer = gadwemosh_first(GADWEMOSH_PATCH, 8, frame, GADWEMOSH_FRAME, coefficients, GADWEMOSH_COEFFICIENTS, net,
-                             GADWEMOSH_NET);
+    answer = gadwemosh_first(shape->kind, shape->degree, shape->second, shape->frame, GADWEMOSH_FRAME, coefficients,
+                             GADWEMOSH_COEFFICIENTS, net, GADWEMOSH_NET);
 }
 
-static void call_move(void) {
-    answer = gadwemosh_move(net, GADWEMOSH_NET, GADWEMOSH_REPLACE, GADWEMOSH_T, 0, 0, 1);
+static void call_move_first(void) {
+    answer = gadwemosh_move(net, GADWEMOSH_NET, GADWEMOSH_REPLACE, 1, 1, 0, 0, 0);
+}
+
+static void call_move_last(void) {
+    const int64_t *last = shape->last;
+    uint8_t vertex = (uint8_t)shape->vertices;
+    answer = gadwemosh_move(net, GADWEMOSH_NET, GADWEMOSH_REPLACE, vertex, last[0], last[1], last[2], 0);
 }
 
 static void call_point(void) {
-    answer = gadwemosh_point(net, GADWEMOSH_NET, 1, 1, 1, found, 4);
+    answer = gadwemosh_point(net, GADWEMOSH_NET, 1, 1, 1, shape->vertices == 4, found, 4);
 }
 
 static void call_project(void) {
@@ -79,12 +109,12 @@ static void call_project(void) {
 }
 
 static void call_text(void) {
-    answer = gadwemosh_text(record, sizeof record, out, sizeof out, &length);
+    answer = gadwemosh_text(record, record_length, out, sizeof out, &length);
 }
 
 /* With fewer bytes than any text needs, the text is made elsewhere first. */
 static void call_text_made_elsewhere(void) {
-    answer = gadwemosh_text(record, sizeof record, out, sizeof out - 1, &length);
+    answer = gadwemosh_text(record, record_length, out, sizeof out - 1, &length);
 }
 
 static const struct {
@@ -94,7 +124,8 @@ static const struct {
     {"open", call_open},
     {"field", call_field},
     {"first", call_first},
-    {"move", call_move},
+    {"move, first vertex", call_move_first},
+    {"move, last vertex", call_move_last},
     {"point", call_point},
     {"project", call_project},
     {"text", call_text},
@@ -120,22 +151,33 @@ static long stack_of(int which) {
     return (long)(begin - (stack + low));
 }
 
-int main(void) {
+/* Measures all functions on one input, and says how many were refused or took too much. */
+static int measure(void) {
     int wrong = 0;
     make_record();
+    printf("%s\n", shape->name);
     for (int i = 0; i < (int)(sizeof calls / sizeof *calls); i++) {
         answer = 255;
         stack_of(i);
         long taken = stack_of(i);
-        printf("%-20s %6ld bytes of stack\n", calls[i].name, taken);
+        printf("  %-20s %6ld bytes of stack\n", calls[i].name, taken);
         if (answer != 0) {
             wrong++;
-            printf("  refused %u: not the call that was meant\n", answer);
+            printf("    refused %u: not the call that was meant\n", answer);
         }
         if (taken > GADWEMOSH_STACK) {
             wrong++;
-            printf("  more than the %d that gadwemosh.h states\n", GADWEMOSH_STACK);
+            printf("    more than the %d that gadwemosh.h states\n", GADWEMOSH_STACK);
         }
+    }
+    return wrong;
+}
+
+int main(void) {
+    int wrong = 0;
+    for (size_t i = 0; i < sizeof shapes / sizeof *shapes; i++) {
+        shape = &shapes[i];
+        wrong += measure();
     }
     return wrong != 0;
 }

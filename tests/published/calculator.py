@@ -1,5 +1,6 @@
 #!/usr/bin/env python3
-"""An independent calculator for document 01 (01-scope.md), exact integers only.
+"""An independent calculator for document 01 (01-scope.md) with request E3
+(rectangular patches), exact integers only.
 
     python3 calculator.py netprint  < record.bin     the text of netprint
     python3 calculator.py netprint -x < record.hex   the same, record in hex
@@ -12,12 +13,15 @@ compares the two ways.
 """
 import struct
 import sys
+from itertools import combinations_with_replacement, product
 from math import factorial, gcd
 
 RANGE = 281474976710656          # 2 ** 48
 COEFF = 1048576                  # 2 ** 20; either sign
 WEIGHT = 4096                    # either sign
 READ_AT_MOST = 2048              # what follows does not count
+WORD = {1: "curve", 2: "patch", 3: "rect"}
+TOP = {1: (10,), 2: (8,), 3: (5, 5)}       # the largest degrees
 
 
 # ---------------------------------------------------------------- definitions
@@ -26,86 +30,123 @@ def lcm(a, b):
     return a // gcd(a, b) * b
 
 
-def monomials(kind, m):
-    """Exponents in the order field 3 has them: the last one runs fastest."""
-    if kind == 1:
+def groups(kind, degrees):
+    """Groups of vertices, each as (vertices, degree).  A curve or a patch is one
+    group; a rectangular patch is two, the pairs r1, s1 and r2, s2."""
+    if kind == 3:
+        return [(2, m) for m in degrees]
+    return [(kind + 1, degrees[0])]
+
+
+def parts(kind, listed):
+    """What belongs to the vertices, one after the other, cut into groups."""
+    return [listed[:2], listed[2:]] if kind == 3 else [listed]
+
+
+def group_monomials(n, m):
+    """Exponents of one group: of T, or of U and V.  The last one runs fastest."""
+    if n == 2:
         return [(k,) for k in range(m + 1)]
     return [(h, l) for h in range(m + 1) for l in range(m - h + 1)]
 
 
-def nomial(kind, m, mono):
-    """Binomial or trinomial coefficient of a monomial."""
-    d = factorial(m - sum(mono))
-    for e in mono:
+def monomials(kind, degrees):
+    """Exponents in the order field 3 has them, a tuple for each group: the last
+    one runs fastest."""
+    return list(product(*(group_monomials(n, m) for n, m in groups(kind, degrees))))
+
+
+def group_nomial(m, exponents):
+    """Binomial or trinomial coefficient of one group's exponents."""
+    d = factorial(m - sum(exponents))
+    for e in exponents:
         d *= factorial(e)
     return factorial(m) // d
 
 
-def scale(kind, m):
-    """L, the least number that all nomials of this degree divide."""
+def nomial(degrees, mono):
+    """The product of the groups' coefficients."""
     out = 1
-    for mono in monomials(kind, m):
-        out = lcm(out, nomial(kind, m, mono))
+    for m, exponents in zip(degrees, mono):
+        out *= group_nomial(m, exponents)
     return out
 
 
-def sigma(kind, points):
-    """All sigma of a list of points, as a table index -> number.
+def scale(kind, degrees):
+    """L.  In one group it is the least number that all nomials of the degree
+    divide; a rectangular patch has the product of its two curve scales."""
+    out = 1
+    for n, m in groups(kind, degrees):
+        least = 1
+        for exponents in group_monomials(n, m):
+            least = lcm(least, group_nomial(m, exponents))
+        out *= least
+    return out
+
+
+def sigma(n, points):
+    """All sigma of a list of one group's points, as a table index -> number.
 
     Each point multiplies the product so far by Z + T x (or Z + U x + V y), and
     sigma is the coefficient at the index; what is not in the table is 0.
     """
-    n = len(points)
-    if kind == 1:
+    count = len(points)
+    if n == 2:
         s = {(0,): 1}
         for (T, Z) in points:
             s = {(k,): Z * s.get((k,), 0) + T * s.get((k - 1,), 0)
-                 for k in range(n + 1)}
+                 for k in range(count + 1)}
         return s
     s = {(0, 0): 1}
     for (U, V, Z) in points:
         s = {(h, l): Z * s.get((h, l), 0) + U * s.get((h - 1, l), 0)
              + V * s.get((h, l - 1), 0)
-             for h in range(n + 1) for l in range(n + 1 - h)}
+             for h in range(count + 1) for l in range(count + 1 - h)}
     return s
 
 
-def polar(kind, m, coeffs, points):
+def polar(kind, degrees, coeffs, points):
     """The scaled polar value, x, y, z and w alike.
 
-    coeffs: list of (x, y, z, w) in the record's order of monomials."""
-    assert len(points) == m
-    L = scale(kind, m)
-    s = sigma(kind, points)
+    coeffs: list of (x, y, z, w) in the record's order of monomials.
+    points: a list for each group."""
+    assert [len(ps) for ps in points] == list(degrees)
+    L = scale(kind, degrees)
+    tables = [sigma(n, ps) for (n, _), ps in zip(groups(kind, degrees), points)]
     out = [0, 0, 0, 0]
-    for mono, a in zip(monomials(kind, m), coeffs):
-        f = (L // nomial(kind, m, mono)) * s[mono]
+    for mono, a in zip(monomials(kind, degrees), coeffs):
+        f = L // nomial(degrees, mono)
+        for table, exponents in zip(tables, mono):
+            f *= table[exponents]
         for c in range(4):
             out[c] += a[c] * f
     return tuple(out)
 
 
-def entries(kind, m):
-    """Indices in the net's order, the entry of m copies of r first."""
-    if kind == 1:
-        return [(j,) for j in range(m + 1)]
-    return [(i, j, m - i - j)
-            for i in range(m, -1, -1) for j in range(m - i, -1, -1)]
+def entries(kind, degrees):
+    """Indices in the net's order, the entry of copies of r (r1 and r2) first."""
+    if kind == 2:
+        m = degrees[0]
+        return [(i, j, m - i - j)
+                for i in range(m, -1, -1) for j in range(m - i, -1, -1)]
+    return list(product(*(range(m + 1) for m in degrees)))
 
 
-def copies(kind, m, index):
-    """How many times each vertex is taken.  A curve's index counts s only, the
-    rest being r; a patch's index is the counts."""
-    return (m - index[0], index[0]) if kind == 1 else index
+def copies(kind, degrees, index):
+    """How many times each vertex is taken.  A patch's index is the counts; others
+    count s (s1 and s2) only, the rest being r (r1 and r2)."""
+    if kind == 2:
+        return index
+    return tuple(n for m, j in zip(degrees, index) for n in (m - j, j))
 
 
-def net(kind, m, coeffs, frame):
+def net(kind, degrees, coeffs, frame):
     out = []
-    for e in entries(kind, m):
-        pts = []
-        for v, n in zip(frame, copies(kind, m, e)):
-            pts += [v] * n
-        out.append(polar(kind, m, coeffs, pts))
+    for e in entries(kind, degrees):
+        points = [[v for v, n in zip(vertices, counts) for _ in range(n)]
+                  for vertices, counts in zip(parts(kind, frame),
+                                              parts(kind, copies(kind, degrees, e)))]
+        out.append(polar(kind, degrees, coeffs, points))
     return out
 
 
@@ -113,73 +154,92 @@ def in_range(p):
     return all(abs(c) <= RANGE for c in p)
 
 
-def determinant(frame):
-    if len(frame) == 2:
-        (a, b), (c, d) = frame
+def determinant(vertices):
+    """Of one group."""
+    if len(vertices) == 2:
+        (a, b), (c, d) = vertices
         return a * d - b * c
-    (a, b, c), (d, e, f), (g, h, i) = frame
+    (a, b, c), (d, e, f), (g, h, i) = vertices
     return a * (e * i - f * h) - b * (d * i - f * g) + c * (d * h - e * g)
 
 
-def combine(frame, weights):
-    """The point q that the weights name."""
-    return tuple(sum(w * v[n] for w, v in zip(weights, frame))
-                 for n in range(len(frame[0])))
+def flat(kind, frame):
+    """Whether a determinant is 0: of the frame, or of one of two pairs."""
+    return any(determinant(vertices) == 0 for vertices in parts(kind, frame))
 
 
-def size_refused(kind, m, coeffs, frame, q):
-    """Whether any mixture of vertices and q, m in all, has too large a value:
-    also mixtures that neither the new net nor the point contains."""
-    vs = list(frame) + [q]
+def combine(vertices, weights):
+    """The point q that the weights of one group name."""
+    return tuple(sum(w * v[n] for w, v in zip(weights, vertices))
+                 for n in range(len(vertices[0])))
 
-    def lists(n, i):
-        if i == len(vs) - 1:
-            yield [vs[i]] * n
-            return
-        for c in range(n + 1):
-            for rest in lists(n - c, i + 1):
-                yield [vs[i]] * c + rest
-    return any(not in_range(polar(kind, m, coeffs, pts))
-               for pts in lists(m, 0))
+
+def some_out_of_range(kind, degrees, coeffs, choices):
+    """Whether any mixture of each group's choices, as many as its degree, has too
+    large a value."""
+    mixtures = [list(combinations_with_replacement(c, m)) for c, m in zip(choices, degrees)]
+    return any(not in_range(polar(kind, degrees, coeffs, points))
+               for points in product(*mixtures))
+
+
+def replace_too_large(kind, degrees, coeffs, frame, own, q):
+    """The replace's size rule: the own group's points are taken from its vertices
+    and q, the other's from its vertices.  Also mixtures count that the new net
+    does not contain."""
+    choices = [list(vertices) for vertices in parts(kind, frame)]
+    choices[own].append(q)
+    return some_out_of_range(kind, degrees, coeffs, choices)
+
+
+def point_too_large(kind, degrees, coeffs, frame, qs):
+    """The point's size rule, one group after the other: the groups before have
+    only their own point, the groups after only their vertices."""
+    vertices = parts(kind, frame)
+    for g, q in enumerate(qs):
+        choices = [[before] for before in qs[:g]] + [list(vertices[g]) + [q]]
+        choices += [list(after) for after in vertices[g + 1:]]
+        if some_out_of_range(kind, degrees, coeffs, choices):
+            return True
+    return False
 
 
 # ------------------------------------------------------------- moves and point
 
-def judge_move(kind, m, coeffs, frame, op, vertex, weights):
+def judge_move(kind, degrees, coeffs, frame, op, vertex, weights):
     """(number, new frame).  Order 8, 9, 10.  weights: the three of the record."""
-    nv = len(frame)
-    if op not in (1, 2) or not 1 <= vertex <= nv:
+    if op not in (1, 2) or not 1 <= vertex <= len(frame):
         return 8, frame
     if any(abs(w) > WEIGHT for w in weights):
         return 8, frame
+    new = list(frame)
     if op == 2:
         if any(weights):
             return 8, frame
-        new = list(frame)
         new[vertex - 1] = tuple(-c for c in frame[vertex - 1])
         return 0, tuple(new)
-    if nv == 2 and weights[2] != 0:
+    own, place = (1, vertex - 3) if kind == 3 and vertex > 2 else (0, vertex - 1)
+    vertices = parts(kind, frame)[own]
+    if any(weights[len(vertices):]):
         return 8, frame
-    if weights[vertex - 1] == 0:
+    if weights[place] == 0:
         return 9, frame
-    q = combine(frame, weights[:nv])
-    if size_refused(kind, m, coeffs, frame, q):
+    q = combine(vertices, weights)
+    if replace_too_large(kind, degrees, coeffs, frame, own, q):
         return 10, frame
-    new = list(frame)
     new[vertex - 1] = q
     return 0, tuple(new)
 
 
-def judge_point(kind, m, coeffs, frame, weights):
+def judge_point(kind, degrees, coeffs, frame, weights):
     """(number, point)."""
     if any(abs(w) > WEIGHT for w in weights):
         return 8, None
-    if not any(weights):
+    if not all(any(ws) for ws in parts(kind, weights)):
         return 9, None
-    q = combine(frame, weights)
-    if size_refused(kind, m, coeffs, frame, q):
+    qs = [combine(vertices, ws) for vertices, ws in zip(parts(kind, frame), parts(kind, weights))]
+    if point_too_large(kind, degrees, coeffs, frame, qs):
         return 10, None
-    return 0, polar(kind, m, coeffs, [q] * m)
+    return 0, polar(kind, degrees, coeffs, [[q] * m for q, m in zip(qs, degrees)])
 
 
 def project(p):
@@ -207,13 +267,32 @@ class Refused(Exception):
         self.number, self.offset = number, offset
 
 
+def length_ok(tag, length, kind, degrees):
+    """Whether the table allows this length; kind and degrees are those of field 1."""
+    if tag == 1:
+        return length in (2, 3)
+    if tag == 2:
+        return length == 2 * sum(n * n for n, _ in groups(kind, degrees))
+    if tag == 3:
+        return length == 16 * len(monomials(kind, degrees))
+    if tag == 4:
+        return length % 8 == 0 and length // 8 <= 32
+    return length == 2 * sum(n for n, _ in groups(kind, degrees))
+
+
+def known(kind, degrees):
+    """A kind with as many degrees as it has, each from 1 to its limit."""
+    top = TOP.get(kind, ())
+    return len(degrees) == len(top) and all(1 <= m <= t for m, t in zip(degrees, top))
+
+
 def read_record(b):
     """The record's fields, or Refused.  The tests are written in the order that
     decides the number, so the first to fail gives it."""
     seen = {}
     last = 0
     p = 0
-    kind = degree = None
+    kind = degrees = None
     frame = coeffs = None
     while p < len(b):
         if len(b) - p < 3:                                   # three bytes present
@@ -224,31 +303,20 @@ def read_record(b):
         if any(t < tag and t not in seen for t in (1, 2, 3)):   # before a required one
             raise Refused(2, p)
         length = struct.unpack(">H", b[p + 1:p + 3])[0]
-        if tag == 1:
-            ok = length == 2
-        elif tag == 2:
-            ok = length == (8 if kind == 1 else 18)
-        elif tag == 3:
-            ok = length == 16 * len(monomials(kind, degree))
-        elif tag == 4:
-            ok = length % 8 == 0 and length // 8 <= 32
-        else:
-            ok = length == (4 if kind == 1 else 6)
-        if not ok:                                           # length
+        if not length_ok(tag, length, kind, degrees):        # length
             raise Refused(3, p)
         if p + 3 + length > len(b):                          # value present
             raise Refused(1, p)
         v = b[p + 3:p + 3 + length]
         if tag == 1:                                         # values
-            kind, degree = v[0], v[1]
-            if not ((kind == 1 and 1 <= degree <= 10)
-                    or (kind == 2 and 1 <= degree <= 8)):
+            kind, degrees = v[0], tuple(v[1:])
+            if not known(kind, degrees):
                 raise Refused(4, p)
         elif tag == 2:
             n = struct.unpack(">%dh" % (length // 2), v)
-            d = 2 if kind == 1 else 3
-            frame = tuple(tuple(n[d * i:d * i + d]) for i in range(d))
-            if any(abs(c) > 4 for c in n) or determinant(frame) == 0:
+            d = groups(kind, degrees)[0][0]                  # numbers of a vertex
+            frame = tuple(n[i:i + d] for i in range(0, len(n), d))
+            if any(abs(c) > 4 for c in n) or flat(kind, frame):
                 raise Refused(5, p)
         elif tag == 3:
             n = struct.unpack(">%di" % (length // 4), v)
@@ -265,28 +333,33 @@ def read_record(b):
         p += 3 + length
     if any(t not in seen for t in (1, 2, 3)):
         raise Refused(2, len(b))
-    first = net(kind, degree, coeffs, frame)
+    first = net(kind, degrees, coeffs, frame)
     if not all(in_range(e) for e in first):
         raise Refused(7, seen[3])
-    return {"kind": kind, "degree": degree, "frame": frame, "coeffs": coeffs,
+    return {"kind": kind, "degrees": degrees, "frame": frame, "coeffs": coeffs,
             "moves": moves if 4 in seen else [],
             "point": point if 5 in seen else None}
+
+
+def first_line(kind, degrees):
+    """Kind word, degree or both degrees, scale."""
+    return " ".join([WORD[kind]] + [str(m) for m in degrees] + [str(scale(kind, degrees))])
 
 
 def run(r):
     """The list a record asks for: refusals of moves, frame and net reached,
     and the point's line."""
-    kind, m, coeffs = r["kind"], r["degree"], r["coeffs"]
+    kind, degrees, coeffs = r["kind"], r["degrees"], r["coeffs"]
     frame = r["frame"]
-    lines = ["%s %d %d" % ("curve" if kind == 1 else "patch", m, scale(kind, m))]
+    lines = [first_line(kind, degrees)]
     for k, (op, vertex, a, b, c) in enumerate(r["moves"], 1):
-        number, frame = judge_move(kind, m, coeffs, frame, op, vertex, (a, b, c))
+        number, frame = judge_move(kind, degrees, coeffs, frame, op, vertex, (a, b, c))
         if number:
             lines.append("move %d refused %d" % (k, number))
-    for e, p in zip(entries(kind, m), net(kind, m, coeffs, frame)):
+    for e, p in zip(entries(kind, degrees), net(kind, degrees, coeffs, frame)):
         lines.append(" ".join(str(n) for n in tuple(e) + p))
     if r["point"] is not None:
-        number, p = judge_point(kind, m, coeffs, frame, r["point"])
+        number, p = judge_point(kind, degrees, coeffs, frame, r["point"])
         if number:
             lines.append("point refused %d" % number)
         else:
@@ -310,12 +383,12 @@ def netprint(b):
 
 # -------------------------------------------------------------- record writing
 
-def record(kind, degree, frame, coeffs, moves=None, point=None):
+def record(kind, degrees, frame, coeffs, moves=None, point=None):
     """Bytes of a record.  Nothing is tested, so broken ones can be made too.
     moves: list of (op, vertex, a, b, c); None leaves field 4 out."""
     def field(tag, value):
         return struct.pack(">BH", tag, len(value)) + value
-    out = field(1, bytes([kind, degree]))
+    out = field(1, bytes((kind,) + tuple(degrees)))
     out += field(2, b"".join(struct.pack(">h", c) for v in frame for c in v))
     out += field(3, b"".join(struct.pack(">i", c) for q in coeffs for c in q))
     if moves is not None:
@@ -342,22 +415,20 @@ def hexlines(b):
 
 # -------------------------------------------------------------------- selftest
 
-def net_move(kind, m, entries_of, frame_size, vertex, weights):
-    """Replace by the handed-net rule only; entries_of maps copies -> value."""
-    table = dict(entries_of)
-    nv = frame_size
-
+def net_move(table, own, vertex, weights):
+    """Replace by the handed-net rule only; table maps copies -> value, own are the
+    places of the vertices that the weights belong to."""
     def value(counts):           # counts: copies of each vertex, then of q
         if counts[-1] == 0:
             return table[counts[:-1]]
         out = [0, 0, 0, 0]
-        for i in range(nv):
+        for i, weight in zip(own, weights):
             c = list(counts)
             c[-1] -= 1
             c[i] += 1
             v = value(tuple(c))
             for n in range(4):
-                out[n] += weights[i] * v[n]
+                out[n] += weight * v[n]
         return tuple(out)
     new = {}
     for c in table:
@@ -365,6 +436,20 @@ def net_move(kind, m, entries_of, frame_size, vertex, weights):
         d[vertex] = 0
         new[c] = value(tuple(d))
     return new
+
+
+def value_at(kind, degrees, coeffs, qs):
+    """F at one point for each group, by powers."""
+    out = [0] * 4
+    for mono, a in zip(monomials(kind, degrees), coeffs):
+        t = 1
+        for q, m, exponents in zip(qs, degrees, mono):
+            t *= q[-1] ** (m - sum(exponents))
+            for e, x in zip(exponents, q):
+                t *= x ** e
+        for c in range(4):
+            out[c] += a[c] * t
+    return out
 
 
 def selftest():
@@ -377,94 +462,102 @@ def selftest():
             print("FAIL", name, "got", got, "want", want)
 
     # the rows of document 02, E4; among them are the scales that document 01 names
-    for kind, row in ((1, (1, 2, 3, 12, 10, 60, 105, 280, 252, 2520)),
-                      (2, (1, 2, 6, 12, 60, 180, 420, 1680))):
-        check("scales", tuple(scale(kind, m) for m in range(1, len(row) + 1)), row)
-        for m, L in enumerate(row, 1):
-            all_of_degree = [nomial(kind, m, mono) for mono in monomials(kind, m)]
-            divided = [k for k in range(1, L + 1) if all(k % n == 0 for n in all_of_degree)]
-            check("least number divided by all", divided, [L])
+    rows = ((1, (1, 2, 3, 12, 10, 60, 105, 280, 252, 2520)),
+            (2, (1, 2, 6, 12, 60, 180, 420, 1680)))
+    scales = [(kind, (m,), L) for kind, row in rows for m, L in enumerate(row, 1)]
+    curves = (1, 2, 3, 12, 10)
+    scales += [(3, (p, q), curves[p - 1] * curves[q - 1])
+               for p in range(1, 6) for q in range(1, 6)]
+    for kind, degrees, L in scales:
+        check("scale", scale(kind, degrees), L)
+        all_of_degree = [nomial(degrees, mono) for mono in monomials(kind, degrees)]
+        divided = [k for k in range(1, L + 1) if all(k % n == 0 for n in all_of_degree)]
+        check("least number divided by all", divided, [L])
     circle = [(1, 0, 0, 1), (0, 2, 0, 0), (-1, 0, 0, 1)]
     cf = ((0, 1), (1, 1))
-    check("B1", net(1, 2, circle, cf), [(2, 0, 0, 2), (2, 2, 0, 2), (0, 4, 0, 4)])
-    check("B2", judge_point(1, 2, circle, cf, (1, 1)), (0, (6, 8, 0, 10)))
-    n, f3 = judge_move(1, 2, circle, cf, 1, 2, (1, 1, 0))
-    check("B3", (n, net(1, 2, circle, f3)),
+    check("B1", net(1, (2,), circle, cf), [(2, 0, 0, 2), (2, 2, 0, 2), (0, 4, 0, 4)])
+    check("B2", judge_point(1, (2,), circle, cf, (1, 1)), (0, (6, 8, 0, 10)))
+    n, f3 = judge_move(1, (2,), circle, cf, 1, 2, (1, 1, 0))
+    check("B3", (n, net(1, (2,), circle, f3)),
           (0, [(2, 0, 0, 2), (4, 2, 0, 4), (6, 8, 0, 10)]))
-    n, f4 = judge_move(1, 2, circle, cf, 2, 1, (0, 0, 0))
-    check("B4", (n, net(1, 2, circle, f4)),
+    n, f4 = judge_move(1, (2,), circle, cf, 2, 1, (0, 0, 0))
+    check("B4", (n, net(1, (2,), circle, f4)),
           (0, [(2, 0, 0, 2), (-2, -2, 0, -2), (0, 4, 0, 4)]))
-    check("B5", judge_point(1, 2, circle, f4, (1, 1)), (0, (-2, 0, 0, 2)))
+    check("B5", judge_point(1, (2,), circle, f4, (1, 1)), (0, (-2, 0, 0, 2)))
     folium = [(0, 0, 0, 1), (3, 0, 0, 0), (0, 3, 0, 0), (0, 0, 0, 1)]
-    check("B6", net(1, 3, folium, cf),
+    check("B6", net(1, (3,), folium, cf),
           [(0, 0, 0, 3), (3, 0, 0, 3), (6, 3, 0, 3), (9, 9, 0, 6)])
-    n, p = judge_point(1, 3, folium, cf, (2, -1))
+    n, p = judge_point(1, (3,), folium, cf, (2, -1))
     check("B7", (n, p, project(p)), (0, (-9, 9, 0, 0), ("far", 1, -1, 0, 9)))
     # h, l: (0,0) (0,1) (0,2) (1,0) (1,1) (2,0)
     b8 = [(0, 0, 0, 1), (0, 1, 0, 0), (0, 0, 0, 0),
           (1, 0, 0, 0), (0, 0, 1, 0), (0, 0, 0, 0)]
     pf = ((1, 0, 1), (0, 1, 1), (0, 0, 1))
-    check("B8", net(2, 2, b8, pf),
+    check("B8", net(2, (2,), b8, pf),
           [(2, 0, 0, 2), (1, 1, 1, 2), (1, 0, 0, 2),
            (0, 2, 0, 2), (0, 1, 0, 2), (0, 0, 0, 2)])
-    check("B9", judge_point(2, 2, b8, pf, (1, 1, 1)), (0, (6, 6, 2, 18)))
+    check("B9", judge_point(2, (2,), b8, pf, (1, 1, 1)), (0, (6, 6, 2, 18)))
     b10 = [(1048576, 0, 0, 1), (0, 0, 0, 1)]
     f = ((0, 1), (1, 0))
     for w in ((4096, 1, 0), (4096, 1, 0), (16, 1, 0)):
-        n, f = judge_move(1, 1, b10, f, 1, 1, w)
+        n, f = judge_move(1, (1,), b10, f, 1, 1, w)
         check("B10 taken", n, 0)
-    check("B10", net(1, 1, b10, f)[0][0], 2 ** 48)
+    check("B10", net(1, (1,), b10, f)[0][0], 2 ** 48)
     f = ((0, 1), (1, 0))
     for w in ((4096, 1, 0), (4096, 1, 0)):
-        n, f = judge_move(1, 1, b10, f, 1, 1, w)
-    check("B10 refused", judge_move(1, 1, b10, f, 1, 1, (17, 1, 0)), (10, f))
-    check("4096", judge_move(1, 2, circle, cf, 1, 1, (4096, 4096, 0))[0], 0)
-    check("4097", judge_move(1, 2, circle, cf, 1, 1, (4097, 1, 0))[0], 8)
+        n, f = judge_move(1, (1,), b10, f, 1, 1, w)
+    check("B10 refused", judge_move(1, (1,), b10, f, 1, 1, (17, 1, 0)), (10, f))
+    check("4096", judge_move(1, (2,), circle, cf, 1, 1, (4096, 4096, 0))[0], 0)
+    check("4097", judge_move(1, (2,), circle, cf, 1, 1, (4097, 1, 0))[0], 8)
     check("empty", netprint(b""), "refused 2 at 0\n")
-    check("circle record", netprint(record(1, 2, cf, circle, None, (1, 1))),
+    check("circle record", netprint(record(1, (2,), cf, circle, None, (1, 1))),
           "curve 2 2\n0 2 0 0 2\n1 2 2 0 2\n2 0 4 0 4\n"
           "at 3fe3333333333333 3fe999999999999a 0000000000000000\n")
+    # x = T1 Z2, y = Z1 T2, z = T1 T2, w = Z1 Z2 over (0, 1), (1, 1) twice: entry i j is the
+    # point at u = i, v = j; q = (1, 2) in both pairs is the point at 1/2, 1/2, times 4
+    saddle = [(0, 0, 0, 1), (0, 1, 0, 0), (1, 0, 0, 0), (0, 0, 1, 0)]
+    check("rect", net(3, (1, 1), saddle, cf + cf),
+          [(0, 0, 0, 1), (0, 1, 0, 1), (1, 0, 0, 1), (1, 1, 1, 1)])
+    check("rect point", judge_point(3, (1, 1), saddle, cf + cf, (1, 1, 1, 1)), (0, (2, 2, 1, 4)))
+    check("rect pair", judge_point(3, (1, 1), saddle, cf + cf, (1, 1, 0, 0))[0], 9)
+    check("rect record", netprint(record(3, (1, 1), cf + cf, saddle, [(1, 4, 1, 1, 0)])),
+          "rect 1 1 1\n0 0 0 0 0 1\n0 1 0 1 0 2\n1 0 1 0 0 1\n1 1 2 1 1 2\n")
     # frame-based moves against net-based moves, and L x F(q), on random records
     rnd = random.Random(1)
     for _ in range(300):
-        kind = rnd.choice((1, 2))
-        m = rnd.randint(1, 6 if kind == 1 else 4)
-        d = kind + 1
+        kind = rnd.choice((1, 2, 3))
+        degrees = tuple(rnd.randint(1, top) for top in {1: (6,), 2: (4,), 3: (3, 2)}[kind])
+        sizes = [n for n, _ in groups(kind, degrees)]
         while True:
-            frame = tuple(tuple(rnd.randint(-4, 4) for _ in range(d)) for _ in range(d))
-            if determinant(frame):
+            frame = tuple(tuple(rnd.randint(-2, 2) for _ in range(n)) for n in sizes for _ in range(n))
+            if not flat(kind, frame):
                 break
-        coeffs = [tuple(rnd.randint(-9, 9) for _ in range(4)) for _ in monomials(kind, m)]
-        tab = dict(zip([copies(kind, m, e) for e in entries(kind, m)],
-                       net(kind, m, coeffs, frame)))
+        coeffs = [tuple(rnd.randint(-9, 9) for _ in range(4)) for _ in monomials(kind, degrees)]
+        counts = [copies(kind, degrees, e) for e in entries(kind, degrees)]
+        tab = dict(zip(counts, net(kind, degrees, coeffs, frame)))
         for _ in range(3):
-            v = rnd.randrange(d)
+            v = rnd.randrange(len(frame))
             if rnd.random() < 0.4:
-                n, frame = judge_move(kind, m, coeffs, frame, 2, v + 1, (0, 0, 0))
+                n, frame = judge_move(kind, degrees, coeffs, frame, 2, v + 1, (0, 0, 0))
                 tab = {c: tuple(-x for x in p) if c[v] % 2 else p for c, p in tab.items()}
             else:
-                w = [rnd.randint(-3, 3) for _ in range(d)]
-                n, fr = judge_move(kind, m, coeffs, frame, 1, v + 1, tuple(w + [0] * (3 - d)))
+                own = next(part for part in parts(kind, range(len(frame))) if v in part)
+                w = [rnd.randint(-3, 3) for _ in own]
+                n, fr = judge_move(kind, degrees, coeffs, frame, 1, v + 1,
+                                   tuple(w + [0] * (3 - len(own))))
                 if n == 9:
-                    check("nine", w[v], 0)
+                    check("nine", w[v - own[0]], 0)
                     continue
                 check("no size", n, 0)
                 frame = fr
-                tab = net_move(kind, m, tab, d, v, w)
-        check("nets", tab, dict(zip([copies(kind, m, e) for e in entries(kind, m)],
-                                    net(kind, m, coeffs, frame))))
-        w = tuple(rnd.randint(-3, 3) for _ in range(d))
-        n, p = judge_point(kind, m, coeffs, frame, w)
-        if any(w):
-            q = combine(frame, w)
-            want = [0] * 4
-            for mono, a in zip(monomials(kind, m), coeffs):
-                t = q[-1] ** (m - sum(mono))
-                for e, x in zip(mono, q):
-                    t *= x ** e
-                for c in range(4):
-                    want[c] += a[c] * t
-            check("L F(q)", p, tuple(scale(kind, m) * c for c in want))
+                tab = net_move(tab, own, v, w)
+        check("nets", tab, dict(zip(counts, net(kind, degrees, coeffs, frame))))
+        w = tuple(rnd.randint(-3, 3) for _ in frame)
+        n, p = judge_point(kind, degrees, coeffs, frame, w)
+        if all(any(part) for part in parts(kind, w)):
+            qs = [combine(vs, ws) for vs, ws in zip(parts(kind, frame), parts(kind, w))]
+            want = value_at(kind, degrees, coeffs, qs)
+            check("L F(q)", p, tuple(scale(kind, degrees) * c for c in want))
     print("%d checks, %d failed" % (len(ok), ok.count(False)))
     return 0 if all(ok) else 1
 

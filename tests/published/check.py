@@ -46,6 +46,12 @@ def blocks():
             b[k] = v
 
 
+def shape(b):
+    """Kind and degrees of a block."""
+    kind = next(k for k, word in calc.WORD.items() if word == b["kind"])
+    return kind, tuple(int(x) for x in b["degree"].split())
+
+
 def main(argv):
     prog = argv[0] if argv else None
     fails = runs = 0
@@ -66,29 +72,28 @@ def main(argv):
     labels = set()
     for b in blocks():
         labels.add(b["net"])
-        kind = 1 if b["kind"] == "curve" else 2
-        m = int(b["degree"])
+        kind, degrees = shape(b)
         n = [int(x) for x in b["frame"].split()]
-        d = kind + 1
-        frame = tuple(tuple(n[d * i:d * i + d]) for i in range(d))
+        d = 3 if kind == 2 else 2            # numbers of a vertex
+        frame = tuple(tuple(n[i:i + d]) for i in range(0, len(n), d))
         mv = [] if b["moves"] == "none" else [int(x) for x in b["moves"].split()]
         moves = [tuple(mv[i:i + 5]) for i in range(0, len(mv), 5)]
         point = tuple(int(x) for x in b["point"].split()) if "point" in b else None
         assert int(b["monomials"]) == len(b["c"]) and int(b["entries"]) == len(b["e"])
-        rec = calc.record(kind, m, frame, b["c"], moves or None, point)
+        rec = calc.record(kind, degrees, frame, b["c"], moves or None, point)
         assert rec == hexbytes(load("records", b["net"], ".hex")), b["net"]
         reached = frame
         for x in moves:
-            number, reached = calc.judge_move(kind, m, b["c"], reached, x[0], x[1], x[2:])
+            number, reached = calc.judge_move(kind, degrees, b["c"], reached, x[0], x[1], x[2:])
             assert number == 0
-        ours = calc.net(kind, m, b["c"], reached)
+        ours = calc.net(kind, degrees, b["c"], reached)
         f = Fr(b["factor"])
-        vs = [int(x) for x in b["vertex-scale"].split()] if "vertex-scale" in b else [1] * d
+        vs = [int(x) for x in b["vertex-scale"].split()] if "vertex-scale" in b else [1] * len(frame)
         diff = {(i, c): (n_, s) for i, c, n_, s in b["differs"]}
         rows = []
-        for i, (e, a, p) in enumerate(zip(calc.entries(kind, m), ours, b["e"])):
+        for i, (e, a, p) in enumerate(zip(calc.entries(kind, degrees), ours, b["e"])):
             x = 1
-            for c, s in zip(calc.copies(kind, m, e), vs):
+            for c, s in zip(calc.copies(kind, degrees, e), vs):
                 x *= s ** c
             row = []
             for c in range(4):
@@ -101,7 +106,7 @@ def main(argv):
             rows.append((e, row))
         verdict = "misprint" if diff else "equal"
         assert b["verdict"] == verdict, b["net"]
-        text = "%s %d %d\n" % (b["kind"], m, calc.scale(kind, m))
+        text = calc.first_line(kind, degrees) + "\n"
         for e, row in rows:
             text += " ".join(str(int(v)) for v in tuple(e) + tuple(row)) + "\n"
         want = load("expected" if verdict == "equal" else "expected-misprints", b["net"], ".txt")

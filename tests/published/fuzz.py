@@ -15,18 +15,19 @@ import calculator as calc
 
 
 def whole(rnd):
-    kind = rnd.choice((1, 1, 2))
-    m = rnd.randint(1, 10 if kind == 1 else 8)
-    d = kind + 1
+    kind = rnd.choice((1, 1, 2, 3, 3))
+    degrees = tuple(rnd.randint(1, top) for top in calc.TOP[kind])
+    d = 3 if kind == 2 else 2                # numbers of a vertex, weights of a move
+    vertices = 4 if kind == 3 else d
     small = rnd.choice((1, 2, 4))
     while True:
-        frame = tuple(tuple(rnd.randint(-small, small) for _ in range(d)) for _ in range(d))
-        if calc.determinant(frame) or rnd.random() < 0.02:
+        frame = tuple(tuple(rnd.randint(-small, small) for _ in range(d)) for _ in range(vertices))
+        if not calc.flat(kind, frame) or rnd.random() < 0.02:
             break
     top = rnd.choice((1, 3, 1000, 1048576))
     zero = rnd.choice((0.0, 0.5, 0.9))
     coeffs = [tuple(0 if rnd.random() < zero else rnd.randint(-top, top) for _ in range(4))
-              for _ in calc.monomials(kind, m)]
+              for _ in calc.monomials(kind, degrees)]
     if rnd.random() < 0.02:
         coeffs[-1] = (0, 0, 0, rnd.choice((1048577, -1048577, 2**31 - 1, -2**31)))
 
@@ -36,16 +37,18 @@ def whole(rnd):
 
     def move():
         if rnd.random() < 0.05:
-            return (rnd.randint(0, 3), rnd.randint(0, 4), weight(), weight(), weight())
-        vertex = rnd.randint(1, d)
+            return (rnd.randint(0, 3), rnd.randint(0, 5), weight(), weight(), weight())
+        vertex = rnd.randint(1, vertices)
         if rnd.random() < 0.3:
             return (2, vertex, 0, 0, 0)
         return (1, vertex, weight(), weight(), weight() if kind == 2 else 0)
     moves = None
     if rnd.random() < 0.8:
         moves = [move() for _ in range(rnd.choice((0, 1, 2, 3, 5)) if rnd.random() < 0.98 else 33)]
-    point = tuple(weight() for _ in range(d)) if rnd.random() < 0.7 else None
-    return calc.record(kind, m, frame, coeffs, moves, point)
+    point = tuple(weight() for _ in range(vertices)) if rnd.random() < 0.7 else None
+    if rnd.random() < 0.02:
+        degrees += (rnd.randint(0, 5),)      # a degree too many
+    return calc.record(kind, degrees, frame, coeffs, moves, point)
 
 
 def broken(rnd, b):
@@ -78,7 +81,7 @@ def main(argv):
         want = calc.netprint(rec)
         for line in want.split("\n"):
             w = line.split()
-            if "refused" in w or (w and w[0] in ("at", "far", "nowhere", "curve", "patch")):
+            if "refused" in w or (w and w[0] in ("at", "far", "nowhere", "curve", "patch", "rect")):
                 key = w[0] if w[0] not in ("refused", "move", "point") else (
                     "refused " + w[1] if w[0] == "refused" else w[0] + " refused " + w[-1])
                 tally[key] = tally.get(key, 0) + 1

@@ -41,6 +41,13 @@ def braces(ch, a, b):
             for g in re.findall(r"\{([-0-9/, \n]+)\}", lines(ch, a, b))]
 
 
+def in_letters(ch, a, b, values):
+    """{x, y, z, w} {x, y, z, w} ... in letters, at the values of the letters."""
+    s = re.sub(r"(\d)\s*([a-z(])", r"\1*\2", lines(ch, a, b).partition("=")[2])
+    return [tuple(Fr(eval(x, {}, values)) for x in g.split(","))
+            for g in re.findall(r"\{([-+*0-9a-z(), \n]+)\}", s)]
+
+
 def thetas(ch, a, b, name="theta"):
     """theta_k = (x, y, w): coordinates in the hat space, already multiplied."""
     out = {}
@@ -134,25 +141,29 @@ O = Poly({})
 ONE = Poly({(0, 0, 0): 1})
 
 
-def coefficients(kind, m, polys):
+def fits(kind, degrees, e):
+    """Whether a monomial is within the degrees: each letter's own, or all together."""
+    if kind == 3:
+        return e[0] <= degrees[0] and e[1] <= degrees[1] and e[2] == 0
+    return sum(e) <= degrees[0] and (e[2] == 0 or sum(e) == degrees[0])
+
+
+def coefficients(kind, degrees, polys):
     """Four affine polynomials (or homogeneous in three letters) to the record's
-    list.  Degrees above m are an error."""
+    list.  Degrees above those of the record are an error."""
     out = []
     for p in polys:
         for e in p.d:
-            assert sum(e) <= m, (e, m)
-            assert e[2] == 0 or sum(e) == m, "homogeneous in three letters"
-    for mono in calc.monomials(kind, m):
+            assert fits(kind, degrees, e), (e, degrees)
+    for mono in calc.monomials(kind, degrees):
+        h, l = (sum(mono, ()) + (0,))[:2]
         row = []
         for p in polys:
-            if kind == 1:
-                row.append(p.d.get((mono[0], 0, 0), 0))
-            else:
-                a = p.d.get((mono[0], mono[1], 0), 0)
-                rest = m - sum(mono)
-                if rest:
-                    a += p.d.get((mono[0], mono[1], rest), 0)
-                row.append(a)
+            a = p.d.get((h, l, 0), 0)
+            rest = degrees[0] - h - l
+            if kind == 2 and rest:
+                a += p.d.get((h, l, rest), 0)
+            row.append(a)
         assert all(int(c) == c for c in row)
         out.append(tuple(int(c) for c in row))
     return out
@@ -164,16 +175,20 @@ UNIT = ((0, 1), (1, 1))                       # affine frame (0, 1)
 SYMM = ((-1, 1), (1, 1))                      # affine frame (-1, 1)
 TRI = ((1, 0, 1), (0, 1, 1), (0, 0, 1))       # corners (1,0), (0,1), (0,0)
 AXES = ((1, 0, 0), (0, 1, 0), (0, 0, 1))      # r and s at infinity; or barycentric
-FLIP = {"r": (2, 1, 0, 0, 0), "s": (2, 2, 0, 0, 0), "t": (2, 3, 0, 0, 0)}
+FLIP = {"r": (2, 1, 0, 0, 0), "s": (2, 2, 0, 0, 0), "t": (2, 3, 0, 0, 0),
+        "r1": (2, 1, 0, 0, 0), "s1": (2, 2, 0, 0, 0), "r2": (2, 3, 0, 0, 0), "s2": (2, 4, 0, 0, 0)}
 
 NETS = []
 
 
 def add(label, ch, place, kind, degree, frame, polys, printed, style, evidence,
         moves=(), note="", pick=None, sign=None, vscale=None, point=None,
-        atprinted=None, source="printed"):
+        atprinted=None, source="printed", factor=None):
     """printed: list in the chapter's order.  style: 'hat' (already multiplied)
-    or 'affine' (coordinates and weight).  pick: which of five components."""
+    or 'affine' (coordinates and weight).  pick: which of five components.
+    degree: one number, or two of a rectangular patch.  factor: only where it
+    cannot be found, since hardly a number agrees."""
+    degrees = degree if kind == 3 else (degree,)
     rows = list(printed)
     if pick:
         rows = [tuple(p[i] for i in pick) for p in rows]
@@ -181,8 +196,8 @@ def add(label, ch, place, kind, degree, frame, polys, printed, style, evidence,
     rows = [spread(p) for p in rows]
     if kind == 2:
         rows.reverse()     # chapters: i rising, j rising; document 01: both falling
-    NETS.append(dict(label=label, ch=ch, place=place, kind=kind, degree=degree,
-                     frame=frame, coeffs=coefficients(kind, degree, polys),
+    NETS.append(dict(label=label, ch=ch, place=place, kind=kind, degrees=degrees,
+                     frame=frame, coeffs=coefficients(kind, degrees, polys), factor=factor,
                      rows=rows, evidence=evidence, moves=list(moves), note=note,
                      vscale=vscale, source=source, point=point,
                      atprinted=atprinted, sign=sign))
@@ -298,6 +313,57 @@ add("000-klein-xyt", "000", "section 24.6, Problem 21, kleinet4, lines 1258-1289
     (_kx, _ky, _kt, _kw), _k8, "affine", "printed", pick=(0, 1, 3, 4),
     note="frame not named there, the corners show it; five components, this record holds x y t w")
 
+# Rectangular nets.  The chapter lists them as document 02 does: i rising, then j rising.
+
+
+def torus(a, b, c):
+    """Section 24.5, line 611."""
+    tube = a*(1 + v**2) - 2*b*v
+    return ((1 - u**2)*tube, 2*u*tube, c*(1 + u**2)*(1 - v**2), (1 + u**2)*(1 + v**2))
+
+
+assert TEXT["000"][611 - 1].startswith("$$x(u, v) = (1 - u^2)(a(1 + v^2) - 2bv)")
+add("000-torus", "000", "section 24.2, tornet4, lines 62-64; polynomials section 24.5, line 611",
+    3, (2, 2), SYMM + SYMM, torus(2, 1, 1), braces("000", 62, 64), "affine", "printed",
+    note="a = 2, b = c = 1")
+add("000-torus-letters", "000", "section 24.2, tornet4 in letters, lines 54-56; polynomials section 24.5, line 611",
+    3, (2, 2), SYMM + SYMM, torus(7, 3, 5), in_letters("000", 54, 56, dict(a=7, b=3, c=5)), "affine", "printed",
+    note="the net is printed in the letters a, b, c; here a = 7, b = 3, c = 5")
+_sq = braces("000", 80, 82)
+assert _sq == braces("000", 1196, 1196)        # printed twice
+add("000-steiner-rect", "000", "section 24.2, sqstein3, lines 80-82, again Problem 16, line 1196",
+    3, (2, 2), SYMM + SYMM, _st, _sq, "affine", "named",
+    note="polynomials not printed; they are those of stein2 (line 1186)")
+_rt = braces("000", 1064, 1072)
+add("000-torus4", "000", "section 24.6, Problem 9, rtornet, lines 1061-1072; polynomials section 24.5, line 611",
+    3, (4, 4), SYMM + SYMM, torus(2, 1, 1), _rt, "affine", "printed", factor=Fr(4),
+    note="over the frame that the text says; a = 2, b = c = 1; the factor is that of 000-torus4-unit")
+add("000-torus4-unit", "000", "section 24.6, Problem 9, rtornet, lines 1061-1072; polynomials section 24.5, line 611",
+    3, (4, 4), UNIT + UNIT, torus(2, 1, 1), _rt, "affine", "printed",
+    note="the same net over the frame that it belongs to; a = 2, b = c = 1")
+
+
+def revolution(name, x, z, w):
+    """A surface of revolution by Problem 22 (i): x, z, w of the generating curve over
+    [0, 1], whose printed net has x and y; y is taken for z."""
+    b = next(n for n in NETS if n["label"] == "001-" + name)
+    assert b["frame"] == UNIT and all(p[3] for p in b["rows"])         # points, no control vectors
+    points = [(p[0], p[1], p[3]) for p in b["rows"]]                   # times the weight
+    rows = [(x_, Fr(0), z_, w_) for x_, z_, w_ in points]
+    rows += [(x_, x_, z_, w_) for x_, z_, w_ in points]
+    rows += [(Fr(0), 2*x_, 2*z_, 2*w_) for x_, z_, w_ in points]
+    add("000-revolution-" + name, "000", "section 24.6, Problem 22 (i), lines 1302-1312, of document 001's "
+        + b["place"], 3, (2,) + b["degrees"], UNIT + UNIT,
+        (x*(1 - u**2), x*2*u, z*(1 + u**2), w*(1 + u**2)), rows, "hat", "printed", source="rule",
+        note="the net of " + b["label"] + " by the problem's rule; the curve's y is the surface's z")
+
+
+revolution("circle", 1 - v**2, 2*v, 1 + v**2)
+revolution("ellipse", 2 - 2*v**2, 2*v, 1 + v**2)
+revolution("folium", 3*v, 3*v**2, 1 + v**3)
+revolution("lemniscate", v + v**3, v - v**3, 1 + v**4)
+revolution("rose3", v*(3 - v**2), v**2*(3 - v**2), (1 + v**2)**2)
+
 # ---- document 004 (Geometric invariants of parametric triangular quadric patches)
 # Example 2.  The paper says: patch of degree 2 on a quadric in canonical position,
 # case 5, elliptic paraboloid, weights all 1.  The corners (1,0), (0,1), (1,1) then
@@ -324,7 +390,7 @@ add("004-paraboloid-complement", "004", "section 5, Example 2, second input, lin
 def second(base, label, flips, sign, rule):
     b = next(n for n in NETS if n["label"] == base)
     rows = [tuple(sign(e) * c for c in p)
-            for e, p in zip(calc.entries(b["kind"], b["degree"]), b["rows"])]
+            for e, p in zip(calc.entries(b["kind"], b["degrees"]), b["rows"])]
     NETS.append(dict(b, label=label, rows=rows, moves=[FLIP[f] for f in flips],
                      place=b["place"] + "; signs by " + rule, note="", source="rule"))
 
@@ -340,6 +406,20 @@ for name in ("000-steiner1", "000-steiner2", "000-sphere"):
                "section 24.4 of document 000, lines 549-551")
     second(name, name + "-flip-rs", "rs", lambda e: (-1) ** (e[0] + e[1]),
            "section 24.4 of document 000, two vertices")
+# Lemma 24.2.2 has the signs (-1)^(p-i), (-1)^(q-j) and both: flips of r1 and r2.
+for name in ("000-torus", "000-torus-letters", "000-steiner-rect", "000-revolution-folium"):
+    p, q = next(n["degrees"] for n in NETS if n["label"] == name)
+    for flips, sign in (
+            (("r1",), lambda e, p=p: (-1) ** (p - e[0])),
+            (("r2",), lambda e, q=q: (-1) ** (q - e[1])),
+            (("r1", "r2"), lambda e, m=p + q: (-1) ** (m - e[0] - e[1]))):
+        second(name, name + "-flip-" + "".join(flips), flips, sign,
+               "Lemma 24.2.2 of document 000, lines 43-45")
+# Problem 9 has the signs (-1)^i, (-1)^j and both: flips of s1 and s2.
+for flips, sign in ((("s1",), lambda e: (-1) ** e[0]), (("s2",), lambda e: (-1) ** e[1]),
+                    (("s1", "s2"), lambda e: (-1) ** (e[0] + e[1]))):
+    second("000-torus4-unit", "000-torus4-unit-flip-" + "".join(flips), flips, sign,
+           "Problem 9 of document 000, line 1074")
 
 
 # ------------------------------------------------------------------ comparison
@@ -347,10 +427,10 @@ for name in ("000-steiner1", "000-steiner2", "000-sphere"):
 def ours(n):
     frame = n["frame"]
     for mv in n["moves"]:
-        k, frame = calc.judge_move(n["kind"], n["degree"], n["coeffs"], frame,
+        k, frame = calc.judge_move(n["kind"], n["degrees"], n["coeffs"], frame,
                                    mv[0], mv[1], mv[2:])
         assert k == 0
-    return calc.net(n["kind"], n["degree"], n["coeffs"], frame)
+    return calc.net(n["kind"], n["degrees"], n["coeffs"], frame)
 
 
 def cleared(rows):
@@ -367,9 +447,9 @@ def judge(n):
     d, ints = cleared(n["rows"])
     vs = n["vscale"] or (1,) * len(n["frame"])
     mult = []
-    for e in calc.entries(n["kind"], n["degree"]):
+    for e in calc.entries(n["kind"], n["degrees"]):
         x = 1
-        for c, s in zip(calc.copies(n["kind"], n["degree"], e), vs):
+        for c, s in zip(calc.copies(n["kind"], n["degrees"], e), vs):
             x *= s ** c
         mult.append(x)
     votes = {}
@@ -379,7 +459,7 @@ def judge(n):
                 f = Fr(p, q * x)
                 if f:
                     votes[f] = votes.get(f, 0) + 1
-    factor = max(votes, key=votes.get)
+    factor = n["factor"] or max(votes, key=votes.get)
     bad = []
     for i, (a, b, x) in enumerate(zip(mine, ints, mult)):
         for c in range(4):
@@ -391,9 +471,8 @@ def judge(n):
 
 def text(n, rows, atbits):
     """netprint's text from printed rows times the factor."""
-    ls = ["%s %d %d" % ("curve" if n["kind"] == 1 else "patch", n["degree"],
-                        calc.scale(n["kind"], n["degree"]))]
-    for e, p, x in zip(calc.entries(n["kind"], n["degree"]), rows, n["mult"]):
+    ls = [calc.first_line(n["kind"], n["degrees"])]
+    for e, p, x in zip(calc.entries(n["kind"], n["degrees"]), rows, n["mult"]):
         vals = [n["factor"] * c * x for c in p]
         assert all(Fr(y).denominator == 1 for y in vals), n["label"]
         ls.append(" ".join(str(int(y)) for y in tuple(e) + tuple(vals)))
@@ -416,15 +495,16 @@ HEADER = """\
 #                        expected-misprints/LABEL.txt what netprint prints for it
 #   chapter NAME         file of the chapter in shared/
 #   place TEXT           where in it; line numbers are those of that file
-#   source printed|rule  the net's numbers are printed, or are a printed first
-#                        net with the chapter's sign rule for second nets applied
+#   source printed|rule  the net's numbers are printed, or are a printed net with
+#                        the chapter's sign rule for second nets applied, or its
+#                        rule for surfaces of revolution
 #   polynomials printed|named|deduced
 #                        printed in that document; or only the surface is named
 #                        and another printed net shows them; or they follow from
 #                        what the document states (see `note`)
-#   kind curve|patch
-#   degree M
-#   frame N...           r, s (, t), each as T Z or U V Z
+#   kind curve|patch|rect
+#   degree M             or P Q
+#   frame N...           r, s (, t) or r1, s1, r2, s2, each as T Z or U V Z
 #   moves OP V A B C ... five numbers for each move of field 4 (operation,
 #                        vertex, three weights), in order; `moves none` if none
 #   point A B (C)        weights of field 5; only where the chapter prints a point
@@ -439,7 +519,8 @@ HEADER = """\
 #                        least whole number that makes all of them whole
 #   entries N            then N lines `e X Y Z W`: the PRINTED net times D, in
 #                        document 01's order (curve: j rising, as printed; patch:
-#                        i falling then j falling, the printed list from its end)
+#                        i falling then j falling, the printed list from its end;
+#                        rect: i rising then j rising, as printed)
 #   factor P/Q           with ours = document 01's scaled polar values:
 #                        Q x ours = P x printed, every entry and component; with
 #                        a vertex-scale line Q x ours = P x printed x A^a x B^b,
@@ -462,7 +543,7 @@ def main():
     out = [HEADER]
     for n in NETS:
         judge(n)
-        rec = calc.record(n["kind"], n["degree"], n["frame"], n["coeffs"],
+        rec = calc.record(n["kind"], n["degrees"], n["frame"], n["coeffs"],
                           n["moves"] or None, n["point"])
         with open(os.path.join(HERE, "records", n["label"] + ".hex"), "w") as f:
             f.write(calc.hexlines(rec))
@@ -478,8 +559,8 @@ def main():
             f.write(txt)
         b = ["net " + n["label"], "chapter " + FILES[n["ch"]], "place " + n["place"],
              "source " + n["source"], "polynomials " + n["evidence"],
-             "kind " + ("curve" if n["kind"] == 1 else "patch"),
-             "degree %d" % n["degree"],
+             "kind " + calc.WORD[n["kind"]],
+             "degree " + " ".join(str(m) for m in n["degrees"]),
              "frame " + " ".join(str(c) for p in n["frame"] for c in p),
              "moves " + (" ".join(str(c) for mv in n["moves"] for c in mv)
                          if n["moves"] else "none")]

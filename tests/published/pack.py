@@ -24,7 +24,7 @@ import sys
 from fractions import Fraction
 
 import calculator as calc
-from check import HERE, SAMPLES, blocks, hexbytes, load
+from check import HERE, SAMPLES, blocks, hexbytes, load, shape
 
 CRATE = os.path.join(HERE, "..", "..", "crates", "vectors")
 MOST = 4096          # the program's buffers for a record and for a text
@@ -45,10 +45,10 @@ def published():
 def as_printed(b):
     """The text with the printed net, numbers times the factor, as if it were right."""
     assert b["moves"] == "none" and "point" not in b and "vertex-scale" not in b
-    kind, m = (1 if b["kind"] == "curve" else 2), int(b["degree"])
+    kind, degrees = shape(b)
     factor = Fraction(b["factor"])
-    text = "%s %d %d\n" % (b["kind"], m, calc.scale(kind, m))
-    for e, numbers in zip(calc.entries(kind, m), b["e"]):
+    text = calc.first_line(kind, degrees) + "\n"
+    for e, numbers in zip(calc.entries(kind, degrees), b["e"]):
         row = [factor * n for n in numbers]
         assert all(v.denominator == 1 for v in row)
         text += " ".join(str(v) for v in tuple(e) + tuple(row)) + "\n"

@@ -27,25 +27,25 @@ BEYOND = [
 
 def samples():
     out = []
-    rec = calc.record(2, 8, FRAME, [(0, 0, a, 0) for a in EDGE])
+    rec = calc.record(2, (8,), FRAME, [(0, 0, a, 0) for a in EDGE])
     text = "patch 8 1680\n"
-    for e, p in zip(calc.entries(2, 8), calc.net(2, 8, [(0, 0, a, 0) for a in EDGE], FRAME)):
+    for e, p in zip(calc.entries(2, (8,)), calc.net(2, (8,), [(0, 0, a, 0) for a in EDGE], FRAME)):
         text += " ".join(str(n) for n in e + p) + "\n"
     assert "4 2 2 0 0 281474976710656 0\n" in text
     out.append((None, "The exact edge of refusal 7 (see edge_samples.py)", None, None))
     out.append(("r7-edge-passes", "patch of degree 8, z of entry 4 2 2 is 2 to the 48th exactly: passes",
                 rec, text))
-    rec = calc.record(2, 8, FRAME, [(0, 0, a, 0) for a in BEYOND])
+    rec = calc.record(2, (8,), FRAME, [(0, 0, a, 0) for a in BEYOND])
     out.append(("r7-edge-beyond", "the same with 2^48 + 4 there, the next value it can take: refused",
                 rec, "refused 7 at 26\n"))
     less = "patch 8 1680\n"
     for line in text.split("\n")[1:-1]:
         i, j, k, x, y, z, w = line.split()
         less += " ".join((i, j, k, x, y, str(-int(z)), w)) + "\n"
-    rec = calc.record(2, 8, FRAME, [(0, 0, -a, 0) for a in EDGE])
+    rec = calc.record(2, (8,), FRAME, [(0, 0, -a, 0) for a in EDGE])
     out.append(("r7-edge-negative-passes", "z of entry 4 2 2 is minus 2 to the 48th exactly: passes",
                 rec, less))
-    rec = calc.record(2, 8, FRAME, [(0, 0, -a, 0) for a in BEYOND])
+    rec = calc.record(2, (8,), FRAME, [(0, 0, -a, 0) for a in BEYOND])
     out.append(("r7-edge-negative-beyond", "the same with minus 2^48 - 4 there: refused",
                 rec, "refused 7 at 26\n"))
     return out

@@ -2,8 +2,9 @@
 """Writes this folder: NAME.hex (the record), NAME.txt (netprint's text), INDEX.
 
 The expected texts are written out here by hand from document 01, and from request
-E2 for the length of a direction; the calculator is only asked afterwards whether it
-agrees, and a disagreement stops the run.
+E2 for the length of a direction; those of rectangular patches (request E3) are in
+rect_samples.py.  The calculator is only asked afterwards whether it agrees, and a
+disagreement stops the run.
 """
 import math
 import os
@@ -14,32 +15,10 @@ OUT = os.path.dirname(os.path.abspath(__file__))
 sys.path.insert(0, os.path.join(OUT, "..", "published"))
 import calculator as calc
 import edge_samples
+import rect_samples
+from fields import FLP, REPL, f1, f2, f3, f4, f5, field
 
 ALL = []
-
-
-def field(tag, value, length=None):
-    return struct.pack(">BH", tag, len(value) if length is None else length) + value
-
-
-def f1(kind, degree):
-    return field(1, bytes([kind, degree]))
-
-
-def f2(*n):
-    return field(2, b"".join(struct.pack(">h", c) for c in n))
-
-
-def f3(*rows):
-    return field(3, b"".join(struct.pack(">i", c) for r in rows for c in r))
-
-
-def f4(*moves):
-    return field(4, b"".join(struct.pack(">BBhhh", *m) for m in moves))
-
-
-def f5(*w):
-    return field(5, b"".join(struct.pack(">h", c) for c in w))
 
 
 def group(title):
@@ -71,8 +50,6 @@ assert (len(P1), len(P2), len(P3)) == (5, 21, 99)
 PNET = ("2 0 0 2 0 0 2\n1 1 0 1 1 1 2\n1 0 1 1 0 0 2\n"
         "0 2 0 0 2 0 2\n0 1 1 0 1 0 2\n0 0 2 0 0 0 2\n")
 PHEAD = "patch 2 2\n"
-
-REPL, FLP = 1, 2
 
 # ------------------------------------------------------------------------------
 group("Document 01's own samples")
@@ -174,14 +151,17 @@ S("r2-after-1017", None, "refused 2 at 1017\n",
 group("Refusal 3: a wrong length for the tag")
 S("r3-field1-0", field(1, b"") + C2 + C3, "refused 3 at 0\n", "field 1 of length 0")
 S("r3-field1-1", field(1, b"\x01") + C2 + C3, "refused 3 at 0\n", "field 1 of length 1")
-S("r3-field1-3", field(1, b"\x01\x02\x02") + C2 + C3, "refused 3 at 0\n",
-  "field 1 of length 3 (request E3 will change this one)")
+S("r3-field1-4", field(1, b"\x01\x02\x00\x00") + C2 + C3, "refused 3 at 0\n", "field 1 of length 4")
 S("r3-field1-short", b"\x01\x00\x05\x01", "refused 3 at 0\n",
   "field 1 of length 5 and cut short: length is tested before value present")
 S("r3-field1-big-endian", b"\x01\x02\x00\x01\x02" + C2 + C3, "refused 3 at 0\n",
   "length bytes 02 00 are 512, not 2")
 S("r3-field2-patch-length", C1 + P2 + C3, "refused 3 at 5\n", "curve with a patch's frame, 18")
 S("r3-field2-curve-length", P1 + C2 + P3, "refused 3 at 5\n", "patch with a curve's frame, 8")
+S("r3-field2-curve-16", C1 + field(2, b"\0" * 16) + C3, "refused 3 at 5\n",
+  "curve with a rectangular patch's frame, 16")
+S("r3-field2-patch-16", P1 + field(2, b"\0" * 16) + P3, "refused 3 at 5\n",
+  "patch with a rectangular patch's frame, 16")
 S("r3-field2-7", C1 + field(2, b"\0" * 7) + C3, "refused 3 at 5\n", "frame of length 7")
 S("r3-field2-9", C1 + field(2, b"\0" * 9) + C3, "refused 3 at 5\n", "frame of length 9")
 S("r3-field2-patch-17", P1 + field(2, b"\0" * 17) + P3, "refused 3 at 5\n", "patch, frame of length 17")
@@ -213,6 +193,8 @@ S("r3-field4-264-short", C + field(4, b"", 264), "refused 3 at 67\n",
   "33 moves claimed, none there: 3 before 1")
 S("r3-field5-6", C + f5(1, 1, 0), "refused 3 at 67\n", "curve with a patch's point")
 S("r3-field5-4", P + f5(1, 1), "refused 3 at 125\n", "patch with a curve's point")
+S("r3-field5-8", C + f5(1, 1, 0, 0), "refused 3 at 67\n", "curve with a rectangular patch's point")
+S("r3-field5-patch-8", P + f5(1, 1, 1, 0), "refused 3 at 125\n", "patch with a rectangular patch's point")
 S("r3-field5-0", C + field(5, b""), "refused 3 at 67\n", "point of length 0")
 S("r3-field5-3", C + field(5, b"\0" * 3), "refused 3 at 67\n", "point of length 3")
 S("r3-field5-5", C + field(5, b"\0" * 5), "refused 3 at 67\n", "point of length 5")
@@ -222,7 +204,11 @@ S("r3-field5-patch-7", P + field(5, b"\0" * 7), "refused 3 at 125\n", "patch, po
 # ------------------------------------------------------------------------------
 group("Refusal 4: kind or degree outside")
 S("r4-kind-0", f1(0, 2) + C2 + C3, "refused 4 at 0\n", "kind 0")
-S("r4-kind-3", f1(3, 2) + C2 + C3, "refused 4 at 0\n", "kind 3 with length 2 (E3 keeps this 4)")
+S("r4-kind-3", f1(3, 2) + C2 + C3, "refused 4 at 0\n", "kind 3 with length 2: it has two degrees")
+S("r4-field1-3", f1(1, 2, 2) + C2 + C3, "refused 4 at 0\n", "curve in three bytes, a second degree")
+S("r4-field1-3-zero", f1(1, 2, 0) + C2 + C3, "refused 4 at 0\n", "curve in three bytes, the third 0")
+S("r4-field1-3-patch", f1(2, 2, 2) + P2 + P3, "refused 4 at 0\n", "patch in three bytes, a second degree")
+S("r4-field1-3-patch-zero", f1(2, 2, 0) + P2 + P3, "refused 4 at 0\n", "patch in three bytes, the third 0")
 S("r4-kind-255", f1(255, 2) + C2 + C3, "refused 4 at 0\n", "kind 255")
 S("r4-curve-0", f1(1, 0) + C2 + C3, "refused 4 at 0\n", "curve of degree 0")
 S("r4-curve-11", f1(1, 11) + C2 + C3, "refused 4 at 0\n", "curve of degree 11")
@@ -326,6 +312,8 @@ moves("m8-operation-255", (255, 1, 0, 0, 0), 8, "operation 255")
 moves("m8-vertex-0", (REPL, 0, 1, 1, 0), 8, "vertex 0")
 moves("m8-vertex-3-curve", (REPL, 3, 1, 1, 1), 8, "vertex 3 of a curve")
 moves("m8-flip-vertex-3-curve", (FLP, 3, 0, 0, 0), 8, "flip of vertex 3 of a curve")
+moves("m8-vertex-4-curve", (REPL, 4, 1, 1, 0), 8, "vertex 4 of a curve")
+moves("m8-flip-vertex-4-curve", (FLP, 4, 0, 0, 0), 8, "flip of vertex 4 of a curve")
 moves("m8-flip-vertex-0", (FLP, 0, 0, 0, 0), 8, "flip of vertex 0")
 moves("m8-vertex-4-patch", (REPL, 4, 1, 1, 1), 8, "vertex 4 of a patch", P, PHEAD, PNET)
 moves("m8-flip-vertex-4-patch", (FLP, 4, 0, 0, 0), 8, "flip of vertex 4 of a patch", P, PHEAD, PNET)
@@ -690,7 +678,8 @@ S("len-widest", f1(1, 1) + f2(1, 0, 0, 1) + f3((-1, 1, 2, 0), (1048576, -1048576
 
 
 def main():
-    for s in edge_samples.samples():
+    for s in edge_samples.samples() + rect_samples.samples():
+        assert s[0] is None or all(a[0] != s[0] for a in ALL), s[0]
         ALL.append(s)
     for f in os.listdir(OUT):
         if f.endswith((".hex", ".txt")):
@@ -699,9 +688,10 @@ def main():
              "# file is an empty record), NAME.txt what netprint prints for it, whole.",
              "# One line each: NAME, bytes of the record, its first refusal or else its first",
              "# line of text, comment.  Texts were written by hand from document 01, those of a",
-             "# direction from request E2 too, the longer ones by a rule that stands beside them in",
-             "# make_samples.py (scale-*: L divided by the multinomial), and then compared with",
-             "# calculator.py (r7-edge-passes: 44 numbers from calculator.py).",
+             "# direction from request E2 too and those of rectangular patches from E3, the longer ones",
+             "# by a rule that stands beside them in make_samples.py or rect_samples.py (scale-*: L",
+             "# divided by the multinomial), and then compared with calculator.py (r7-edge-passes: 44",
+             "# numbers from calculator.py).",
              "# Which refusal wins where several hold: the earlier field's; within a field a cut",
              "# header (1), then tag (2), length (3), a cut value (1), what the value says (4, 5,",
              "# 6); only then a missing field (2, at the length) and 7.  Calls: 8, 9, 10."]

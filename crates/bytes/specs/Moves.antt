@@ -12,8 +12,8 @@ use Rattle.bytes.specs.Numbers.{item, numberAt}
 use Rattle.bytes.specs.declared.Move.{Move}
 use Rattle.bytes.specs.declared.Move.the-variants.{Proper, Improper}
 
--- the weights α, β and a patch's γ where the part begins with them: a weight whose two bytes the part does not have is 0. A move has six bytes of weights and a
--- point of a curve or patch four or six, so that the fourth weight is 0 in every record.
+-- The weights, where the part begins with them: one whose two bytes the part does not have is 0. A point has as many weights as its kind has vertices, and a move
+-- has three, so that the fourth weight of a move is 0.
 unfoldable pub weightsOf : List ℕ → Weights
 unfolding numberAt
 weightsOf part = record { r = numberAt 2 part 0; s = numberAt 2 part 1; t = numberAt 2 part 2; u = numberAt 2 part 3 }

@@ -34,7 +34,7 @@ numberAt n part k = signedOf (item n part k)
 unfoldable pub numbersTo : ℕ → (ℕ → ℤ) → List ℤ
 numbersTo n f = map f (upto n)
 
--- the numbers of a frame, vertex by vertex, where the part begins with field 2's value: nine places, of which a curve's frame takes four
+-- the numbers of a frame, vertex by vertex, where the part begins with field 2's value: nine places, of which a curve takes four and a rectangular patch eight
 unfoldable pub frameNumbers : List ℕ → List ℤ
 unfolding numbersTo numberAt
 frameNumbers part = numbersTo 9 (numberAt 2 part)

@@ -22,7 +22,7 @@ ghost use Rattle.bytes.specs.Parts.{Lies, toEnd, itemPlace};
 ghost use Rattle.bytes.specs.Moves.{weightsOf, proper, moveAt, callAt, callOf};
 use machine::Weights;
 
-// A move of a record, decoded. It is proper where its operation is 1 or 2 and its vertex 1, 2 or 3: no
+// A move of a record, decoded. It is proper where its operation is 1 or 2 and its vertex 1, 2, 3 or 4: no
 // kind takes another one. A proper move is judged when it is made, like any call.
 pub enum Move {
     Proper {
@@ -215,8 +215,8 @@ pub fn coefficients_within(part: &[u8], count: usize, limit: usize) -> bool
 // ---- moves and points
 
 // The weights, where the part begins with them: field 5's value, or a move after its first two bytes.
-// A weight whose two bytes the part does not have is 0: the third of a curve's point, and the fourth of
-// every move.
+// A weight whose two bytes the part does not have is 0: the third and fourth of a curve's point, the
+// fourth of a patch's, and that of every move.
 pub fn point_weights(part: &[u8]) -> Weights
     ensures { λ r. ⌜ r ≡ weightsOf (now (part .entry)) ⌝ }
 {
@@ -235,7 +235,7 @@ fn is_proper(operation: u8, vertex: u8) -> bool
     if vertex < 1 {
         return false;
     }
-    if 3 < vertex {
+    if 4 < vertex {
         return false;
     }
     if operation == 1 {

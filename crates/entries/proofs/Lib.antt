@@ -7,3 +7,4 @@ pub mod Renamed
 pub mod Groups
 pub mod ListedOver
 pub mod Lengths
+pub mod FirstGroup

@@ -1,31 +1,55 @@
--- Demand 3 carried to the exported calls: an opened record's first net is in the places, so that machine's theorem on lent places speaks of them.
-use mathlib.Core.Path.{_≡_, ap, _∙_}
+-- Demand 3 carried to the exported calls: a first net is in the places, that of an opened record or of polynomials over a frame, so that machine's theorem on lent places speaks of them.
+use mathlib.Core.Path.{_≡_, refl, ap, _∙_}
 use mathlib.Core.Bool.{true}
-use mathlib.Core.List.{map}
+use mathlib.Core.List.{List, _∷_, map}
 use borrow.Author.Tests.{le-leb}
-use lib.ListN.{length}
-use Rattle.machine.specs.Lent.{put, unlessRefused}
+use lib.Dec.{leb}
+use lib.IntN.{ℤ}
+use lib.ListN.{length, take}
+use Rattle.machine.specs.Refusals.{_else_}
+use Rattle.machine.specs.Comparison.{Polynomials}
+use Rattle.machine.specs.First.{firstNet, firstTests, firstRefusal}
+use Rattle.machine.specs.Lent.{put, wide, unlessRefused, polynomialsFrom, madeNumber, madePlaces}
 use Rattle.machine.specs.Carried.{lentStep}
+use Rattle.machine.proofs.Refusals.{none-failed, row-passes, rest-passes}
 use Rattle.machine.proofs.Lent.{point-stands}
 use Rattle.machine.proofs.Carried.{found-projection, expected-by, carried, carried-further}
 use Rattle.opening.specs.Opening.{polynomialsIn, numbersIn, firstNetFrom, placesIn}
 use Rattle.opening.proofs.Records.{opened-none, accepted-numbers}
-use Rattle.gadwemosh.specs.Calls.{threeWeights}
+use Rattle.gadwemosh.specs.Calls.{weightsOf}
 use Rattle.gadwemosh.specs.Projections.{projectionReturned}
-use Rattle.gadwemosh.specs.Demand3.{Exported, lentCall, placesAfter, Demand3Exported}
+use Rattle.gadwemosh.specs.Demand3.{Exported, lentCall, placesAfter, ExportedGuaranteed, Demand3Exported}
+
+-- from any first net that was put into the places
+module _ (f : Polynomials) (numbers lent places : List ℤ) (ok : firstRefusal f numbers ≡ 0) (enough : wide lent ≡ true) (is : places ≡ put (firstNet f numbers) lent)
+    (calls : List Exported) where
+  exported : ExportedGuaranteed f numbers lent places calls
+  unfolding lentStep
+  exported =
+      let further = carried-further f numbers lent places ok enough is (map lentCall calls) in
+      record {
+        guaranteed = carried f numbers lent places ok enough is (map lentCall calls);
+        standing = λ r s t u found. point-stands (weightsOf r s t u) (placesAfter f numbers lent places calls) found;
+        projected = λ r s t u found bits direction answered enough.
+            let c = lentCall (Exported.point r s t u found) in
+            ap (λ p. projectionReturned p bits direction)
+            (found-projection _ (c .call) _ (ap (λ r. r .answer) (further c ∙ expected-by c _ true (le-leb 4 (length found) enough)) ∙ answered));
+      }
 
 pub demand-3-exported : Demand3Exported
-unfolding placesIn lentStep
-demand-3-exported input lent none calls =
-    let parts = opened-none input lent none in
-    let ok = accepted-numbers input (parts .1) in
-    let is : placesIn input lent ≡ put (firstNetFrom input) lent = ap (λ k. unlessRefused k (put (firstNetFrom input) lent) lent) none in
-    let further = carried-further (polynomialsIn input) (numbersIn input) lent (placesIn input lent) ok (parts .0) is (map lentCall calls) in
+unfolding placesIn madeNumber madePlaces firstRefusal firstTests
+demand-3-exported =
     record {
-      guaranteed = carried (polynomialsIn input) (numbersIn input) lent (placesIn input lent) ok (parts .0) is (map lentCall calls);
-      standing = λ r s t found. point-stands (threeWeights r s t) (placesAfter input lent calls) found;
-      projected = λ r s t found bits direction answered enough.
-          let c = lentCall (Exported.point r s t found) in
-          ap (λ p. projectionReturned p bits direction)
-          (found-projection _ (c .call) _ (ap (λ r. r .answer) (further c ∙ expected-by c _ true (le-leb 4 (length found) enough)) ∙ answered));
+      opened = λ input lent none.
+          let parts = opened-none input lent none in
+          exported (polynomialsIn input) (numbersIn input) lent (placesIn input lent) (accepted-numbers input (parts .1)) (parts .0)
+          (ap (λ k. unlessRefused k (put (firstNetFrom input) lent) lent) none);
+      made = λ kind degree second frame coefficients lent none.
+          let f = polynomialsFrom kind degree second coefficients in
+          let numbers = take 9 frame in
+          let tests = leb 9 (length frame) else 11 ∷ leb 180 (length coefficients) else 11 ∷ wide lent else 11 ∷ firstTests f numbers in
+          let passed = none-failed tests refl .0 none in
+          exported f numbers lent (madePlaces kind degree second frame coefficients lent)
+          (none-failed (firstTests f numbers) refl .1 (rest-passes tests passed 3)) (row-passes tests passed 2)
+          (ap (λ k. unlessRefused k (put (firstNet f numbers) lent) lent) none);
     }

@@ -11,12 +11,12 @@ use mir.Syntax.{w64}
 use mir.Val.{SFits}
 use Rattle.integers.proofs.Signed.{seen, back-fits}
 use Rattle.projection.specs.declared.Projection.{Projection}
-use Rattle.gadwemosh.specs.Calls.{threeWeights}
+use Rattle.gadwemosh.specs.Calls.{weightsOf}
 use Rattle.gadwemosh.specs.Projections.{ProjectionReturned, told, untold, projectionReturned}
 
--- three weights as they are handed on
-pub weights-back : {r s t : ℤ} → SFits w64 r → SFits w64 s → SFits w64 t → threeWeights (seen r) (seen s) (seen t) ≡ threeWeights r s t
-weights-back r s t = λ i. threeWeights (back-fits r i) (back-fits s i) (back-fits t i)
+-- four weights as they are handed on
+pub weights-back : {r s t u : ℤ} → SFits w64 r → SFits w64 s → SFits w64 t → SFits w64 u → weightsOf (seen r) (seen s) (seen t) (seen u) ≡ weightsOf r s t u
+weights-back r s t u = λ i. weightsOf (back-fits r i) (back-fits s i) (back-fits t i) (back-fits u i)
 
 -- ---- what comes back from a projection
 

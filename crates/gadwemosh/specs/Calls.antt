@@ -1,15 +1,15 @@
--- The calls that the exported functions make, by their arguments. They take three weights; the fourth, which only the point of a rectangular patch has, is 0.
+-- The calls that the exported functions make, by their arguments: four weights each, of which kind and call leave some unused.
 use Prim.Native.Nat.{ℕ}
-use lib.IntN.{ℤ, pos}
+use lib.IntN.{ℤ}
 use Rattle.machine.specs.declared.Weights.{Weights}
 use Rattle.machine.specs.declared.Call.{Call}
 use Rattle.machine.specs.declared.Call.the-variants.{Move, Point}
 
-abbrev pub threeWeights : ℤ → ℤ → ℤ → Weights
-threeWeights r s t = record { r = r; s = s; t = t; u = pos 0 }
+abbrev pub weightsOf : ℤ → ℤ → ℤ → ℤ → Weights
+weightsOf r s t u = record { r = r; s = s; t = t; u = u }
 
-abbrev pub moveCall : ℕ → ℕ → ℤ → ℤ → ℤ → Call
-moveCall operation vertex r s t = Move operation vertex (threeWeights r s t)
+abbrev pub moveCall : ℕ → ℕ → ℤ → ℤ → ℤ → ℤ → Call
+moveCall operation vertex r s t u = Move operation vertex (weightsOf r s t u)
 
-abbrev pub pointCall : ℤ → ℤ → ℤ → Call
-pointCall r s t = Point (threeWeights r s t)
+abbrev pub pointCall : ℤ → ℤ → ℤ → ℤ → Call
+pointCall r s t u = Point (weightsOf r s t u)

@@ -60,19 +60,21 @@ pub extern "C" fn gadwemosh_field(input: &[u8], tag: u8, start: &mut u64, length
 }
 
 // Makes the first net of polynomials over a frame, without a record: nine numbers of a frame, of which a
-// curve takes four, and 180 coefficients, of which the kind and degree take the first ones.
+// curve takes four and a rectangular patch eight, and 180 coefficients, of which kind and degrees take the
+// first ones. Only a rectangular patch has a second degree; that of the others is 0.
 #[no_mangle]
 pub extern "C" fn gadwemosh_first(
     kind: u8,
     degree: u8,
+    second: u8,
     frame: &[i64],
     coefficients: &[i64],
     net: &mut [i64],
 ) -> u8
-    ensures number { λ b. ⌜ b ≡ madeNumber kind degree 0 (now (frame .entry)) (now (coefficients .entry)) (now (net .entry)) ⌝ }
-    ensures net { λ _. ⌜ now (net .exit) ≡ madePlaces kind degree 0 (now (frame .entry)) (now (coefficients .entry)) (now (net .entry)) ⌝ }
+    ensures number { λ b. ⌜ b ≡ madeNumber kind degree second (now (frame .entry)) (now (coefficients .entry)) (now (net .entry)) ⌝ }
+    ensures net { λ _. ⌜ now (net .exit) ≡ madePlaces kind degree second (now (frame .entry)) (now (coefficients .entry)) (now (net .entry)) ⌝ }
 {
-    first_net(net, kind, degree, 0, frame, coefficients)
+    first_net(net, kind, degree, second, frame, coefficients)
 }
 
 // Makes a move on a lent net; a refused one leaves every place as it was.
@@ -84,20 +86,28 @@ pub extern "C" fn gadwemosh_move(
     r: i64,
     s: i64,
     t: i64,
+    u: i64,
 ) -> u8
-    ensures number { λ b. ⌜ b ≡ callNumber (moveCall operation vertex r s t) (now (net .entry)) [] ⌝ }
-    ensures net { λ _. ⌜ now (net .exit) ≡ callPlaces (moveCall operation vertex r s t) (now (net .entry)) [] ⌝ }
+    ensures number { λ b. ⌜ b ≡ callNumber (moveCall operation vertex r s t u) (now (net .entry)) [] ⌝ }
+    ensures net { λ _. ⌜ now (net .exit) ≡ callPlaces (moveCall operation vertex r s t u) (now (net .entry)) [] ⌝ }
 {
-    take_move(net, operation, vertex, Weights { r, s, t, u: 0 })
+    take_move(net, operation, vertex, Weights { r, s, t, u })
 }
 
 // Finds a point on a lent net: x, y, z and w go into the first four places of `found`.
 #[no_mangle]
-pub extern "C" fn gadwemosh_point(net: &[i64], r: i64, s: i64, t: i64, found: &mut [i64]) -> u8
-    ensures number { λ b. ⌜ b ≡ callNumber (pointCall r s t) (now (net .entry)) (now (found .entry)) ⌝ }
-    ensures found { λ _. ⌜ now (found .exit) ≡ callFound (pointCall r s t) (now (net .entry)) (now (found .entry)) ⌝ }
+pub extern "C" fn gadwemosh_point(
+    net: &[i64],
+    r: i64,
+    s: i64,
+    t: i64,
+    u: i64,
+    found: &mut [i64],
+) -> u8
+    ensures number { λ b. ⌜ b ≡ callNumber (pointCall r s t u) (now (net .entry)) (now (found .entry)) ⌝ }
+    ensures found { λ _. ⌜ now (found .exit) ≡ callFound (pointCall r s t u) (now (net .entry)) (now (found .entry)) ⌝ }
 {
-    find_point(net, Weights { r, s, t, u: 0 }, found)
+    find_point(net, Weights { r, s, t, u }, found)
 }
 
 // Projects four numbers: `outcome` is 1 for a finite point, whose three bit patterns go into `bits`, 2 for a

@@ -88,3 +88,11 @@ all-first test zero xs h i b l = absurd (not-suc-le-zero b)
 all-first test (suc n) [] h i b l = absurd (not-suc-le-zero l)
 all-first test (suc n) (x ∷ xs) h zero b l = and-parts (test x) (all test (take n xs)) h .0
 all-first test (suc n) (x ∷ xs) h (suc i) b l = all-first test n xs (and-parts (test x) (all test (take n xs)) h .1) i (le-of-suc-le-suc b) (le-of-suc-le-suc l)
+
+-- where a member fails, not all pass
+pub one-fails : {A : Type 0} (test : A → Bool) (xs : List A) (x : A) → List·Memᴰ x xs → test x ≡ false → all test xs ≡ false
+one-fails test xs x m e = by (all test xs) refl
+  where
+    by : (b : Bool) → all test xs ≡ b → all test xs ≡ false
+    by true p = absurd (clash (all-at test xs p x m) e)
+    by false p = p

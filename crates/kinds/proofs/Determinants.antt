@@ -8,7 +8,7 @@ use mathlib.Core.Bool.{Bool, true, false, _&&_, not}
 use mathlib.Core.List.{List, [], _∷_}
 use lib.Dec.{eqb, lit≤}
 use lib.IntN.{ℤ, pos, negℤ, natAbs, _+ℤ_, _-ℤ_, _*ℤ_}
-use lib.ListN.{length, getD, take}
+use lib.ListN.{length, getD, take, drop}
 use lib.Signed.{mag}
 use borrow.Author.Needs.{sfits-of}
 use borrow.Author.Tests.{leb-true}
@@ -21,9 +21,9 @@ use Rattle.integers.proofs.Ring.{ring, ring-rules}
 use Rattle.integers.proofs.Signed.{seen, fits-abs, back, back-fits, abs-*-le, abs-+-le}
 use Rattle.projection.specs.Projection.{isZero}
 use Rattle.projection.proofs.Signed.{zero-bits}
-use Rattle.kinds.specs.Kinds.{groupsOf, dimensionOf}
-use Rattle.kinds.specs.Frames.{frameOf, determinant, frameAllowed, framesAllowed, frameCount}
-use Rattle.kinds.proofs.Limits.{by-kind}
+use Rattle.kinds.specs.Kinds.{groupsOf, dimensionOf, laterGroups, laterDimension}
+use Rattle.kinds.specs.Frames.{frameOf, determinant, frameAllowed, framesAllowed}
+use Rattle.kinds.proofs.Limits.{by-kind, later-none, later-one}
 
 -- ---- sizes, where the numbers of a row are at most 4 and what they are multiplied by at most X
 
@@ -156,9 +156,11 @@ module _ (a b c d e f g h i : ℤ) (low : AllLow a b c d e f g h i) where
 abbrev pub FrameLow : ℕ → List ℤ → Type 0
 FrameLow n numbers = all (within 4) (take (suc n * suc n) numbers) ≡ true
 
-module _ (n : ℕ) (numbers : List ℤ) (long : length numbers ≡ 9) (k : ℕ) (e : n ≡ k) (few : suc k * suc k ≤ 9) (pre : FrameLow n numbers) where
+module _ (n : ℕ) (numbers : List ℤ) (long : suc n * suc n ≤ length numbers) (k : ℕ) (e : n ≡ k) (pre : FrameLow n numbers) where
   number-low : (i : ℕ) → i < suc k * suc k → Low (at numbers i)
-  number-low i b = leb-true (natAbs (at numbers i)) 4 (all-first (within 4) (suc k * suc k) numbers (subst (λ j. FrameLow j numbers) e pre) i b (omega arith))
+  number-low i b =
+      leb-true (natAbs (at numbers i)) 4
+      (all-first (within 4) (suc k * suc k) numbers (subst (λ j. FrameLow j numbers) e pre) i b (le-trans b (subst (λ j. suc j * suc j ≤ length numbers) e long)))
 
   -- a number of the frame as it is handed on
   number-seen : (i : ℕ) → i < suc k * suc k → Low (seen (at numbers i))
@@ -171,7 +173,7 @@ module _ (n : ℕ) (numbers : List ℤ) (long : length numbers ≡ 9) (k : ℕ) 
   for-dimension : {v : ℤ} → v ≡ determinant (suc k) (frameOf (suc k) numbers) → v ≡ determinant (suc n) (frameOf (suc n) numbers)
   for-dimension {v} h = subst (λ j. v ≡ determinant (suc j) (frameOf (suc j) numbers)) (sym e) h
 
-module _ (n : ℕ) (numbers : List ℤ) (long : length numbers ≡ 9) (pre : FrameLow n numbers) where
+module _ (n : ℕ) (numbers : List ℤ) (long : suc n * suc n ≤ length numbers) (pre : FrameLow n numbers) where
   abbrev handed : ℕ → ℤ
   handed i = seen (at numbers i)
 
@@ -180,18 +182,18 @@ module _ (n : ℕ) (numbers : List ℤ) (long : length numbers ≡ 9) (pre : Fra
     two-asks = (low 0 (omega arith), low 1 (omega arith), low 2 (omega arith), low 3 (omega arith))
       where
         low : (i : ℕ) → i < 4 → Low (handed i)
-        low = number-seen n numbers long 1 e (lit≤ tt) pre
+        low = number-seen n numbers long 1 e pre
 
     pub two-determinant : (r : ℤ) → mag r < 2 ^ 63 → r ≡ ofTwo (handed 0) (handed 1) (handed 2) (handed 3) → seen r ≡ determinant (suc n) (frameOf (suc n) numbers)
     two-determinant r small is =
-        for-dimension n numbers long 1 e (lit≤ tt) pre
+        for-dimension n numbers long 1 e pre
         (back-fits {z = r} (sfits-of small)
         ∙ is
         ∙ (λ j. ofTwo (read 0 (omega arith) j) (read 1 (omega arith) j) (read 2 (omega arith) j) (read 3 (omega arith) j))
         ∙ frame-two numbers)
       where
         read : (i : ℕ) → i < 4 → handed i ≡ at numbers i
-        read = number-read n numbers long 1 e (lit≤ tt) pre
+        read = number-read n numbers long 1 e pre
 
   module _ (e : n ≡ 2) where
     pub frame-asks : AllLow (handed 0) (handed 1) (handed 2) (handed 3) (handed 4) (handed 5) (handed 6) (handed 7) (handed 8)
@@ -208,12 +210,12 @@ module _ (n : ℕ) (numbers : List ℤ) (long : length numbers ≡ 9) (pre : Fra
     )
       where
         low : (i : ℕ) → i < 9 → Low (handed i)
-        low = number-seen n numbers long 2 e (lit≤ tt) pre
+        low = number-seen n numbers long 2 e pre
 
     pub three-determinant : (r : ℤ) → mag r < 2 ^ 63 → r ≡ ofThree (handed 0) (handed 1) (handed 2) (handed 3) (handed 4) (handed 5) (handed 6) (handed 7) (handed 8)
         → seen r ≡ determinant (suc n) (frameOf (suc n) numbers)
     three-determinant r small is =
-        for-dimension n numbers long 2 e (lit≤ tt) pre
+        for-dimension n numbers long 2 e pre
         (back-fits {z = r} (sfits-of small)
         ∙ is
         ∙ (λ j.
@@ -230,51 +232,63 @@ module _ (n : ℕ) (numbers : List ℤ) (long : length numbers ≡ 9) (pre : Fra
         ∙ frame-three numbers)
       where
         read : (i : ℕ) → i < 9 → handed i ≡ at numbers i
-        read = number-read n numbers long 2 e (lit≤ tt) pre
+        read = number-read n numbers long 2 e pre
 
 -- ---- the tests of a frame
 
 module _ (n : ℕ) (numbers : List ℤ) where
   -- a number out of its limit
-  frame-out : all (within 4) (take (suc n * suc n) numbers) ≡ false → false ≡ frameAllowed (suc n) numbers
+  pub frame-out : all (within 4) (take (suc n * suc n) numbers) ≡ false → false ≡ frameAllowed (suc n) numbers
   unfolding frameAllowed
   frame-out h = sym (ap (λ b. b && not (isZero (determinant (suc n) (frameOf (suc n) numbers)))) h)
 
   -- none out of it: whether the determinant is 0, by its bits
-  frame-by : FrameLow n numbers → (r : ℤ) → mag r < 2 ^ 63 → r ≡ determinant (suc n) (frameOf (suc n) numbers) → not (eqb (ofZ w64 r) 0) ≡ frameAllowed (suc n) numbers
+  pub frame-by : FrameLow n numbers → (r : ℤ) → mag r < 2 ^ 63 → r ≡ determinant (suc n) (frameOf (suc n) numbers) → not (eqb (ofZ w64 r) 0) ≡ frameAllowed (suc n) numbers
   unfolding frameAllowed
   frame-by h r small is = ap not (zero-bits r (sfits-of small) ∙ ap isZero is) ∙ sym (ap (λ b. b && not (isZero (determinant (suc n) (frameOf (suc n) numbers)))) h)
 
--- a kind has one group or none
+-- ---- the groups of a kind
+
 module _ (kind p q : ℕ) (numbers : List ℤ) where
+  abbrev d : ℕ
+  d = suc (dimensionOf kind)
+
   -- no group: nothing to refuse
   pub no-frame : dimensionOf kind ≡ 0 → true ≡ framesAllowed (groupsOf kind p q) numbers
   unfolding framesAllowed
-  no-frame = by-kind (λ k. dimensionOf k ≡ 0 → true ≡ framesAllowed (groupsOf k p q) numbers) (λ e. refl) (λ e. absurd (not-zero 0 e)) (λ e. absurd (not-zero 1 e)) (λ k e. refl) kind
+  no-frame =
+      by-kind (λ k. dimensionOf k ≡ 0 → true ≡ framesAllowed (groupsOf k p q) numbers)
+      (λ e. refl) (λ e. absurd (not-zero 0 e)) (λ e. absurd (not-zero 1 e)) (λ e. absurd (not-zero 0 e)) (λ k e. refl) kind
     where
       not-zero : (j : ℕ) → suc j ≡ 0 → ⊥
       not-zero j e = omega arith
 
-  -- one group: its frame is judged
-  one-frame : (dimensionOf kind ≡ 0 → ⊥) → framesAllowed (groupsOf kind p q) numbers ≡ frameAllowed (suc (dimensionOf kind)) numbers
+  -- the first group's frame, and those of the groups after it
+  frames-part : (dimensionOf kind ≡ 0 → ⊥) → framesAllowed (groupsOf kind p q) numbers ≡ (frameAllowed d numbers && framesAllowed (laterGroups kind q) (drop (d * d) numbers))
   unfolding framesAllowed
-  one-frame =
-      by-kind (λ k. (dimensionOf k ≡ 0 → ⊥) → framesAllowed (groupsOf k p q) numbers ≡ frameAllowed (suc (dimensionOf k)) numbers) (λ never. absurd (never refl))
-      (λ never. and-one (frameAllowed 2 numbers)) (λ never. and-one (frameAllowed 3 numbers)) (λ k never. absurd (never refl)) kind
-
-  one-count : (dimensionOf kind ≡ 0 → ⊥) → frameCount (groupsOf kind p q) ≡ suc (dimensionOf kind) * suc (dimensionOf kind)
-  one-count =
-      by-kind (λ k. (dimensionOf k ≡ 0 → ⊥) → frameCount (groupsOf k p q) ≡ suc (dimensionOf k) * suc (dimensionOf k)) (λ never. absurd (never refl)) (λ never. refl) (λ never. refl)
-      (λ k never. absurd (never refl)) kind
+  frames-part =
+      by-kind
+      (λ k. (dimensionOf k ≡ 0 → ⊥)
+      → framesAllowed (groupsOf k p q) numbers
+      ≡ (frameAllowed (suc (dimensionOf k)) numbers && framesAllowed (laterGroups k q) (drop (suc (dimensionOf k) * suc (dimensionOf k)) numbers)))
+      (λ some. absurd (some refl)) (λ some. refl) (λ some. refl) (λ some. refl) (λ k some. absurd (some refl)) kind
 
   module _ (some : dimensionOf kind ≡ 0 → ⊥) where
-    -- what the test of the frame's numbers found
-    pub low-found : (b : Bool) → b ≡ all (within 4) (take (frameCount (groupsOf kind p q)) numbers) → all (within 4) (take (suc (dimensionOf kind) * suc (dimensionOf kind)) numbers) ≡ b
-    low-found b h = sym (h ∙ ap (λ k. all (within 4) (take k numbers)) (one-count some))
+    pub first-out : frameAllowed d numbers ≡ false → false ≡ framesAllowed (groupsOf kind p q) numbers
+    first-out h = sym (frames-part some ∙ ap (λ b. b && framesAllowed (laterGroups kind q) (drop (d * d) numbers)) h)
 
-    pub frames-out : all (within 4) (take (suc (dimensionOf kind) * suc (dimensionOf kind)) numbers) ≡ false → false ≡ framesAllowed (groupsOf kind p q) numbers
-    frames-out h = frame-out (dimensionOf kind) numbers h ∙ sym (one-frame some)
+    module _ (first : frameAllowed d numbers ≡ true) where
+      passed : framesAllowed (groupsOf kind p q) numbers ≡ framesAllowed (laterGroups kind q) (drop (d * d) numbers)
+      passed = frames-part some ∙ ap (λ b. b && framesAllowed (laterGroups kind q) (drop (d * d) numbers)) first
 
-    pub frames-by : FrameLow (dimensionOf kind) numbers → (r : ℤ) → mag r < 2 ^ 63 → r ≡ determinant (suc (dimensionOf kind)) (frameOf (suc (dimensionOf kind)) numbers)
-        → not (eqb (ofZ w64 r) 0) ≡ framesAllowed (groupsOf kind p q) numbers
-    frames-by h r small is = frame-by (dimensionOf kind) numbers h r small is ∙ sym (one-frame some)
+      pub no-other : laterDimension kind ≡ 0 → true ≡ framesAllowed (groupsOf kind p q) numbers
+      unfolding framesAllowed
+      no-other none = sym (passed ∙ ap (λ gs. framesAllowed gs (drop (d * d) numbers)) (later-none kind q none))
+
+      pub other-by : (laterDimension kind ≡ 0 → ⊥) → frameAllowed (suc (laterDimension kind)) (drop (d * d) numbers) ≡ framesAllowed (groupsOf kind p q) numbers
+      unfolding framesAllowed
+      other-by more =
+          sym
+          (passed
+          ∙ ap (λ gs. framesAllowed gs (drop (d * d) numbers)) (later-one kind q more)
+          ∙ and-one (frameAllowed (suc (laterDimension kind)) (drop (d * d) numbers)))

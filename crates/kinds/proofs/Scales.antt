@@ -1,6 +1,6 @@
 -- The scales are read off two rows, and the rows are right. One test over both rows is computed: each number is the least common multiple of its multinomials. `over-rows` turns a
 -- test into its rule at each place, and what a least common multiple is (polar/proofs/Scale.antt) makes the statement of it, for both rows and all degrees together.
-use Prim.Native.Nat.{ℕ, zero, suc, _*_, _-_, _≤_, _<_}
+use Prim.Native.Nat.{ℕ, zero, suc, _*_, _-_, _≤_, _<_, zero-le}
 use native.Mathlib.Nat.{mul-one, le-trans, le-of-suc-le-suc, not-suc-le-zero}
 use native.Mathlib.Omega.{arith}
 use mathlib.Core.Path.{_≡_, refl, sym, ap, ap₂, _∙_, subst}
@@ -18,9 +18,9 @@ use Rattle.polar.specs.Scale.{multinomial, leastCommonMultiple, product, scale,
 use Rattle.polar.proofs.Order.{monomials-total}
 use Rattle.polar.proofs.Scale.{scale-pos, multinomial-divides, scale-least}
 use Rattle.entries.proofs.Standard.{member-monomials}
-use Rattle.kinds.specs.Kinds.{Row, rowsOf, groupsBy, degreesAllowed, some, dimensionOf, known, groupsOf}
+use Rattle.kinds.specs.Kinds.{Row, rowsOf, groupsBy, degreesAllowed, some, dimensionOf, laterGroups, laterDimension, known, groupsOf}
 use Rattle.kinds.specs.Scales.{scaleOf, scaleRow, atDegree, rowNumber, IsLeastCommonMultiple, ScalesReadOff}
-use Rattle.kinds.proofs.Limits.{by-known, by-kind, one-group-of}
+use Rattle.kinds.proofs.Limits.{UpTo, by-known, by-kind, groups-of, later-none, later-one}
 
 -- ---- any table
 
@@ -78,11 +78,6 @@ unfolding right
 row-scale n zero low high = absurd (not-suc-le-zero low)
 row-scale n (suc k) low high = eqb-true (getD (scaleRow n) k 0) (scale n (suc k)) (over-rows right all-right n k high)
 
--- the largest number is that of a curve of degree 10
-row-up : (n m : ℕ) → 1 ≤ m → m ≤ length (scaleRow n) → atDegree (scaleRow n) m ≤ 2520
-row-up n zero low high = absurd (not-suc-le-zero low)
-row-up n (suc k) low high = leb-true (getD (scaleRow n) k 0) 2520 (over-rows (λ i j. leb (getD (scaleRow i) j 0) 2520) refl n k high)
-
 -- ---- the statement
 
 scale-is-least : (n m : ℕ) → IsLeastCommonMultiple n m (scale n m)
@@ -102,7 +97,7 @@ long r = leb (r .highest) (length (scaleRow (r .dimension)))
 
 all-long : (kind : ℕ) → all long (rowsOf kind) ≡ true
 unfolding long
-all-long = by-kind (λ kind. all long (rowsOf kind) ≡ true) refl refl refl (λ k. refl)
+all-long = by-kind (λ kind. all long (rowsOf kind) ≡ true) refl refl refl refl (λ k. refl)
 
 groups-read : (rows : List Row) (degrees : List ℕ) → all long rows ≡ true → degreesAllowed rows degrees ≡ true
     → scaleOver (groupsBy rows degrees) ≡ product (map rowNumber (groupsBy rows degrees))
@@ -129,28 +124,67 @@ scales-read-off =
           ∙ groups-read (rowsOf kind) (p ∷ q ∷ []) (all-long kind) (and-parts (some (rowsOf kind)) (degreesAllowed (rowsOf kind) (p ∷ q ∷ [])) h .1);
     }
 
--- ---- kinds of one group
+-- ---- group by group
 
--- the scale of a known kind is that of its only group
-pub known-scale : (kind p q : ℕ) → known kind p q ≡ true → scaleOf kind p q ≡ scale (dimensionOf kind) p
-known-scale kind p q h = scale-known kind p q h ∙ ap scaleOver (one-group-of kind p q h) ∙ mul-one (scale (dimensionOf kind) p)
+-- the scale of a known kind: that of its first group times that of the others
+pub known-scale : (kind p q : ℕ) → known kind p q ≡ true → scaleOf kind p q ≡ scale (dimensionOf kind) p * scaleOver (laterGroups kind q)
+known-scale kind p q h = scale-known kind p q h ∙ ap scaleOver (groups-of kind p q h)
 
 -- no other numbers have one
 pub unknown-scale : (kind p q : ℕ) → known kind p q ≡ false → scaleOf kind p q ≡ 0
 unfolding scaleOf
 unknown-scale kind p q h = ap (λ b. cond b (scaleOver (groupsOf kind p q)) 0) h
 
--- the number that stands in the row
-pub scale-read : (kind p q : ℕ) → known kind p q ≡ true → atDegree (scaleRow (dimensionOf kind)) p ≡ scaleOf kind p q
-scale-read kind p q h =
-    sym
-    (scales-read-off .read kind p q h
-    ∙ ap (λ gs. product (map rowNumber gs)) (one-group-of kind p q h)
-    ∙ mul-one (atDegree (scaleRow (dimensionOf kind)) p))
+-- the numbers that stand in the rows
+pub scale-read : (kind p q : ℕ) → known kind p q ≡ true → scaleOf kind p q ≡ atDegree (scaleRow (dimensionOf kind)) p * product (map rowNumber (laterGroups kind q))
+scale-read kind p q h = scales-read-off .read kind p q h ∙ ap (λ gs. product (map rowNumber gs)) (groups-of kind p q h)
 
--- the largest scale is that of a curve of degree 10
-pub scale-up : (kind p q : ℕ) → known kind p q ≡ true → scale (dimensionOf kind) p ≤ 2520
-scale-up = by-known (λ kind p q. scale (dimensionOf kind) p ≤ 2520) (in-row 1) (in-row 2)
+pub one-read : (kind p q : ℕ) → known kind p q ≡ true → laterDimension kind ≡ 0 → atDegree (scaleRow (dimensionOf kind)) p ≡ scaleOf kind p q
+one-read kind p q h none =
+    sym (scale-read kind p q h ∙ ap (λ gs. atDegree (scaleRow (dimensionOf kind)) p * product (map rowNumber gs)) (later-none kind q none) ∙ mul-one (atDegree (scaleRow (dimensionOf kind)) p))
+
+pub two-read : (kind p q : ℕ) → known kind p q ≡ true → (laterDimension kind ≡ 0 → ⊥)
+    → atDegree (scaleRow (dimensionOf kind)) p * atDegree (scaleRow (laterDimension kind)) q ≡ scaleOf kind p q
+two-read kind p q h some =
+    sym
+    (scale-read kind p q h
+    ∙ ap (λ gs. atDegree (scaleRow (dimensionOf kind)) p * product (map rowNumber gs)) (later-one kind q some)
+    ∙ ap (λ k. atDegree (scaleRow (dimensionOf kind)) p * k) (mul-one (atDegree (scaleRow (laterDimension kind)) q)))
+
+-- ---- sizes
+
+-- a bound of all numbers of a row is one at every degree
+at-most : (bound : ℕ) (row : List ℕ) → all (λ k. leb k bound) row ≡ true → (m : ℕ) → atDegree row m ≤ bound
+at-most bound row h zero = zero-le
+at-most bound row h (suc k) = at row h k
   where
-    in-row : (n p : ℕ) → 1 ≤ p → p ≤ length (scaleRow n) → scale n p ≤ 2520
-    in-row n p low high = subst (λ s. s ≤ 2520) (row-scale n p low high) (row-up n p low high)
+    at : (ks : List ℕ) → all (λ k. leb k bound) ks ≡ true → (j : ℕ) → getD ks j 0 ≤ bound
+    at [] h j = zero-le
+    at (k ∷ ks) h zero = leb-true k bound (and-parts (leb k bound) (all (λ i. leb i bound) ks) h .0)
+    at (k ∷ ks) h (suc j) = at ks (and-parts (leb k bound) (all (λ i. leb i bound) ks) h .1) j
+
+-- the largest number is that of a curve of degree 10
+pub row-low : (n m : ℕ) → atDegree (scaleRow n) m ≤ 2520
+row-low zero = at-most 2520 [] refl
+row-low (suc zero) = at-most 2520 (scaleRow 1) refl
+row-low (suc (suc zero)) = at-most 2520 (scaleRow 2) refl
+row-low (suc (suc (suc n))) = at-most 2520 [] refl
+
+-- the numbers of a known kind's groups are their scales
+pub first-scale : (kind p q : ℕ) → known kind p q ≡ true → atDegree (scaleRow (dimensionOf kind)) p ≡ scale (dimensionOf kind) p
+first-scale = by-known (λ kind p q. atDegree (scaleRow (dimensionOf kind)) p ≡ scale (dimensionOf kind) p)
+    (λ p m. row-scale 1 p (m .low) (m .high))
+    (λ p m. row-scale 2 p (m .low) (m .high))
+    (λ p q m n. row-scale 1 p (m .low) (le-trans (m .high) (lit≤ tt)))
+
+pub later-scale : (kind p q : ℕ) → known kind p q ≡ true → (laterDimension kind ≡ 0 → ⊥) → atDegree (scaleRow (laterDimension kind)) q ≡ scale (laterDimension kind) q
+later-scale = by-known (λ kind p q. (laterDimension kind ≡ 0 → ⊥) → atDegree (scaleRow (laterDimension kind)) q ≡ scale (laterDimension kind) q)
+    (λ p m some. absurd (some refl))
+    (λ p m some. absurd (some refl))
+    (λ p q m n some. row-scale 1 q (n .low) (le-trans (n .high) (lit≤ tt)))
+
+-- a group of two vertices of degree 1 to 5 has a scale of at most 12
+pub pair-scale : (m : ℕ) → UpTo 5 m → scale 1 m ≤ 12
+pair-scale zero d = absurd (not-suc-le-zero (d .low))
+pair-scale (suc k) d =
+    subst (λ s. s ≤ 12) (row-scale 1 (suc k) (d .low) (le-trans (d .high) (lit≤ tt))) (up-to 12 (λ j. getD (scaleRow 1) j 0) 5 refl k (d .high))

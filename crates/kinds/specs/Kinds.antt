@@ -3,10 +3,9 @@
 -- To add a kind:
 --   a row of `rowsOf` below, and its case in the functions of src/lib.rt, each of which is held to this table;
 --   for a group of another dimension, its row of scales (Scales.antt);
---   its word and its indices in the text (crates/text/specs/Text.antt, crates/text/src/kind.rt).
+--   its word in the text (crates/text/specs/Text.antt, crates/text/src/kind.rt).
 -- Polar values, nets, what a call does and names, refusals, the comparison machine and demand 3 are stated and proved over any list of groups, and stay as they are.
--- For a kind of more than one group also: the code that takes the only group's dimension (`dimensionOf`: calls.rt and first.rt of crates/nets, net.rt of crates/text),
--- which then goes group by group, and the second degree in the record's field 1 (crates/records/specs/Table.antt).
+-- The code of crates/nets takes a first group and at most one after it; a kind of three groups would also want a third degree, in a net and in the record's field 1.
 use Prim.Native.Nat.{ℕ, zero, suc, _+_}
 use mathlib.Core.Bool.{Bool, true, false, _&&_, cond}
 use mathlib.Core.List.{List, [], _∷_, map}
@@ -23,12 +22,14 @@ pub record Row : Type 0 where
 abbrev row : ℕ → ℕ → Row
 row n m = record { dimension = n; highest = m }
 
--- 'kind byte (1 curve, 2 patch)'. A curve has the vertices r, s and degree 1 to 10, a patch r, s, t and degree 1 to 8; any other number is no kind.
+-- 'kind byte (1 curve, 2 patch)', 'Kind 3 has degrees p and q, 1 to 5 each, a frame r1, s1, r2, s2'. A curve has the vertices r, s and degree 1 to 10, a patch r, s, t and
+-- degree 1 to 8, a rectangular patch two pairs of vertices with a degree each; any other number is no kind.
 abbrev pub rowsOf : ℕ → List Row
 rowsOf zero = []
 rowsOf (suc zero) = row 1 10 ∷ []
 rowsOf (suc (suc zero)) = row 2 8 ∷ []
-rowsOf (suc (suc (suc k))) = []
+rowsOf (suc (suc (suc zero))) = row 1 5 ∷ row 1 5 ∷ []
+rowsOf (suc (suc (suc (suc k)))) = []
 
 -- ---- a kind with its degrees
 
@@ -46,13 +47,24 @@ groupsBy (r ∷ rows) (m ∷ degrees) = group (r .dimension) m ∷ groupsBy rows
 abbrev pub groupsOf : ℕ → ℕ → ℕ → List Group
 groupsOf kind degree second = groupsBy (rowsOf kind) (degree ∷ second ∷ [])
 
--- the dimension of a kind's only group; 0 where there is none
+-- the dimension of the first group; 0 where there is none
 abbrev pub dimensionBy : List Row → ℕ
 dimensionBy [] = 0
 dimensionBy (r ∷ rows) = r .dimension
 
 abbrev pub dimensionOf : ℕ → ℕ
 dimensionOf kind = dimensionBy (rowsOf kind)
+
+-- the groups after the first, the first of them having the second degree
+abbrev pub laterRows : List Row → List Row
+laterRows [] = []
+laterRows (r ∷ rows) = rows
+
+abbrev pub laterGroups : ℕ → ℕ → List Group
+laterGroups kind second = groupsBy (laterRows (rowsOf kind)) (second ∷ [])
+
+abbrev pub laterDimension : ℕ → ℕ
+laterDimension kind = dimensionBy (laterRows (rowsOf kind))
 
 -- the vertices of all its groups
 abbrev pub verticesBy : List Row → ℕ

@@ -4,15 +4,24 @@
 //
 // Every function answers every number; a byte that is no kind has no vertices.
 ghost use mathlib.Core.Path.{_≡_};
-ghost use mathlib.Core.Bool.{true};
+ghost use mathlib.Core.Bool.{true, _&&_};
 ghost use Prim.Native.Nat.{ℕ, suc, _*_, _≤_};
+ghost use lib.Dec.{leb, eqb};
 ghost use lib.IntN.{natAbs, _+ℤ_, _-ℤ_, _*ℤ_};
-ghost use lib.ListN.{take};
+ghost use lib.ListN.{length, take};
 ghost use Rattle.integers.specs.Test.{within, all};
-ghost use Rattle.kinds.specs.Kinds.{groupsOf, known, dimensionOf};
+ghost use Rattle.entries.specs.Entries.{numberCount};
+ghost use Rattle.kinds.specs.Kinds.{
+  groupsOf,
+  known,
+  dimensionOf,
+  laterGroups,
+  laterDimension,
+};
 ghost use Rattle.kinds.specs.Frames.{
   frameOf,
   determinant,
+  frameAllowed,
   vertexCount,
   frameCount,
   framesAllowed,
@@ -32,33 +41,69 @@ const PATCHES: [u64; 8] = [1, 2, 6, 12, 60, 180, 420, 1680];
 
 // ---- kinds and degrees
 
-// Whether the kind is one and has the degrees. A curve or patch has no second degree, and 0 stands there.
-pub fn known_kind(kind: u8, degree: u8, second: u8) -> bool
-    ensures { λ r. ⌜ r ≡ known kind degree second ⌝ }
+// Whether a degree is from 1 to the highest.
+fn up_to(highest: u8, degree: u8) -> bool
+    ensures { λ r. ⌜ r ≡ (leb 1 degree && leb degree highest) ⌝ }
 {
     if degree == 0 {
         return false;
     }
+    degree <= highest
+}
+
+// Whether a kind of one group has the degrees: there is no second degree, and 0 stands there.
+fn one_degree(highest: u8, degree: u8, second: u8) -> bool
+    ensures { λ r. ⌜ r ≡ ((leb 1 degree && leb degree highest) && (eqb second 0 && true)) ⌝ }
+{
     if second != 0 {
         return false;
     }
+    up_to(highest, degree)
+}
+
+// Whether a kind of two groups with the same highest degree has the degrees.
+fn two_degrees(highest: u8, degree: u8, second: u8) -> bool
+    ensures { λ r. ⌜ r ≡ ((leb 1 degree && leb degree highest) && ((leb 1 second && leb second highest) && true)) ⌝ }
+{
+    if !up_to(highest, degree) {
+        return false;
+    }
+    up_to(highest, second)
+}
+
+// Whether the kind is one and has the degrees.
+pub fn known_kind(kind: u8, degree: u8, second: u8) -> bool
+    ensures { λ r. ⌜ r ≡ known kind degree second ⌝ }
+{
     match kind {
-        1 => degree <= 10,
-        2 => degree <= 8,
+        1 => one_degree(10, degree, second),
+        2 => one_degree(8, degree, second),
+        3 => two_degrees(5, degree, second),
         _ => false,
     }
 }
 
-// The number of coordinates before Z, which is that of the vertices after the first; 0 for a byte that is
-// no kind.
+// The number of coordinates before Z in the first group, which is that of the vertices after its first;
+// 0 for a byte that is no kind.
 pub fn dimension_of(kind: u8) -> usize
     ensures { λ r. ⌜ r ≡ dimensionOf kind ⌝ }
 {
     match kind {
         1 => 1,
         2 => 2,
+        3 => 1,
         _ => 0,
     }
+}
+
+// The same in the group after the first; 0 where there is none.
+pub fn later_dimension(kind: u8) -> usize
+    ensures { λ r. ⌜ r ≡ laterDimension kind ⌝ }
+{
+    if kind == 3 {
+        return 1;
+    }
+    0
 }
 
 // ---- how many there are
@@ -70,16 +115,21 @@ pub fn vertex_count(kind: u8) -> usize
     match kind {
         1 => 2,
         2 => 3,
+        3 => 4,
         _ => 0,
     }
 }
 
-// How many numbers a frame has: as many for each vertex as there are vertices.
+// How many numbers the frames have: in each group as many for each vertex as it has vertices.
 pub fn frame_count(kind: u8) -> usize
     ensures { λ r. ⌜ ((p q : ℕ) → r ≡ frameCount (groupsOf kind p q)) ⌝ }
 {
-    let d = vertex_count(kind);
-    d * d
+    match kind {
+        1 => 4,
+        2 => 9,
+        3 => 8,
+        _ => 0,
+    }
 }
 
 // How many numbers the entries have, four to an entry, and how many the coefficients, four to a monomial:
@@ -91,6 +141,17 @@ pub fn number_count(kind: u8, degree: u8, second: u8) -> usize
     match kind {
         1 => 4 * (m + 1),
         2 => 2 * (m + 1) * (m + 2),
+        3 => 4 * (m + 1) * (second as usize + 1),
+        _ => 4,
+    }
+}
+
+// How many numbers the groups after the first have: so many stand in a row, seen from the first group.
+pub fn later_count(kind: u8, second: u8) -> usize
+    ensures { λ r. ⌜ r ≡ numberCount (laterGroups kind second) ⌝ }
+{
+    match kind {
+        3 => 4 * (second as usize + 1),
         _ => 4,
     }
 }
@@ -126,9 +187,9 @@ fn three_rows(a: i64, b: i64, c: i64, d: i64, e: i64, f: i64, g: i64, h: i64, i:
 }
 
 // The determinant of the frame of one group, whose numbers are within their limit.
-fn frame_determinant(dimension: usize, numbers: [i64; 9]) -> i64
-    requires { ⌜ (1 ≤ dimension) × (dimension ≤ 2) × (all (within 4) (take (suc dimension * suc dimension) numbers) ≡ true) ⌝ }
-    ensures { λ r. ⌜ r ≡ determinant (suc dimension) (frameOf (suc dimension) numbers) ⌝ }
+fn frame_determinant(dimension: usize, numbers: &[i64]) -> i64
+    requires { ⌜ (1 ≤ dimension) × (dimension ≤ 2) × (suc dimension * suc dimension ≤ length (now numbers)) × (all (within 4) (take (suc dimension * suc dimension) (now numbers)) ≡ true) ⌝ }
+    ensures { λ r. ⌜ r ≡ determinant (suc dimension) (frameOf (suc dimension) (now (numbers .entry))) ⌝ }
 {
     if dimension == 1 {
         return two_rows(numbers[0], numbers[1], numbers[2], numbers[3]);
@@ -146,7 +207,20 @@ fn frame_determinant(dimension: usize, numbers: [i64; 9]) -> i64
     )
 }
 
-// Whether the frame's numbers are within their limit and its determinant is not 0, whatever the degrees are.
+// Whether the numbers of one group's frame are within their limit and its determinant is not 0.
+fn group_allowed(dimension: usize, numbers: &[i64]) -> bool
+    requires { ⌜ (1 ≤ dimension) × (dimension ≤ 2) × (suc dimension * suc dimension ≤ length (now numbers)) ⌝ }
+    ensures { λ r. ⌜ r ≡ frameAllowed (suc dimension) (now (numbers .entry)) ⌝ }
+{
+    let vertices = dimension + 1;
+    if !all_within(&numbers[0..vertices * vertices], FRAME_LIMIT) {
+        return false;
+    }
+    frame_determinant(dimension, numbers) != 0
+}
+
+// Whether the numbers of all frames are within their limit and no determinant is 0, whatever the degrees
+// are. Where there is a second group, the first has two vertices and its frame four numbers.
 pub fn frame_allowed(kind: u8, numbers: [i64; 9]) -> bool
     ensures { λ r. ⌜ ((p q : ℕ) → r ≡ framesAllowed (groupsOf kind p q) numbers) ⌝ }
 {
@@ -154,10 +228,14 @@ pub fn frame_allowed(kind: u8, numbers: [i64; 9]) -> bool
     if n == 0 {
         return true;
     }
-    if !all_within(&numbers[0..frame_count(kind)], FRAME_LIMIT) {
+    if !group_allowed(n, &numbers) {
         return false;
     }
-    frame_determinant(n, numbers) != 0
+    let later = later_dimension(kind);
+    if later == 0 {
+        return true;
+    }
+    group_allowed(later, &numbers[4..9])
 }
 
 // ---- scales
@@ -177,7 +255,7 @@ fn at_degree(row: &[u64], degree: u8) -> u64
 }
 
 // The scale of one group, read off the row of its dimension; 0 where there is no such row or no such degree.
-fn group_scale(dimension: usize, degree: u8) -> u64
+pub fn group_scale(dimension: usize, degree: u8) -> u64
     ensures { λ r. ⌜ r ≡ atDegree (scaleRow dimension) degree ⌝ }
 {
     match dimension {
@@ -187,12 +265,18 @@ fn group_scale(dimension: usize, degree: u8) -> u64
     }
 }
 
-// The scale; 0 where there is no such kind, or where it has no such degrees.
+// The scale, the product of the groups' scales; 0 where there is no such kind, or where it has no such
+// degrees.
 pub fn scale(kind: u8, degree: u8, second: u8) -> u64
     ensures { λ r. ⌜ r ≡ scaleOf kind degree second ⌝ }
 {
     if !known_kind(kind, degree, second) {
         return 0;
     }
-    group_scale(dimension_of(kind), degree)
+    let first = group_scale(dimension_of(kind), degree);
+    let later = later_dimension(kind);
+    if later == 0 {
+        return first;
+    }
+    first * group_scale(later, second)
 }

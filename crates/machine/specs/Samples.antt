@@ -109,6 +109,10 @@ saddle = polynomials 2 2 0 (row 0 0 0 1 ∷ row 0 1 0 0 ∷ row 0 0 0 0 ∷ row 
 abbrev line : Polynomials
 line = polynomials 1 1 0 (row 1048576 0 0 1 ∷ row 0 0 0 1 ∷ [])
 
+-- x = (Z₁² − T₁²) Z₂, y = 2 T₁Z₁ Z₂, z = (3 Z₁² + T₁²) T₂, w = (Z₁² + T₁²) Z₂: degrees 2 and 1
+abbrev stripCoefficients : List (List ℤ)
+stripCoefficients = row 1 0 0 1 ∷ row 0 0 3 0 ∷ row 0 2 0 0 ∷ row 0 0 0 0 ∷ signed (minus 1) (pos 0) (pos 0) (pos 1) ∷ row 0 0 1 0 ∷ []
+
 -- ---- the table
 
 abbrev pub samples : List Sample
@@ -211,6 +215,45 @@ samples =
           ∷ found (signed (minus 8) (pos 18) (pos 0) (minus 4)) (finite 0x4000000000000000 0xc012000000000000 0)
           ∷ [];
     }
+    ∷  -- a rectangular patch: a replace in each pair, a flip in each, a point, a direction, and the refusals of vertices, weights and pairs
+    record {
+      polynomials = polynomials 3 2 1 stripCoefficients;
+      frame = row 0 1 1 1 ++ row 1 2 1 1;
+      calls =
+          replace 2 (pos 1) (pos 1)
+          ∷ replace 3 (pos 1) (minus 2)
+          ∷ flip 4
+          ∷ flip 1
+          ∷ point (pos 1) (pos 2) (pos 3) (pos 1)
+          ∷ point (pos 1) (pos 1) (pos 1) (pos 0)
+          ∷ move 1 4 (row 1 2 1 0)
+          ∷ replace 3 (pos 0) (pos 1)
+          ∷ point (pos 0) (pos 0) (pos 1) (pos 1)
+          ∷ point (pos 1) (pos 0) (pos 0) (pos 0)
+          ∷ flip 5
+          ∷ [];
+      net =
+          signed (pos 0) (pos 0) (minus 6) (pos 0)
+          ∷ signed (minus 2) (pos 0) (minus 6) (minus 2)
+          ∷ row 0 0 12 0
+          ∷ row 4 2 12 4
+          ∷ signed (pos 0) (pos 0) (minus 26) (pos 0)
+          ∷ signed (minus 6) (minus 8) (minus 26) (minus 10)
+          ∷ [];
+      answers =
+          taken
+          ∷ taken
+          ∷ taken
+          ∷ taken
+          ∷ found (signed (minus 10) (minus 24) (minus 248) (minus 26)) (finite 0x3fd89d89d89d89d9 0x3fed89d89d89d89e 0x402313b13b13b13b)
+          ∷ found (signed (pos 0) (pos 0) (minus 8) (pos 0)) (direction (pos 0) (pos 0) (pos 1) 8)
+          ∷ refused 8
+          ∷ refused 9
+          ∷ refused 9
+          ∷ refused 9
+          ∷ refused 8
+          ∷ [];
+    }
     ∷ []
 
 -- ---- single instances
@@ -253,7 +296,11 @@ handedNets =
     ∷ handed 1 1 0 281474976710656 1 (pos 4097) is refused 8
     ∷ handed 1 1 0 281474976710657 1 (pos 4097) is refused 10
     ∷ handed 1 1 1 281474976710657 1 (pos 4097) is refused 4
-    ∷ handed 3 1 1 281474976710657 1 (pos 4097) is refused 4
+    ∷ handed 3 1 1 281474976710657 1 (pos 4097) is refused 10
+    ∷ handed 3 1 0 281474976710657 1 (pos 4097) is refused 4
+    ∷ handed 3 1 6 281474976710657 1 (pos 4097) is refused 4
+    ∷ handed 3 6 1 281474976710657 1 (pos 4097) is refused 4
+    ∷ handed 4 1 1 281474976710657 1 (pos 4097) is refused 4
     ∷ []
 
 -- too few places are 11 before all else
@@ -293,12 +340,8 @@ counted names = map pos (joined (λ es. joined (λ e. e) es) names)
 abbrev name : ℕ → ℕ → ℕ → ℕ → ℕ → ℕ → List ℤ
 name a b c d e f = map pos (a ∷ b ∷ c ∷ d ∷ e ∷ f ∷ [])
 
--- degrees 2 and 1
 abbrev strip : List Group
 strip = group 1 2 ∷ group 1 1 ∷ []
-
-abbrev stripCoefficients : List (List ℤ)
-stripCoefficients = row 1 0 0 1 ∷ row 0 0 3 0 ∷ row 0 2 0 0 ∷ row 0 0 0 0 ∷ signed (minus 1) (pos 0) (pos 0) (pos 1) ∷ row 0 0 1 0 ∷ []
 
 abbrev stripNumber : Call → List ℤ
 stripNumber call = refused (numberOver strip stripCoefficients (framesOf strip (row 0 1 1 1 ++ row 0 1 1 1)) call)

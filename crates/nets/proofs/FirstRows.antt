@@ -12,7 +12,7 @@ use lib.Seq.{ext-getD}
 use Rattle.polar.specs.Sigma.{Point}
 use Rattle.polar.specs.Order.{counts}
 use Rattle.polar.specs.Groups.{Group, monomialsOver}
-use Rattle.polar.specs.Polar.{terms}
+use Rattle.polar.specs.Polar.{columnTerms}
 use Rattle.entries.specs.Frame.{taken}
 use Rattle.entries.specs.Form.{Form}
 use Rattle.entries.specs.Rows.{listed, size, rank}
@@ -23,7 +23,7 @@ use Rattle.kinds.specs.Kinds.{group}
 use Rattle.nets.specs.Rows.{Sized, blended, level, written, placeAt}
 use Rattle.nets.specs.Levels.{copiedRow}
 use Rattle.nets.specs.Flips.{countsAt}
-use Rattle.nets.specs.Coordinates.{groupPolar, Coordinates}
+use Rattle.nets.specs.Coordinates.{rowPolar, Coordinates}
 use Rattle.nets.specs.FirstNet.{Stepping, vertexOf, vertexWeights, Values, Holds, valueAt}
 use Rattle.nets.proofs.Lists.{length-written, written-outside, written-at, written-cong}
 use Rattle.nets.proofs.Places.{by-dimension, row-digit, own-digit, row-of, own-of, counts-at-rank, counts-at-place, place-step, place-row, place-whole, place-inside}
@@ -228,11 +228,11 @@ row-before w n m i frame out cur ys G s b room inv is =
 -- ---- the net
 
 -- the net over the frame of the coordinates holds the polar values
-pub holds-polar : (n m : ℕ) (numbers xs : List ℤ) → Coordinates n m numbers xs → Holds 4 n m (groupPolar n m numbers) xs
-holds-polar n m numbers xs coordinates =
+pub holds-polar : (w n m : ℕ) (numbers xs : List ℤ) → Coordinates w n m numbers xs → Holds w n m (rowPolar w n m numbers) xs
+holds-polar w n m numbers xs coordinates =
     record {
-      form = λ c. polar-forms gs (terms c (monomialsOver gs) numbers) .0 [];
-      entries = λ c e k l t. entry-rank 4 n m xs c e l t ∙ coordinates .entries c e k l t;
+      form = λ c. polar-forms gs (columnTerms w c (monomialsOver gs) numbers) .0 [];
+      entries = λ c e k l t. entry-rank w n m xs c e l t ∙ coordinates .entries c e k l t;
     }
   where
     gs : List Group

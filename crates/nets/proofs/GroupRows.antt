@@ -1,27 +1,29 @@
 -- A net over groups, seen from its first group: a row holds the numbers of the groups after it, one number of the row for each of their entries' components. So what the code
 -- does to rows is what the definitions say of groups. A net of one group has rows of four numbers.
 use Prim.Native.Nat.{ℕ, zero, suc, _+_, _*_, _-_, _/_, _%_, _<_, suc-le-suc, zero-le}
-use native.Mathlib.Nat.{mul-assoc, mul-comm, le-of-suc-le-suc, not-suc-le-zero, mul-zero, mod-lt, div-add-mod', div-lt-iff-lt-mul}
+use native.Mathlib.Nat.{mul-assoc, mul-comm, not-suc-le-zero, mul-zero, mod-lt, div-add-mod', div-lt-iff-lt-mul}
 use native.Mathlib.Omega.{arith}
 use mathlib.Core.Path.{_≡_, refl, sym, ap, ap₂, _∙_, fun-ext, subst}
 use mathlib.Core.Bool.{Bool, true}
 use mathlib.Core.List.{List, [], _∷_, _++_, map, List·Memᴰ, List·Memᴰ·head, List·Memᴰ·tail}
 use lib.IntN.{ℤ, pos}
-use lib.ListN.{length, getD}
+use lib.ListN.{length, getD, length-map}
+use lib.Seq.{ext-getD}
 use Rattle.integers.specs.Sum.{upto}
 use Rattle.integers.specs.Test.{all}
-use Rattle.integers.proofs.Sums.{upto-below, below-upto}
+use Rattle.integers.proofs.Sums.{upto-below, below-upto, length-upto}
 use Rattle.integers.proofs.All.{all-map, all-cong, all-pass, all-at, both-ways}
 use Rattle.polar.specs.Order.{joined, total, counts}
 use Rattle.polar.specs.Groups.{Group, tail, pairs, countsOver}
-use Rattle.polar.proofs.Order.{counts-total, all-joined}
+use Rattle.polar.proofs.Order.{counts-total, all-joined, joined-append}
+use Rattle.polar.proofs.Sigma.{at-upto}
 use Rattle.projection.specs.Projection.{inRange}
 use Rattle.entries.specs.Entries.{placeOf, fixed, numberCount, placeOver, entryOver, listedOver, fixedOver, noneOfQ}
 use Rattle.entries.specs.Rows.{entryAt, listed}
-use Rattle.entries.proofs.Places.{member-counts, counts-at, place-rank, rank-at}
-use Rattle.entries.proofs.Groups.{counted-long}
-use Rattle.entries.proofs.ListedOver.{pairs-at, length-pairs, place-over, counts-over}
-use Rattle.kinds.specs.Kinds.{group}
+use Rattle.entries.proofs.Places.{joined-map, member-counts, counts-at, place-rank, rank-at}
+use Rattle.entries.proofs.Groups.{Counted, counted-long}
+use Rattle.entries.proofs.ListedOver.{pairs-at, length-pairs, place-over, counts-over, length-listed-over, entry-listed-over}
+use Rattle.entries.proofs.FirstGroup.{at-member}
 use Rattle.machine.specs.Sizes.{namedByReplace, allNamed}
 use Rattle.nets.specs.Levels.{valuesOf, namedAt, allNamedAt}
 
@@ -140,7 +142,7 @@ row-test gs test =
     let i-is : 4 * (i / 4) + i % 4 ≡ i = omega arith in
     ap test (sym i-is ∙ ap (λ p. 4 * p + i % 4) (sym (place-index gs (i / 4) p-below)))
     ∙ all-at (λ c. test (4 * placeOver gs (getD (countsOver gs) (i / 4) []) + c)) (upto 4)
-    (all-at (λ es. all (λ c. test (4 * placeOver gs es + c)) (upto 4)) (countsOver gs) ok (getD (countsOver gs) (i / 4) []) (at-member (countsOver gs) (i / 4) p-below))
+    (all-at (λ es. all (λ c. test (4 * placeOver gs es + c)) (upto 4)) (countsOver gs) ok (getD (countsOver gs) (i / 4) []) (at-member [] (countsOver gs) (i / 4) p-below))
     (i % 4) (below-upto 4 (i % 4) c-below)))
     (λ ok.
     all-pass (λ es. all (λ c. test (4 * placeOver gs es + c)) (upto 4)) (countsOver gs)
@@ -150,11 +152,6 @@ row-test gs test =
     let small = upto-below 4 c k in
     let place = place-over gs es (counts-over gs es m) .0 in
     all-at test (upto (numberCount gs)) ok (4 * placeOver gs es + c) (below-upto (numberCount gs) (4 * placeOver gs es + c) (omega arith)))))
-  where
-    at-member : (xs : List (List (List ℕ))) (p : ℕ) → p < length xs → List·Memᴰ (getD xs p []) xs
-    at-member [] p h = absurd (not-suc-le-zero h)
-    at-member (x ∷ xs) zero h = List·Memᴰ·head refl
-    at-member (x ∷ xs) (suc p) h = List·Memᴰ·tail (at-member xs p (le-of-suc-le-suc h))
 
 -- The size rule of a replace in the first group is the code's: level by level, all numbers of the rows.
 pub named-rows : (g : Group) (gs : List Group) (ws : List ℤ) (weights : List (List ℤ)) (xs : List ℤ)
@@ -196,13 +193,51 @@ named-rows g gs ws weights xs =
         all-map (λ es. all (λ c. inRange (P c es)) (upto 4)) (λ ys. x ∷ ys) (map noneOfQ (countsOver gs))
         ∙ all-map (λ ys. all (λ c. inRange (P c (x ∷ ys))) (upto 4)) noneOfQ (countsOver gs)
 
--- ---- one group
+-- ---- nets as lists
 
--- the list of a function over one group is its list in rows of four numbers
-pub one-listed : (n m : ℕ) (f : ℕ → List (List ℕ) → ℤ) → listedOver (group n m ∷ []) f ≡ listed 4 n m (λ c e. f c (e ∷ []))
-unfolding listedOver listed countsOver
-one-listed n m f = by (counts n m)
+-- a net by the first group's counts: for each of them the net over the groups after it
+pub first-listed : (g : Group) (gs : List Group) (f : ℕ → List (List ℕ) → ℤ)
+    → listedOver (g ∷ gs) f ≡ joined (λ e. listedOver gs (λ c es. f c (e ∷ es))) (counts (g .dimension) (g .degree))
+unfolding listedOver countsOver
+first-listed g gs f = by (counts (g .dimension) (g .degree))
   where
-    by : (es : List (List ℕ)) → joined (λ x. map (λ c. f c x) (upto 4)) (pairs es ([] ∷ [])) ≡ joined (λ e. map (λ c. f c (e ∷ [])) (upto 4)) es
+    row : List (List ℕ) → List ℤ
+    row es = map (λ c. f c es) (upto 4)
+
+    by : (xs : List (List ℕ)) → joined row (pairs xs (countsOver gs)) ≡ joined (λ e. joined (λ es. map (λ c. f c (e ∷ es)) (upto 4)) (countsOver gs)) xs
     by [] = refl
-    by (e ∷ es) = ap (λ l. map (λ c. f c (e ∷ [])) (upto 4) ++ l) (by es)
+    by (x ∷ xs) =
+        joined-append row (map (λ es. x ∷ es) (countsOver gs)) (pairs xs (countsOver gs))
+        ∙ ap₂ _++_ (joined-map row (λ es. x ∷ es) (countsOver gs)) (by xs)
+
+-- the same as rows: number i of the row is the one of its entry
+pub row-listed : (g : Group) (gs : List Group) (f : ℕ → List (List ℕ) → ℤ) (h : ℕ → List ℕ → ℤ)
+    → ((c : ℕ) (e : List ℕ) (es : List (List ℕ)) → c < 4 → length e ≡ suc (g .dimension) → total e ≡ g .degree → Counted gs es → f c (e ∷ es) ≡ h (4 * placeOver gs es + c) e)
+    → listedOver (g ∷ gs) f ≡ listed (numberCount gs) (g .dimension) (g .degree) h
+unfolding listed entryOver
+row-listed g gs f h agree = first-listed g gs f ∙ by (counts (g .dimension) (g .degree)) (λ e m. one-row e (counts-total (g .dimension) (g .degree) e m))
+  where
+    one-row : (e : List ℕ) → (length e ≡ suc (g .dimension)) × (total e ≡ g .degree) → listedOver gs (λ c es. f c (e ∷ es)) ≡ map (λ i. h i e) (upto (numberCount gs))
+    one-row e counted =
+        ext-getD (pos 0) (listedOver gs (λ c es. f c (e ∷ es))) (map (λ i. h i e) (upto (numberCount gs)))
+        (length-listed-over gs (λ c es. f c (e ∷ es)) ∙ sym (length-map (upto (numberCount gs)) (λ i. h i e) ∙ length-upto (numberCount gs)))
+        (λ i b. at i (subst (λ k. i < k) (length-listed-over gs (λ c es. f c (e ∷ es))) b))
+      where
+        at : (i : ℕ) → i < numberCount gs → getD (listedOver gs (λ c es. f c (e ∷ es))) i (pos 0) ≡ getD (map (λ j. h j e) (upto (numberCount gs))) i (pos 0)
+        at i b =
+            let p-below : i / 4 < length (countsOver gs) = omega arith in
+            let c-below : i % 4 < 4 = omega arith in
+            let i-is : 4 * (i / 4) + i % 4 ≡ i = omega arith in
+            let es = getD (countsOver gs) (i / 4) [] in
+            let place = place-index gs (i / 4) p-below in
+            let inside = counts-over gs es (at-member [] (countsOver gs) (i / 4) p-below) in
+            ap (λ j. getD (listedOver gs (λ c fs. f c (e ∷ fs))) j (pos 0)) (sym i-is ∙ ap (λ p. 4 * p + i % 4) (sym place))
+            ∙ entry-listed-over gs (λ c fs. f c (e ∷ fs)) (i % 4) es c-below inside
+            ∙ agree (i % 4) e es c-below (counted .0) (counted .1) inside
+            ∙ ap (λ j. h j e) (ap (λ p. 4 * p + i % 4) place ∙ i-is)
+            ∙ sym (at-upto (numberCount gs) (λ j. h j e) i b)
+
+    by : (xs : List (List ℕ)) → ((e : List ℕ) → List·Memᴰ e xs → listedOver gs (λ c es. f c (e ∷ es)) ≡ map (λ i. h i e) (upto (numberCount gs)))
+        → joined (λ e. listedOver gs (λ c es. f c (e ∷ es))) xs ≡ joined (λ e. map (λ i. h i e) (upto (numberCount gs))) xs
+    by [] same = refl
+    by (x ∷ xs) same = ap₂ _++_ (same x (List·Memᴰ·head refl)) (by xs (λ e m. same e (List·Memᴰ·tail m)))

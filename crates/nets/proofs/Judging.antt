@@ -2,6 +2,7 @@
 use Prim.Native.Nat.{ℕ, zero, suc, pred, _+_, _-_, _≤_, _<_, zero-le}
 use native.Mathlib.Nat.{add-zero, le-of-suc-le-suc, not-suc-le-zero}
 use native.Mathlib.Omega.{arith}
+use native.Mathlib.Decide.{decLe}
 use mathlib.Core.Path.{_≡_, refl, sym, ap, ap₂, _∙_}
 use mathlib.Core.Bool.{Bool, true, false, _&&_, _||_, not, cond}
 use mathlib.Core.List.{List, [], _∷_, _++_, map}
@@ -209,3 +210,80 @@ module _ (n : ℕ) (weights : Weights) where
       (all-passed 8 point-tests (point-last m else 9 ∷ []) (λ i. small i && (none i && true))
       ∙ ap (λ b. firstFailed ((not b && true) else 9 ∷ [])) own
       ∙ ap (λ b. firstFailed (b else 9 ∷ [])) (and-one (not z)))
+
+-- ---- several groups
+
+-- a move of a vertex of the first group is judged as if there were no other
+pub first-vertex : (n m : ℕ) (gs : List Group) (operation vertex : ℕ) (weights : Weights) → vertex ≤ suc n
+    → firstFailed (beforeSize (group n m ∷ []) (Move operation vertex weights)) ≡ firstFailed (beforeSize (group n m ∷ gs) (Move operation vertex weights))
+unfolding beforeSize
+first-vertex n m gs operation vertex weights high =
+    λ i.
+    firstFailed
+    ((eqb operation 1 || eqb operation 2) else 8
+    ∷ (leb 1 vertex && known-vertex i) else 8
+    ∷ all (within 4096) (weightList weights) else 8
+    ∷ all isZero (cond (eqb operation 2) (weightList weights) (drop (vertices i) (weightList weights))) else 8
+    ∷ (eqb operation 2 || not (isZero (getD (weightList weights) (own i) (pos 0)))) else 9
+    ∷ [])
+  where
+    known-vertex : leb vertex (suc n + 0) ≡ leb vertex (suc n + vertexCount gs)
+    known-vertex = le-leb vertex (suc n + 0) (omega arith) ∙ sym (le-leb vertex (suc n + vertexCount gs) (omega arith))
+
+    vertices : verticesAt (group n m ∷ []) (groupAt (group n m ∷ []) (pred vertex)) ≡ verticesAt (group n m ∷ gs) (groupAt (group n m ∷ gs) (pred vertex))
+    vertices =
+        ap (λ b. verticesAt (group n m ∷ []) (cond b 0 (suc (groupAt [] (pred vertex - suc n))))) (first-group n m vertex high)
+        ∙ sym (ap (λ b. verticesAt (group n m ∷ gs) (cond b 0 (suc (groupAt gs (pred vertex - suc n))))) (first-group n m vertex high))
+
+    own : ownAt (group n m ∷ []) (pred vertex) ≡ ownAt (group n m ∷ gs) (pred vertex)
+    own =
+        ap (λ b. cond b (pred vertex) (ownAt [] (pred vertex - suc n))) (first-group n m vertex high)
+        ∙ sym (ap (λ b. cond b (pred vertex) (ownAt gs (pred vertex - suc n))) (first-group n m vertex high))
+
+-- and one of a vertex past them as if there were no first group
+pub later-vertex : (n m : ℕ) (gs : List Group) (operation vertex : ℕ) (weights : Weights) → suc n < vertex
+    → firstFailed (beforeSize gs (Move operation (vertex - suc n) weights)) ≡ firstFailed (beforeSize (group n m ∷ gs) (Move operation vertex weights))
+unfolding beforeSize
+later-vertex n m gs operation vertex weights past =
+    λ i.
+    firstFailed
+    ((eqb operation 1 || eqb operation 2) else 8
+    ∷ (low i && known-vertex i) else 8
+    ∷ all (within 4096) (weightList weights) else 8
+    ∷ all isZero (cond (eqb operation 2) (weightList weights) (drop (vertices i) (weightList weights))) else 8
+    ∷ (eqb operation 2 || not (isZero (getD (weightList weights) (own i) (pos 0)))) else 9
+    ∷ [])
+  where
+    far : n < pred vertex
+    far = omega arith
+
+    before : pred (vertex - suc n) ≡ pred vertex - suc n
+    before = omega arith
+
+    low : leb 1 (vertex - suc n) ≡ leb 1 vertex
+    low = le-leb 1 (vertex - suc n) (omega arith) ∙ sym (le-leb 1 vertex (omega arith))
+
+    known-vertex : leb (vertex - suc n) (vertexCount gs) ≡ leb vertex (suc n + vertexCount gs)
+    known-vertex = by (decLe (vertex - suc n) (vertexCount gs))
+      where
+        by : Dec (vertex - suc n ≤ vertexCount gs) → leb (vertex - suc n) (vertexCount gs) ≡ leb vertex (suc n + vertexCount gs)
+        by (yes p) = le-leb (vertex - suc n) (vertexCount gs) p ∙ sym (le-leb vertex (suc n + vertexCount gs) (omega arith))
+        by (no p) = lt-leb (vertex - suc n) (vertexCount gs) (omega arith) ∙ sym (lt-leb vertex (suc n + vertexCount gs) (omega arith))
+
+    vertices : verticesAt gs (groupAt gs (pred (vertex - suc n))) ≡ verticesAt (group n m ∷ gs) (groupAt (group n m ∷ gs) (pred vertex))
+    vertices = ap (λ u. verticesAt gs (groupAt gs u)) before ∙ sym (ap (λ b. verticesAt (group n m ∷ gs) (cond b 0 (suc (groupAt gs (pred vertex - suc n))))) (lt-leb (pred vertex) n far))
+
+    own : ownAt gs (pred (vertex - suc n)) ≡ ownAt (group n m ∷ gs) (pred vertex)
+    own = ap (ownAt gs) before ∙ sym (ap (λ b. cond b (pred vertex) (ownAt gs (pred vertex - suc n))) (lt-leb (pred vertex) n far))
+
+-- a point of two pairs: its tests with number 8, and the one with number 9
+module _ (weights : Weights) where
+  abbrev pub JudgedPairs : ℕ → Type 0
+  JudgedPairs k = (p q : ℕ) → k ≡ firstFailed (beforeSize (group 1 p ∷ group 1 q ∷ []) (Point weights))
+
+  -- by the results of the code's tests
+  pub pairs-judged : {a b c d e f : Bool} → within 4096 (weights .r) ≡ a → within 4096 (weights .s) ≡ b → within 4096 (weights .t) ≡ c → within 4096 (weights .u) ≡ d
+      → all isZero (weights .r ∷ weights .s ∷ []) ≡ e → all isZero (weights .t ∷ weights .u ∷ []) ≡ f
+      → JudgedPairs (firstFailed ((a && (b && (c && (d && true)))) else 8 ∷ true else 8 ∷ (not e && (not f && true)) else 9 ∷ []))
+  unfolding beforeSize
+  pairs-judged a b c d e f p q = sym (λ i. firstFailed ((a i && (b i && (c i && (d i && true)))) else 8 ∷ true else 8 ∷ (not (e i) && (not (f i) && true)) else 9 ∷ []))

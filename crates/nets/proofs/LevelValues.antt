@@ -12,7 +12,7 @@ use borrow.Author.Tests.{leb-true}
 use Rattle.integers.specs.Sum.{upto}
 use Rattle.integers.specs.Test.{all}
 use Rattle.integers.proofs.Sums.{sum-upto-cong, upto-snoc, upto-below, below-upto}
-use Rattle.integers.proofs.All.{clash, all-at, all-cong, all-map, all-append, all-first, and-true}
+use Rattle.integers.proofs.All.{one-fails, clash, all-at, all-cong, all-map, all-append, all-first, and-true}
 use Rattle.polar.specs.Order.{total, counts}
 use Rattle.polar.proofs.Order.{counts-total, all-joined}
 use Rattle.entries.specs.Entries.{fixed, raise}
@@ -43,14 +43,6 @@ range-bounded ys k W l h w =
       each = λ i lo up. leb-true (natAbs (getD ys i (pos 0))) 281474976710656 (all-first inRange k ys h i up (omega arith));
       fits = let p = mul-le-mul-right 281474976710656 w in omega arith;
     }
-
--- where a member fails, not all pass
-one-fails : {A : Type 0} (test : A → Bool) (xs : List A) (x : A) → List·Memᴰ x xs → test x ≡ false → all test xs ≡ false
-one-fails test xs x m e = by (all test xs) refl
-  where
-    by : (b : Bool) → all test xs ≡ b → all test xs ≡ false
-    by true p = absurd (clash (all-at test xs p x m) e)
-    by false p = p
 
 -- ---- one step
 
@@ -121,7 +113,7 @@ module _ (w n : ℕ) (some : 1 ≤ w) where
     abbrev at : ℕ → List ℤ
     at h = level w n m ws h xs
 
-    length-level : (h : ℕ) → h ≤ m → length (at h) ≡ length xs
+    pub length-level : (h : ℕ) → h ≤ m → length (at h) ≡ length xs
     unfolding level
     length-level zero b = refl
     length-level (suc h) b =

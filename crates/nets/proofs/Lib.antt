@@ -1,10 +1,14 @@
 pub mod GroupRows
 pub mod GroupPoint
-pub mod OneGroup
+pub mod FirstMoves
+pub mod Parts
+pub mod LaterMoves
+pub mod Framed
 pub mod Bytes
 pub mod Judging
 pub mod Steps
 pub mod Made
+pub mod PointMade
 pub mod InPlaces
 pub mod Lists
 pub mod Row

@@ -1,16 +1,16 @@
 -- Laws of lists that the loops need: what stands in a list after writes, how writes join, and whether what is written is within a limit.
-use Prim.Native.Nat.{ℕ, zero, suc, _+_, _-_, _≤_, _<_}
-use native.Mathlib.Nat.{add-suc, add-zero, zero-add, add-assoc, le-refl}
+use Prim.Native.Nat.{ℕ, zero, suc, _+_, _-_, _≤_, _<_, zero-le}
+use native.Mathlib.Nat.{add-suc, add-zero, zero-add, add-assoc, le-refl, not-suc-le-zero, le-of-suc-le-suc}
 use native.Mathlib.Numerals.{add-one}
 use native.Mathlib.Omega.{arith}
 use native.Mathlib.Decide.{decLt}
-use mathlib.Core.Path.{_≡_, refl, sym, ap, ap₂, _∙_}
+use mathlib.Core.Path.{_≡_, refl, sym, ap, ap₂, _∙_, subst}
 use mathlib.Core.Bool.{true, false, _&&_}
-use mathlib.Core.List.{List, [], _∷_}
+use mathlib.Core.List.{List, [], _∷_, _++_}
 use borrow.Author.Tests.{le-leb}
 use lib.IntN.{ℤ, pos, natAbs}
-use lib.ListN.{length, getD, set, take, length-set}
-use lib.Seq.{take-suc, getD-set-same, getD-set-other}
+use lib.ListN.{length, getD, set, take, drop, length-set, length-append, length-drop}
+use lib.Seq.{take-suc, length-take-le, ext-getD, getD-take, getD-drop, getD-append-add, getD-set-same, getD-set-other}
 use Rattle.integers.specs.Test.{within, all}
 use Rattle.integers.proofs.All.{all-append, and-true, and-one, and-none, and-assoc}
 use Rattle.nets.specs.Rows.{written, ranged}
@@ -165,3 +165,45 @@ module _ (limit : ℕ) where
       go : (j : ℕ) → j ≤ k → ranged limit (λ i. getD xs i (pos 0)) 0 j ≡ true
       go zero h = refl
       go (suc j) h = and-true (go j (omega arith)) (le-leb (natAbs (getD xs (0 + j) (pos 0))) limit (each (0 + j) (omega arith)))
+
+-- ---- the front of a list
+
+-- numbers copied to the front
+pub copied-front : (xs ys : List ℤ) (k : ℕ) → k ≤ length xs → k ≤ length ys → take k (written xs 0 k (λ i. getD ys i (pos 0))) ≡ take k ys
+copied-front xs ys k h l =
+    ext-getD (pos 0) (take k copy) (take k ys) (lengths ∙ sym (length-take-le k ys l))
+    (λ i b.
+    let below : i < k = subst (λ j. i < j) lengths b in
+    getD-take k copy i (pos 0) below ∙ written-at xs 0 k (λ j. getD ys j (pos 0)) i (omega arith) (omega arith) (omega arith) ∙ sym (getD-take k ys i (pos 0) below))
+  where
+    copy : List ℤ
+    copy = written xs 0 k (λ i. getD ys i (pos 0))
+
+    lengths : length (take k copy) ≡ k
+    lengths = length-take-le k copy (subst (λ j. k ≤ j) (sym (length-written xs 0 k (λ i. getD ys i (pos 0)))) h)
+
+-- a list whose first numbers are written anew
+same-front : (es xs ys : List ℤ) (i : ℕ) → i < length es → getD (es ++ xs) i (pos 0) ≡ getD (es ++ ys) i (pos 0)
+same-front [] xs ys i h = absurd (not-suc-le-zero h)
+same-front (e ∷ es) xs ys zero h = refl
+same-front (e ∷ es) xs ys (suc i) h = same-front es xs ys i (le-of-suc-le-suc h)
+
+pub written-front : (xs es rest : List ℤ) (k : ℕ) → k ≡ length es → k ≤ length xs → written xs 0 k (λ i. getD (es ++ rest) i (pos 0)) ≡ es ++ drop (length es) xs
+written-front xs es rest k count room =
+    ext-getD (pos 0) (written xs 0 k g) (es ++ drop (length es) xs)
+    (length-written xs 0 k g ∙ sym (length-append es (drop (length es) xs) ∙ ap (λ n. length es + n) (length-drop (length es) xs) ∙ omega arith))
+    (λ i h. by i (decLt i k))
+  where
+    g : ℕ → ℤ
+    g i = getD (es ++ rest) i (pos 0)
+
+    by : (i : ℕ) → Dec (i < k) → getD (written xs 0 k g) i (pos 0) ≡ getD (es ++ drop (length es) xs) i (pos 0)
+    by i (yes p) = written-at xs 0 k g i zero-le (omega arith) (omega arith) ∙ same-front es rest (drop (length es) xs) i (omega arith)
+    by i (no p) =
+        written-outside xs 0 k g i (λ u v. omega arith)
+        ∙ sym
+        (ap (λ j. getD (es ++ drop (length es) xs) j (pos 0)) past ∙ getD-append-add es (drop (length es) xs) (i - length es) (pos 0) ∙ getD-drop (length es) xs (i - length es) (pos 0)
+        ∙ ap (λ j. getD xs j (pos 0)) (sym past))
+      where
+        past : i ≡ length es + (i - length es)
+        past = omega arith

@@ -36,7 +36,7 @@ use Rattle.nets.proofs.LevelValues.{entry-blended, length-blended, leve
 -- ---- the vertices as weights
 
 -- the weights of a vertex name the vertex
-vertex-named : (n : ℕ) → 1 ≤ n → n ≤ 2 → (frame : List ℤ) (v : ℕ) → v ≤ n → combination (suc n) (vertexWeights n frame v) (units n) ≡ vertexOf n frame v
+pub vertex-named : (n : ℕ) → 1 ≤ n → n ≤ 2 → (frame : List ℤ) (v : ℕ) → v ≤ n → combination (suc n) (vertexWeights n frame v) (units n) ≡ vertexOf n frame v
 unfolding frameOf
 vertex-named n low high frame v = by-dimension (λ d. v ≤ d → combination (suc d) (vertexWeights d frame v) (units d) ≡ vertexOf d frame v) n low high (curve v) (patch v)
   where
@@ -53,14 +53,14 @@ vertex-named n low high frame v = by-dimension (λ d. v ≤ d → combination (s
 
 -- ---- how large the numbers grow
 
-abs-sum : (f : ℕ → ℤ) (k B : ℕ) → ((v : ℕ) → v < k → natAbs (f v) ≤ B) → natAbs (sum f (upto k)) ≤ k * B
+pub abs-sum : (f : ℕ → ℤ) (k B : ℕ) → ((v : ℕ) → v < k → natAbs (f v) ≤ B) → natAbs (sum f (upto k)) ≤ k * B
 abs-sum f zero B h = zero-le
 abs-sum f (suc k) B h =
     subst (λ z. natAbs z ≤ suc k * B) (sym (sum-upto-snoc f k))
     (let r = abs-+-le (sum f (upto k)) (f k) (abs-sum f k B (λ v p. h v (omega arith))) (h k (le-refl (suc k))) in omega arith)
 
 -- a vertex's weights are the frame's numbers
-weights-within : (n : ℕ) (frame : List ℤ) (v u : ℕ) → 1 ≤ n → n ≤ 2 → FrameWithin n frame → v ≤ n → natAbs (getD (vertexWeights n frame v) u (pos 0)) ≤ 4
+pub weights-within : (n : ℕ) (frame : List ℤ) (v u : ℕ) → 1 ≤ n → n ≤ 2 → FrameWithin n frame → v ≤ n → natAbs (getD (vertexWeights n frame v) u (pos 0)) ≤ 4
 weights-within n frame v u low high =
     by-dimension (λ d. FrameWithin d frame → v ≤ d → natAbs (getD (vertexWeights d frame v) u (pos 0)) ≤ 4) n low high
     (λ f b. four u (getD frame (2 * v + 1) (pos 0)) (getD frame (2 * v) (pos 0)) (pos 0) (f .each (2 * v + 1) (omega arith)) (f .each (2 * v) (omega arith)) zero-le)

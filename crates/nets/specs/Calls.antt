@@ -1,14 +1,15 @@
 -- What the private functions that make calls and first nets promise. They work on the part of the lent places that holds the entries.
-use Prim.Native.Nat.{ℕ, suc, _≤_}
+use Prim.Native.Nat.{ℕ, suc, _+_, _≤_}
 use mathlib.Core.Path.{_≡_}
-use mathlib.Core.Bool.{Bool, _&&_}
-use mathlib.Core.List.{List}
-use lib.IntN.{ℤ}
+use mathlib.Core.Bool.{Bool, true, _&&_}
+use mathlib.Core.List.{List, [], _∷_}
+use lib.IntN.{ℤ, pos, natAbs}
 use lib.ListN.{length, take, drop}
 use Rattle.integers.specs.Test.{within, all}
-use Rattle.projection.specs.Projection.{isZero}
+use Rattle.projection.specs.Projection.{isZero, inRange}
 use Rattle.entries.specs.Entries.{numberCount}
-use Rattle.kinds.specs.Kinds.{groupsOf}
+use Rattle.entries.specs.Rows.{size}
+use Rattle.kinds.specs.Kinds.{groupsOf, laterDimension}
 use Rattle.machine.specs.Refusals.{Test, firstFailed}
 use Rattle.machine.specs.Calls.{beforeSize}
 use Rattle.machine.specs.Steps.{pointValues}
@@ -16,7 +17,10 @@ use Rattle.machine.specs.Nets.{Net, handedTests, netTests, accepted}
 use Rattle.machine.specs.Comparison.{Polynomials}
 use Rattle.machine.specs.First.{firstTests}
 use Rattle.machine.specs.Lent.{putAt, unlessRefused, polynomialsFrom}
+use Rattle.machine.specs.declared.Weights.{Weights}
 use Rattle.machine.specs.declared.Call.{Call}
+use Rattle.nets.specs.Rows.{Sized}
+use Rattle.nets.specs.Levels.{Descended}
 
 -- the net of a kind and degrees whose entries are the first numbers of some places
 abbrev pub netFrom : ℕ → ℕ → ℕ → List ℤ → Net
@@ -37,6 +41,21 @@ weightsFit n ws = all (within 4096) ws && all isZero (drop (suc n) ws)
 pub record Stepped (net : Net) (call : Call) (number : ℕ) (before after : List ℤ) : Type 0 where
   pub number-is : number ≡ firstFailed (netTests net call)
   pub places : after ≡ unlessRefused number (putAt 0 (accepted net call .left .entries) before) before
+
+-- the weights of the second of two groups of two vertices
+abbrev pub laterWeights : Weights → List ℤ
+laterWeights w = w .t ∷ w .u ∷ pos 0 ∷ pos 0 ∷ []
+
+-- what going down the second group's levels asks for, and what it gives; where there is no second group there is nothing to do
+pub record LaterDescends (kind second : ℕ) (weights : Weights) (xs : List ℤ) : Type 0 where
+  pub sized : (laterDimension kind ≡ 0 → ⊥) → Sized 4 (laterDimension kind) second
+  pub long : (laterDimension kind ≡ 0 → ⊥) → size 4 (laterDimension kind) second ≤ length xs
+  pub range : (laterDimension kind ≡ 0 → ⊥) → all inRange (take (size 4 (laterDimension kind) second) xs) ≡ true
+  pub light : natAbs (weights .t) + natAbs (weights .u) ≤ 12288
+
+pub record LaterDescended (kind second : ℕ) (weights : Weights) (xs : List ℤ) (b : Bool) (ys : List ℤ) : Type 0 where
+  pub none : laterDimension kind ≡ 0 → (b ≡ true) × (ys ≡ xs)
+  pub some : (laterDimension kind ≡ 0 → ⊥) → Descended 4 (laterDimension kind) second (laterWeights weights) xs b ys
 
 -- a call's number, and the places lent for the numbers of a point after it
 pub record Pointed (net : Net) (call : Call) (number : ℕ) (before after : List ℤ) : Type 0 where

@@ -1,4 +1,4 @@
--- What the private functions that make the net over the frame of the coordinates do. A net of one group: rows of four numbers, 1 + n vertices, degree m.
+-- What the private functions that make the net over the frame of the coordinates do. They see one group: rows of w numbers, 1 + n vertices, degree m.
 use Prim.Native.Nat.{ℕ, zero, suc, _+_, _*_, _/_, _%_, _<_, _≤_}
 use mathlib.Core.Path.{_≡_}
 use mathlib.Core.List.{List, [], _∷_}
@@ -8,7 +8,7 @@ use Rattle.polar.specs.Sigma.{Point}
 use Rattle.polar.specs.Order.{total, counts, monomials}
 use Rattle.polar.specs.Scale.{scale}
 use Rattle.polar.specs.Groups.{monomialsOver}
-use Rattle.polar.specs.Polar.{polarOver, terms}
+use Rattle.polar.specs.Polar.{polarOver, columnTerms}
 use Rattle.entries.specs.Frame.{taken, units}
 use Rattle.entries.specs.Rows.{size, rank}
 use Rattle.kinds.specs.Kinds.{group}
@@ -20,28 +20,28 @@ exponentsAt zero h l = []
 exponentsAt (suc zero) h l = h ∷ []
 exponentsAt (suc (suc n)) h l = h ∷ l ∷ []
 
--- the polar value of a list of points, component c, of the polynomials of one group with these coefficients
-abbrev pub groupPolar : ℕ → ℕ → List ℤ → ℕ → List Point → ℤ
-groupPolar n m numbers c ps = let gs = group n m ∷ [] in polarOver gs (terms c (monomialsOver gs) numbers) (ps ∷ [])
+-- the polar value of a list of points of the polynomial of one group whose coefficients are column c of these numbers
+abbrev pub rowPolar : ℕ → ℕ → ℕ → List ℤ → ℕ → List Point → ℤ
+rowPolar w n m numbers c ps = let gs = group n m ∷ [] in polarOver gs (columnTerms w c (monomialsOver gs) numbers) (ps ∷ [])
 
 -- the number at place i of the net over the frame of the coordinates
-unfoldable pub coordinateAt : ℕ → ℕ → List ℤ → ℕ → ℤ
-coordinateAt n m numbers i = groupPolar n m numbers (i % 4) (taken (units n) (getD (counts n m) (i / 4) []))
+unfoldable pub coordinateAt : ℕ → ℕ → ℕ → List ℤ → ℕ → ℤ
+coordinateAt w n m numbers i = rowPolar w n m numbers (i % w) (taken (units n) (getD (counts n m) (i / w) []))
 
--- the numbers from place lo up to hi are within the limit of a coefficient
-abbrev pub CoefficientsIn : List ℤ → ℕ → ℕ → Type 0
-CoefficientsIn numbers lo hi = (i : ℕ) → lo ≤ i → i < hi → natAbs (getD numbers i (pos 0)) ≤ 1048576
+-- no number before place hi is beyond B in absolute value
+abbrev pub NoneBeyond : ℕ → ℕ → List ℤ → Type 0
+NoneBeyond B hi numbers = (i : ℕ) → i < hi → natAbs (getD numbers i (pos 0)) ≤ B
 
--- what the making asks for: room, a scale of at most 2520, and coefficients that are there and within their limit
-pub record Limited (n m : ℕ) (numbers : List ℤ) : Type 0 where
-  pub sized : Sized 4 n m
+-- what the making asks for: room, a scale of at most 2520, and coefficients that are there and so small that 2520 times one fits 64 bits
+pub record Limited (w n m : ℕ) (numbers : List ℤ) : Type 0 where
+  pub sized : Sized w n m
   pub low : 1 ≤ m
   pub high : m ≤ 10
   pub scaled : scale n m ≤ 2520
-  pub long : 4 * length (monomials n m) ≤ length numbers
-  pub each : (i : ℕ) → i < 4 * length (monomials n m) → natAbs (getD numbers i (pos 0)) ≤ 1048576
+  pub long : w * length (monomials n m) ≤ length numbers
+  pub each : NoneBeyond 281474976710656 (w * length (monomials n m)) numbers
 
--- what is made: every entry is its polar value, and small
-pub record Coordinates (n m : ℕ) (numbers xs : List ℤ) : Type 0 where
-  pub entries : (c : ℕ) (e : List ℕ) → c < 4 → length e ≡ suc n → total e ≡ m → getD xs (4 * rank n e + c) (pos 0) ≡ groupPolar n m numbers c (taken (units n) e)
-  pub small : (i : ℕ) → i < size 4 n m → natAbs (getD xs i (pos 0)) ≤ 2642411520
+-- what is made: every entry is its polar value, and where no coefficient is beyond B no entry is beyond the scale times B
+pub record Coordinates (w n m : ℕ) (numbers xs : List ℤ) : Type 0 where
+  pub entries : (c : ℕ) (e : List ℕ) → c < w → length e ≡ suc n → total e ≡ m → getD xs (w * rank n e + c) (pos 0) ≡ rowPolar w n m numbers c (taken (units n) e)
+  pub small : (B : ℕ) → NoneBeyond B (w * length (monomials n m)) numbers → NoneBeyond (scale n m * B) (size w n m) xs

@@ -1,16 +1,21 @@
 -- What the private functions that make a first net do: a net holds the values of a form, and each step with a vertex of the frame fixes one of the form's points.
 use Prim.Native.Nat.{ℕ, zero, suc, _+_, _*_, _-_, _/_, _%_, _^_, _≤_, _<_}
 use mathlib.Core.Path.{_≡_}
-use mathlib.Core.List.{List, [], _∷_}
+use mathlib.Core.List.{List, [], _∷_, _++_}
 use lib.IntN.{ℤ, pos, natAbs}
-use lib.ListN.{length, getD, replicate}
+use lib.ListN.{length, getD, take, drop, replicate}
 use Rattle.polar.specs.Sigma.{Point}
-use Rattle.polar.specs.Order.{total, counts}
+use Rattle.polar.specs.Order.{total, counts, monomials}
+use Rattle.polar.specs.Scale.{scale}
 use Rattle.entries.specs.Frame.{taken, units, vertexAt}
 use Rattle.entries.specs.Form.{Form}
-use Rattle.entries.specs.Rows.{entryAt, size}
+use Rattle.entries.specs.Rows.{entryAt, listed, size}
+use Rattle.kinds.specs.Kinds.{laterDimension}
 use Rattle.kinds.specs.Frames.{frameOf}
+use Rattle.kinds.specs.Scales.{scaleRow, atDegree}
 use Rattle.nets.specs.Rows.{Sized, Bounded, written, placeAt}
+use Rattle.nets.specs.Coordinates.{rowPolar, NoneBeyond, Limited}
+use Rattle.nets.specs.Parts.{partAt, inParts}
 
 -- a list has room for a net of degree m
 abbrev pub Room : ℕ → ℕ → ℕ → List ℤ → Type 0
@@ -81,3 +86,45 @@ RowPut w n i frame cur out after =
 -- all entries of degree m
 abbrev pub NetPut : ℕ → ℕ → ℕ → List ℤ → List ℤ → List ℤ → List ℤ → Type 0
 NetPut w n m frame cur out after = (G : Values) → Holds w n m G cur → after ≡ written out 0 (size w n m) (valueAt w n m frame G)
+
+-- ---- from coefficients to the net over a frame
+
+-- the numbers of the net over the frame, of the polynomials with these coefficients
+unfoldable pub framed : ℕ → ℕ → ℕ → List ℤ → List ℤ → List ℤ
+framed w n m frame coefficients = listed w n m (λ c e. rowPolar w n m coefficients c (taken (vertexOf n frame) e))
+
+-- the same put at the front of a list
+abbrev pub framedList : ℕ → ℕ → ℕ → List ℤ → List ℤ → List ℤ → List ℤ
+framedList w n m frame coefficients out = framed w n m frame coefficients ++ drop (size w n m) out
+
+-- what the making asks for: coefficients up to a bound so small that all steps with the frame's vertices fit 64 bits
+pub record Framing (w n m : ℕ) (frame coefficients : List ℤ) : Type 0 where
+  pub limited : Limited w n m coefficients
+  pub read : atDegree (scaleRow n) m ≡ scale n m
+  pub corners : FrameWithin n frame
+  pub bound : ℕ
+  pub each : NoneBeyond bound (w * length (monomials n m)) coefficients
+  pub fits : (4 * suc n) ^ m * (scale n m * bound) < 2 ^ 63
+
+-- rooms with places for the rows
+pub record Spare (w n m : ℕ) (work cur base : List ℤ) : Type 0 where
+  pub work-room : Room w n m work
+  pub cur-room : Room w n m cur
+  pub base-room : Room w n m base
+
+-- the same of each of k parts: of each that is asked which is asked of one
+pub record PartsFramed (n m k : ℕ) (frame xs : List ℤ) : Type 0 where
+  pub sized : Sized 4 n m
+  pub room : size 4 n m * k ≤ 180
+  pub long : size 4 n m * k ≤ length xs
+  pub part : (j : ℕ) → j < k → Framing 4 n m frame (partAt (size 4 n m) xs j)
+
+-- what the making of the second group asks for, p and q being the degrees, and what it leaves; where there is no second group there is nothing to do
+pub record LaterFraming (kind p q : ℕ) (frame out work cur base : List ℤ) : Type 0 where
+  pub nine : length frame ≡ 9
+  pub parts : (laterDimension kind ≡ 0 → ⊥) → PartsFramed (laterDimension kind) q (p + 1) (take 5 (drop 4 frame)) out
+  pub spare : (laterDimension kind ≡ 0 → ⊥) → Spare 4 (laterDimension kind) q work cur base
+
+pub record LaterFramed (kind p q : ℕ) (frame out after : List ℤ) : Type 0 where
+  pub none : laterDimension kind ≡ 0 → after ≡ out
+  pub some : (laterDimension kind ≡ 0 → ⊥) → after ≡ inParts (framed 4 (laterDimension kind) q (take 5 (drop 4 frame))) (size 4 (laterDimension kind) q) (p + 1) out

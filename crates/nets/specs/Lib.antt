@@ -1,6 +1,7 @@
 pub mod Rows
 pub mod Levels
 pub mod Flips
+pub mod Parts
 pub mod Coordinates
 pub mod FirstNet
 pub mod Calls

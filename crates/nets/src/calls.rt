@@ -1,19 +1,36 @@
 // Calls on a net: what is refused of them, and what they do. The functions here get the part of the lent
 // places that holds the entries, beside kind and degrees.
 ghost use mathlib.Core.Path.{_≡_};
-ghost use Prim.Native.Nat.{ℕ, _≤_};
+ghost use Prim.Native.Nat.{ℕ, _*_, _≤_};
 ghost use mathlib.Core.List.{[], _∷_};
 ghost use lib.IntN.{pos};
 ghost use lib.ListN.{length, getD};
 ghost use Rattle.integers.specs.Test.{all};
 ghost use Rattle.projection.specs.Projection.{isZero};
 ghost use Rattle.entries.specs.Rows.{size};
-ghost use Rattle.kinds.specs.Kinds.{group};
-ghost use Rattle.machine.specs.Refusals.{firstFailed};
+ghost use Rattle.kinds.specs.Kinds.{group, groupsOf, dimensionOf};
+ghost use Rattle.machine.specs.Refusals.{_else_, firstFailed};
 ghost use Rattle.machine.specs.Calls.{weightList, beforeSize};
 ghost use Rattle.machine.specs.Nets.{handedTests};
 ghost use Rattle.nets.specs.Levels.{Descends, Replaces};
-ghost use Rattle.nets.specs.Calls.{netFrom, weightsFit, InOrder, Stepped, Pointed};
+ghost use Rattle.nets.specs.Flips.{flippedList};
+ghost use Rattle.nets.specs.Parts.{
+  inParts,
+  PartsReplaced,
+  ReplacesParts,
+  AllOrNone,
+  PartsFlipped,
+};
+ghost use Rattle.nets.specs.Calls.{
+  netFrom,
+  weightsFit,
+  InOrder,
+  Stepped,
+  laterWeights,
+  LaterDescends,
+  LaterDescended,
+  Pointed,
+};
 use crate::flips::flip_entries;
 use crate::levels::descend;
 use crate::levels::rename;
@@ -26,6 +43,8 @@ use integers::all_within;
 use integers::is_within;
 use kinds::dimension_of;
 use kinds::known_kind;
+use kinds::later_count;
+use kinds::later_dimension;
 use kinds::number_count;
 use machine::Call;
 use machine::Weights;
@@ -138,6 +157,68 @@ fn judge_point(dimension: usize, weights: Weights) -> u8
     0
 }
 
+// What is refused of a move for its own arguments: it is judged in the group of its vertex. Where there is a
+// second group, the first has two vertices.
+fn judge_vertex(kind: u8, operation: u8, vertex: u8, weights: Weights) -> u8
+    requires { ⌜ 1 ≤ dimensionOf kind ⌝ }
+    ensures { λ k. ⌜ ((p q : ℕ) → k ≡ firstFailed (beforeSize (groupsOf kind p q) (Call.Move operation vertex weights))) ⌝ }
+{
+    let later = later_dimension(kind);
+    if later == 0 {
+        return judge_move(dimension_of(kind), operation, vertex, weights);
+    }
+    if vertex <= 2 {
+        return judge_move(dimension_of(kind), operation, vertex, weights);
+    }
+    judge_move(later, operation, vertex - 2, weights)
+}
+
+// Whether two numbers are both 0.
+fn both_zero(a: i64, b: i64) -> bool
+    ensures { λ z. ⌜ z ≡ all isZero (a ∷ b ∷ []) ⌝ }
+{
+    if a != 0 {
+        return false;
+    }
+    b == 0
+}
+
+// What is refused of a point for its own weights, on a net of two groups of two vertices.
+fn judge_pairs(weights: Weights) -> u8
+    ensures { λ k. ⌜ ((p q : ℕ) → k ≡ firstFailed (beforeSize (group 1 p ∷ group 1 q ∷ []) (Call.Point weights))) ⌝ }
+{
+    if !is_within(weights.r, WEIGHT) {
+        return 8;
+    }
+    if !is_within(weights.s, WEIGHT) {
+        return 8;
+    }
+    if !is_within(weights.t, WEIGHT) {
+        return 8;
+    }
+    if !is_within(weights.u, WEIGHT) {
+        return 8;
+    }
+    if both_zero(weights.r, weights.s) {
+        return 9;
+    }
+    if both_zero(weights.t, weights.u) {
+        return 9;
+    }
+    0
+}
+
+// What is refused of a point for its own weights.
+fn judge_weights(kind: u8, weights: Weights) -> u8
+    requires { ⌜ 1 ≤ dimensionOf kind ⌝ }
+    ensures { λ k. ⌜ ((p q : ℕ) → k ≡ firstFailed (beforeSize (groupsOf kind p q) (Call.Point weights))) ⌝ }
+{
+    if later_dimension(kind) == 0 {
+        return judge_point(dimension_of(kind), weights);
+    }
+    judge_pairs(weights)
+}
+
 // What is refused of a handed net before the call is looked at.
 fn judge_net(entries: &[i64], kind: u8, degree: u8, second: u8) -> u8
     requires { ⌜ length (now entries) ≡ 180 ⌝ }
@@ -157,7 +238,7 @@ fn judge_net(entries: &[i64], kind: u8, degree: u8, second: u8) -> u8
 
 // Replaces a vertex, counted from 0, by the point q that the weights name, or leaves the rows as they are
 // where a named polar value is out of range. The work is done in a room, where the vertex comes first.
-pub(crate) fn replace_in(
+pub(crate) fn replace_rows(
     room: &mut [i64],
     entries: &mut [i64],
     dimension: usize,
@@ -170,21 +251,57 @@ pub(crate) fn replace_in(
     ensures { λ b. ⌜ Replaces width dimension degree (weightList weights) vertex (now (entries .entry)) b (now (entries .exit)) ⌝ }
 {
     rename(&mut *room, entries, dimension, vertex, degree, width);
-    if !descend(
-        &mut *room,
-        dimension,
-        degree,
-        width,
-        renamed_weights(vertex, weights),
-    ) {
+    let renamed = renamed_weights(vertex, weights);
+    if !descend(&mut *room, dimension, degree, width, renamed) {
         return false;
     }
     rename(entries, room, dimension, vertex, degree, width);
     true
 }
 
+// The same in rows of four numbers. It is said a second time for the compiler, which then knows their width
+// throughout: the rows of every net of one group are such.
+pub(crate) fn replace_in(
+    room: &mut [i64],
+    entries: &mut [i64],
+    dimension: usize,
+    vertex: usize,
+    degree: usize,
+    weights: Weights,
+) -> bool
+    requires { ⌜ Descends 4 dimension degree weights (now entries) × (vertex ≤ dimension) × (size 4 dimension degree ≤ length (now room)) ⌝ }
+    ensures { λ b. ⌜ Replaces 4 dimension degree (weightList weights) vertex (now (entries .entry)) b (now (entries .exit)) ⌝ }
+{
+    rename(&mut *room, entries, dimension, vertex, degree, 4);
+    let renamed = renamed_weights(vertex, weights);
+    if !descend(&mut *room, dimension, degree, 4, renamed) {
+        return false;
+    }
+    rename(entries, room, dimension, vertex, degree, 4);
+    true
+}
+
 // The same in a room of its own: a small one where it is enough, which takes less time to clear.
-pub(crate) fn replace_entries(
+pub(crate) fn replace_four(
+    entries: &mut [i64],
+    dimension: usize,
+    vertex: usize,
+    degree: usize,
+    weights: Weights,
+) -> bool
+    requires { ⌜ Descends 4 dimension degree weights (now entries) × (vertex ≤ dimension) ⌝ }
+    ensures { λ b. ⌜ Replaces 4 dimension degree (weightList weights) vertex (now (entries .entry)) b (now (entries .exit)) ⌝ }
+{
+    if numbers(dimension, degree, 4) <= FEW {
+        let mut room = [0; FEW];
+        return replace_in(&mut room, entries, dimension, vertex, degree, weights);
+    }
+    let mut room = [0; PLACES];
+    replace_in(&mut room, entries, dimension, vertex, degree, weights)
+}
+
+// The same in rows of any width.
+pub(crate) fn replace_wide(
     entries: &mut [i64],
     dimension: usize,
     vertex: usize,
@@ -197,7 +314,7 @@ pub(crate) fn replace_entries(
 {
     if numbers(dimension, degree, width) <= FEW {
         let mut room = [0; FEW];
-        return replace_in(
+        return replace_rows(
             &mut room,
             entries,
             dimension,
@@ -208,7 +325,7 @@ pub(crate) fn replace_entries(
         );
     }
     let mut room = [0; PLACES];
-    replace_in(
+    replace_rows(
         &mut room,
         entries,
         dimension,
@@ -219,8 +336,220 @@ pub(crate) fn replace_entries(
     )
 }
 
-// What a move that is not refused for its own arguments does: the number 10, or 0 and the move made. A net
-// of one group has rows of four numbers.
+// The same, by the width.
+pub(crate) fn replace_entries(
+    entries: &mut [i64],
+    dimension: usize,
+    vertex: usize,
+    degree: usize,
+    width: usize,
+    weights: Weights,
+) -> bool
+    requires { ⌜ Descends width dimension degree weights (now entries) × (vertex ≤ dimension) ⌝ }
+    ensures { λ b. ⌜ Replaces width dimension degree (weightList weights) vertex (now (entries .entry)) b (now (entries .exit)) ⌝ }
+{
+    if width == 4 {
+        return replace_four(entries, dimension, vertex, degree, weights);
+    }
+    replace_wide(entries, dimension, vertex, degree, width, weights)
+}
+
+// Replaces a vertex of the second group in each part of the numbers that one entry of the first group has,
+// one part after the other, until a named polar value is out of range. Numbers past the parts stay.
+pub(crate) fn replace_parts(
+    work: &mut [i64],
+    entries: &mut [i64],
+    parts: usize,
+    dimension: usize,
+    vertex: usize,
+    degree: usize,
+    weights: Weights,
+) -> bool
+    requires { ⌜ PartsReplaced dimension degree vertex parts weights (now entries) × (size 4 dimension degree ≤ length (now work)) ⌝ }
+    ensures { λ b. ⌜ ReplacesParts dimension degree (weightList weights) vertex parts (now (entries .entry)) b (now (entries .exit)) ⌝ }
+{
+    let length = numbers(dimension, degree, 4);
+    let mut k = 0;
+    while k < parts {
+        let from = length * k;
+        if !replace_in(
+            &mut *work,
+            &mut entries[from..from + length],
+            dimension,
+            vertex,
+            degree,
+            weights,
+        ) {
+            return false;
+        }
+        k += 1;
+    }
+    true
+}
+
+// The same, or nothing at all where a named polar value is out of range: the numbers are saved and put back.
+pub(crate) fn replace_saved(
+    saved: &mut [i64],
+    entries: &mut [i64],
+    parts: usize,
+    dimension: usize,
+    vertex: usize,
+    degree: usize,
+    weights: Weights,
+) -> bool
+    requires { ⌜ PartsReplaced dimension degree vertex parts weights (now entries) × (size 4 dimension degree ≤ 24) × (size 4 dimension degree * parts ≤ length (now saved)) ⌝ }
+    ensures { λ b. ⌜ AllOrNone dimension degree (weightList weights) vertex parts (now (entries .entry)) b (now (entries .exit)) ⌝ }
+{
+    let count = numbers(dimension, degree, 4) * parts;
+    copy(&mut *saved, entries, count);
+    let mut work = [0; FEW];
+    if replace_parts(
+        &mut work,
+        &mut *entries,
+        parts,
+        dimension,
+        vertex,
+        degree,
+        weights,
+    ) {
+        return true;
+    }
+    copy(entries, saved, count);
+    false
+}
+
+// The same in a room of its own: a small one where it is enough.
+pub(crate) fn replace_later(
+    entries: &mut [i64],
+    parts: usize,
+    dimension: usize,
+    vertex: usize,
+    degree: usize,
+    weights: Weights,
+) -> bool
+    requires { ⌜ PartsReplaced dimension degree vertex parts weights (now entries) × (size 4 dimension degree ≤ 24) ⌝ }
+    ensures { λ b. ⌜ AllOrNone dimension degree (weightList weights) vertex parts (now (entries .entry)) b (now (entries .exit)) ⌝ }
+{
+    if numbers(dimension, degree, 4) * parts <= FEW {
+        let mut saved = [0; FEW];
+        return replace_saved(
+            &mut saved,
+            entries,
+            parts,
+            dimension,
+            vertex,
+            degree,
+            weights,
+        );
+    }
+    let mut saved = [0; PLACES];
+    replace_saved(
+        &mut saved,
+        entries,
+        parts,
+        dimension,
+        vertex,
+        degree,
+        weights,
+    )
+}
+
+// Flips a vertex of the second group in each part of the numbers that one entry of the first group has.
+pub(crate) fn flip_parts(
+    entries: &mut [i64],
+    parts: usize,
+    dimension: usize,
+    vertex: usize,
+    degree: usize,
+)
+    requires { ⌜ PartsFlipped dimension degree vertex parts (now entries) ⌝ }
+    ensures { λ _. ⌜ now (entries .exit) ≡ inParts (flippedList 4 dimension degree vertex) (size 4 dimension degree) parts (now (entries .entry)) ⌝ }
+{
+    let length = numbers(dimension, degree, 4);
+    let mut k = 0;
+    while k < parts {
+        let from = length * k;
+        flip_entries(
+            &mut entries[from..from + length],
+            dimension,
+            vertex,
+            degree,
+            4,
+        );
+        k += 1;
+    }
+}
+
+// The number of a replace whose named polar values are all in range, or are not.
+fn size_number(in_range: bool) -> u8
+    ensures { λ k. ⌜ k ≡ firstFailed (in_range else 10 ∷ []) ⌝ }
+{
+    if in_range {
+        return 0;
+    }
+    10
+}
+
+// What a replace that is not refused for its own arguments does: the number 10, or 0 and the vertex replaced.
+// Seen from the first group, a net has a row of the later groups' numbers for each entry.
+pub(crate) fn replace_vertex(
+    entries: &mut [i64],
+    kind: u8,
+    degree: u8,
+    second: u8,
+    operation: u8,
+    vertex: u8,
+    weights: Weights,
+) -> u8
+    requires { ⌜ InOrder kind degree second (now entries) (Call.Move operation vertex weights) × (operation ≡ 1) ⌝ }
+    ensures { λ k. ⌜ Stepped (netFrom kind degree second (now (entries .entry))) (Call.Move operation vertex weights) k (now (entries .entry)) (now (entries .exit)) ⌝ }
+{
+    let n = dimension_of(kind);
+    let m = degree as usize;
+    let v = vertex as usize - 1;
+    if v <= n {
+        return size_number(replace_entries(entries, n, v, m, later_count(kind, second), weights));
+    }
+    size_number(replace_later(
+        entries,
+        m + 1,
+        later_dimension(kind),
+        v - 2,
+        second as usize,
+        weights,
+    ))
+}
+
+// What a flip that is not refused for its own arguments does.
+pub(crate) fn flip_vertex(
+    entries: &mut [i64],
+    kind: u8,
+    degree: u8,
+    second: u8,
+    operation: u8,
+    vertex: u8,
+    weights: Weights,
+)
+    requires { ⌜ InOrder kind degree second (now entries) (Call.Move operation vertex weights) × (operation ≡ 1 → ⊥) ⌝ }
+    ensures { λ _. ⌜ Stepped (netFrom kind degree second (now (entries .entry))) (Call.Move operation vertex weights) 0 (now (entries .entry)) (now (entries .exit)) ⌝ }
+{
+    let n = dimension_of(kind);
+    let m = degree as usize;
+    let v = vertex as usize - 1;
+    if v <= n {
+        flip_entries(entries, n, v, m, later_count(kind, second));
+        return;
+    }
+    flip_parts(
+        entries,
+        m + 1,
+        later_dimension(kind),
+        v - 2,
+        second as usize,
+    );
+}
+
+// What a move that is not refused for its own arguments does: the number 10, or 0 and the move made.
 pub(crate) fn make_move(
     entries: &mut [i64],
     kind: u8,
@@ -233,16 +562,10 @@ pub(crate) fn make_move(
     requires { ⌜ InOrder kind degree second (now entries) (Call.Move operation vertex weights) ⌝ }
     ensures { λ k. ⌜ Stepped (netFrom kind degree second (now (entries .entry))) (Call.Move operation vertex weights) k (now (entries .entry)) (now (entries .exit)) ⌝ }
 {
-    let n = dimension_of(kind);
-    let m = degree as usize;
-    let v = vertex as usize - 1;
     if operation == 1 {
-        if replace_entries(entries, n, v, m, 4, weights) {
-            return 0;
-        }
-        return 10;
+        return replace_vertex(entries, kind, degree, second, operation, vertex, weights);
     }
-    flip_entries(entries, n, v, m, 4);
+    flip_vertex(entries, kind, degree, second, operation, vertex, weights);
     0
 }
 
@@ -263,14 +586,40 @@ pub(crate) fn judge_and_move(
     if refusal != 0 {
         return refusal;
     }
-    let number = judge_move(dimension_of(kind), operation, vertex, weights);
+    let number = judge_vertex(kind, operation, vertex, weights);
     if number != 0 {
         return number;
     }
     make_move(entries, kind, degree, second, operation, vertex, weights)
 }
 
-// The point that weights name which are not refused: 10, or 0 and its four numbers in `found`.
+// The weights of the second of two groups of two vertices.
+fn later_weights(weights: Weights) -> Weights
+    ensures { λ r. ⌜ weightList r ≡ laterWeights weights ⌝ }
+{
+    Weights {
+        r: weights.t,
+        s: weights.u,
+        t: 0,
+        u: 0,
+    }
+}
+
+// Goes down the second group's levels in place, on the row that the first group's levels left; where there
+// is no second group nothing is done.
+fn descend_later(cur: &mut [i64], kind: u8, second: u8, weights: Weights) -> bool
+    requires { ⌜ LaterDescends kind second weights (now cur) ⌝ }
+    ensures { λ b. ⌜ LaterDescended kind second weights (now (cur .entry)) b (now (cur .exit)) ⌝ }
+{
+    let later = later_dimension(kind);
+    if later == 0 {
+        return true;
+    }
+    descend(cur, later, second as usize, 4, later_weights(weights))
+}
+
+// The point that weights name which are not refused: the first group's levels, and then the second group's on
+// the one row that they leave. The answer is 10, or 0 and its four numbers in `found`.
 pub(crate) fn make_point(
     entries: &[i64],
     kind: u8,
@@ -282,11 +631,18 @@ pub(crate) fn make_point(
     requires { ⌜ InOrder kind degree second (now entries) (Call.Point weights) × (4 ≤ length (now found)) ⌝ }
     ensures { λ k. ⌜ Pointed (netFrom kind degree second (now (entries .entry))) (Call.Point weights) k (now (found .entry)) (now (found .exit)) ⌝ }
 {
-    let n = dimension_of(kind);
-    let m = degree as usize;
     let mut cur = [0; PLACES];
     copy(&mut cur, entries, number_count(kind, degree, second));
-    if !descend(&mut cur, n, m, 4, weights) {
+    if !descend(
+        &mut cur,
+        dimension_of(kind),
+        degree as usize,
+        later_count(kind, second),
+        weights,
+    ) {
+        return 10;
+    }
+    if !descend_later(&mut cur, kind, second, weights) {
         return 10;
     }
     copy(found, &cur, 4);
@@ -309,7 +665,7 @@ pub(crate) fn judge_and_point(
     if refusal != 0 {
         return refusal;
     }
-    let number = judge_point(dimension_of(kind), weights);
+    let number = judge_weights(kind, weights);
     if number != 0 {
         return number;
     }

@@ -1,5 +1,5 @@
-// The net of one group over the frame of the coordinates: each entry is the coefficient of its monomial,
-// times L divided by the multinomial of the monomial.
+// One group's net over the frame of the coordinates: each entry is the coefficient of its monomial, times L
+// divided by the multinomial of the monomial. Coefficients and entries are rows of `width` numbers.
 ghost use mathlib.Core.Path.{_≡_};
 ghost use Prim.Native.Nat.{_+_, _*_, _-_, _/_, _<_, _≤_};
 ghost use lib.IntN.{pos, natAbs, _*ℤ_};
@@ -11,7 +11,7 @@ ghost use Rattle.entries.specs.Rows.{size};
 ghost use Rattle.nets.specs.Rows.{placeAt, written};
 ghost use Rattle.nets.specs.Coordinates.{
   exponentsAt,
-  CoefficientsIn,
+  NoneBeyond,
   Limited,
   coordinateAt,
   Coordinates,
@@ -20,18 +20,24 @@ use crate::levels::next_row;
 use crate::levels::next_third;
 use crate::rows::place;
 
-// k!, for k from 0 to 10.
+// k!, for k from 0 to 10: each is read off, which takes less time than the product.
 pub(crate) fn factorial_of(k: usize) -> u64
     requires { ⌜ k ≤ 10 ⌝ }
     ensures { λ r. ⌜ r ≡ factorial k ⌝ }
 {
-    let mut product = 1;
-    let mut i = 0;
-    while i < k {
-        i += 1;
-        product = product * i as u64;
+    match k {
+        0 => 1,
+        1 => 1,
+        2 => 2,
+        3 => 6,
+        4 => 24,
+        5 => 120,
+        6 => 720,
+        7 => 5040,
+        8 => 40320,
+        9 => 362880,
+        _ => 3628800,
     }
-    product
 }
 
 // ---- scaled coefficients
@@ -68,24 +74,51 @@ pub(crate) fn monomial_place(dimension: usize, degree: usize, h: usize, l: usize
 
 // One scaled coefficient.
 pub(crate) fn scaled(a: i64, factor: i64) -> i64
-    requires { ⌜ (natAbs a ≤ 1048576) × (natAbs factor ≤ 2520) ⌝ }
+    requires { ⌜ (natAbs a ≤ 281474976710656) × (natAbs factor ≤ 2520) ⌝ }
     ensures { λ r. ⌜ r ≡ a *ℤ factor ⌝ }
 {
     a * factor
 }
 
-// Puts the four numbers of a monomial, scaled, into the place of an entry.
-pub(crate) fn put_scaled(out: &mut [i64], to: usize, coefficients: &[i64], from: usize, factor: i64)
-    requires { ⌜ (4 * to + 4 ≤ length (now out)) × (4 * from + 4 ≤ length (now coefficients)) × (natAbs factor ≤ 2520) × CoefficientsIn (now coefficients) (4 * from) (4 * from + 4) ⌝ }
-    ensures { λ _. ⌜ now (out .exit) ≡ written (now (out .entry)) (4 * to) 4 (λ i. getD (now (coefficients .entry)) (4 * from + (i - 4 * to)) (pos 0) *ℤ factor) ⌝ }
+// Puts the numbers of a row, scaled, into another place.
+pub(crate) fn scale_numbers(
+    out: &mut [i64],
+    to: usize,
+    coefficients: &[i64],
+    from: usize,
+    width: usize,
+    factor: i64,
+)
+    requires { ⌜ (width * to + width ≤ length (now out)) × (width * from + width ≤ length (now coefficients)) × (natAbs factor ≤ 2520) × NoneBeyond 281474976710656 (width * from + width) (now coefficients) ⌝ }
+    ensures { λ _. ⌜ now (out .exit) ≡ written (now (out .entry)) (width * to) width (λ i. getD (now (coefficients .entry)) (width * from + (i - width * to)) (pos 0) *ℤ factor) ⌝ }
 {
-    let p = 4 * to;
-    let q = 4 * from;
+    let p = width * to;
+    let q = width * from;
     let mut c = 0;
-    while c < 4 {
+    while c < width {
         out[p + c] = scaled(coefficients[q + c], factor);
         c += 1;
     }
+}
+
+// Puts the numbers of a monomial, scaled, into the place of an entry. Where they are four, the compiler is
+// told so.
+pub(crate) fn put_scaled(
+    out: &mut [i64],
+    to: usize,
+    coefficients: &[i64],
+    from: usize,
+    width: usize,
+    factor: i64,
+)
+    requires { ⌜ (width * to + width ≤ length (now out)) × (width * from + width ≤ length (now coefficients)) × (natAbs factor ≤ 2520) × NoneBeyond 281474976710656 (width * from + width) (now coefficients) ⌝ }
+    ensures { λ _. ⌜ now (out .exit) ≡ written (now (out .entry)) (width * to) width (λ i. getD (now (coefficients .entry)) (width * from + (i - width * to)) (pos 0) *ℤ factor) ⌝ }
+{
+    if width == 4 {
+        scale_numbers(out, to, coefficients, from, 4, factor);
+        return;
+    }
+    scale_numbers(out, to, coefficients, from, width, factor);
 }
 
 // ---- the net over the frame of the coordinates
@@ -96,18 +129,19 @@ pub(crate) fn put_entry(
     all: u64,
     dimension: usize,
     degree: usize,
+    width: usize,
     coefficients: &[i64],
     i: usize,
     k: usize,
 )
-    requires { ⌜ Limited dimension degree (now coefficients) × (all ≡ scale dimension degree) × (size 4 dimension degree ≤ length (now out)) × (i ≤ degree) × (k ≤ (dimension - 1) * i) ⌝ }
-    ensures { λ _. ⌜ now (out .exit) ≡ written (now (out .entry)) (4 * placeAt dimension i k) 4 (coordinateAt dimension degree (now (coefficients .entry))) ⌝ }
+    requires { ⌜ Limited width dimension degree (now coefficients) × (all ≡ scale dimension degree) × (size width dimension degree ≤ length (now out)) × (i ≤ degree) × (k ≤ (dimension - 1) * i) ⌝ }
+    ensures { λ _. ⌜ now (out .exit) ≡ written (now (out .entry)) (width * placeAt dimension i k) width (coordinateAt width dimension degree (now (coefficients .entry))) ⌝ }
 {
     let to = place(dimension, i, k);
     let h = i - k;
     let from = monomial_place(dimension, degree, h, k);
     let times = factor(all, dimension, degree, h, k);
-    put_scaled(out, to, coefficients, from, times);
+    put_scaled(out, to, coefficients, from, width, times);
 }
 
 // All entries of the net over the frame of the coordinates; `all` is the scale.
@@ -116,15 +150,16 @@ pub(crate) fn coordinate_numbers(
     all: u64,
     dimension: usize,
     degree: usize,
+    width: usize,
     coefficients: &[i64],
 )
-    requires { ⌜ Limited dimension degree (now coefficients) × (all ≡ scale dimension degree) × (size 4 dimension degree ≤ length (now out)) ⌝ }
-    ensures { λ _. ⌜ Coordinates dimension degree (now (coefficients .entry)) (now (out .exit)) × (length (now (out .exit)) ≡ length (now (out .entry))) ⌝ }
+    requires { ⌜ Limited width dimension degree (now coefficients) × (all ≡ scale dimension degree) × (size width dimension degree ≤ length (now out)) ⌝ }
+    ensures { λ _. ⌜ Coordinates width dimension degree (now (coefficients .entry)) (now (out .exit)) × (length (now (out .exit)) ≡ length (now (out .entry))) ⌝ }
 {
     let mut i = 0;
     let mut k = 0;
     while i <= degree {
-        put_entry(&mut *out, all, dimension, degree, coefficients, i, k);
+        put_entry(&mut *out, all, dimension, degree, width, coefficients, i, k);
         let row = next_row(dimension, i, k);
         k = next_third(dimension, i, k);
         i = row;

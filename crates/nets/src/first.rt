@@ -12,6 +12,7 @@ ghost use Rattle.machine.specs.Refusals.{firstFailed};
 ghost use Rattle.machine.specs.Nets.{netInRange};
 ghost use Rattle.machine.specs.First.{firstNet};
 ghost use Rattle.machine.specs.Lent.{putAt, polynomialsFrom};
+ghost use Rattle.entries.specs.Rows.{size};
 ghost use Rattle.nets.specs.Rows.{Sized, blended, level};
 ghost use Rattle.nets.specs.FirstNet.{
   Room,
@@ -21,7 +22,15 @@ ghost use Rattle.nets.specs.FirstNet.{
   EntryPut,
   RowPut,
   NetPut,
+  Framing,
+  Spare,
+  PartsFramed,
+  LaterFraming,
+  LaterFramed,
+  framed,
+  framedList,
 };
+ghost use Rattle.nets.specs.Parts.{inParts};
 ghost use Rattle.nets.specs.Calls.{beforeFirst, FirstAsked, Rooms};
 use crate::coordinates::coordinate_numbers;
 use crate::levels::copy_row;
@@ -35,9 +44,11 @@ use crate::rows::place;
 use integers::all_within;
 use kinds::dimension_of;
 use kinds::frame_allowed;
+use kinds::group_scale;
 use kinds::known_kind;
+use kinds::later_count;
+use kinds::later_dimension;
 use kinds::number_count;
-use kinds::scale;
 use machine::Weights;
 
 // No step is refused here: what fits 64 bits is within this limit. Only the entries made are judged.
@@ -221,9 +232,112 @@ pub(crate) fn judge_first(
     0
 }
 
+// Makes one group's net over its frame from the coefficients of polynomials, both in rows. The work is done in
+// three rooms.
+pub(crate) fn make_rows(
+    out: &mut [i64],
+    work: &mut [i64],
+    cur: &mut [i64],
+    base: &mut [i64],
+    dimension: usize,
+    degree: u8,
+    width: usize,
+    frame: &[i64],
+    coefficients: &[i64],
+)
+    requires { ⌜ Framing width dimension degree (now frame) (now coefficients) × Room width dimension degree (now out) × Spare width dimension degree (now work) (now cur) (now base) ⌝ }
+    ensures { λ _. ⌜ now (out .exit) ≡ framedList width dimension degree (now (frame .entry)) (now (coefficients .entry)) (now (out .entry)) ⌝ }
+{
+    let all = group_scale(dimension, degree);
+    let m = degree as usize;
+    coordinate_numbers(&mut *base, all, dimension, m, width, coefficients);
+    put_rows(out, work, cur, base, dimension, width, frame, m);
+}
+
+// The same in place: the entries of the net are put where the coefficients stood.
+pub(crate) fn make_part(
+    part: &mut [i64],
+    work: &mut [i64],
+    cur: &mut [i64],
+    base: &mut [i64],
+    dimension: usize,
+    degree: u8,
+    frame: &[i64],
+)
+    requires { ⌜ Framing 4 dimension degree (now frame) (now part) × Room 4 dimension degree (now part) × Spare 4 dimension degree (now work) (now cur) (now base) ⌝ }
+    ensures { λ _. ⌜ now (part .exit) ≡ framedList 4 dimension degree (now (frame .entry)) (now (part .entry)) (now (part .entry)) ⌝ }
+{
+    let all = group_scale(dimension, degree);
+    let m = degree as usize;
+    coordinate_numbers(&mut *base, all, dimension, m, 4, part);
+    put_rows(part, work, cur, base, dimension, 4, frame, m);
+}
+
+// The same in each of several parts.
+pub(crate) fn make_parts(
+    out: &mut [i64],
+    work: &mut [i64],
+    cur: &mut [i64],
+    base: &mut [i64],
+    parts: usize,
+    dimension: usize,
+    degree: u8,
+    frame: &[i64],
+)
+    requires { ⌜ PartsFramed dimension degree parts (now frame) (now out) × Spare 4 dimension degree (now work) (now cur) (now base) ⌝ }
+    ensures { λ _. ⌜ now (out .exit) ≡ inParts (framed 4 dimension degree (now (frame .entry))) (size 4 dimension degree) parts (now (out .entry)) ⌝ }
+{
+    let length = numbers(dimension, degree as usize, 4);
+    let mut k = 0;
+    while k < parts {
+        let from = length * k;
+        make_part(
+            &mut out[from..from + length],
+            &mut *work,
+            &mut *cur,
+            &mut *base,
+            dimension,
+            degree,
+            frame,
+        );
+        k += 1;
+    }
+}
+
+// The same for the second group, in each part of the numbers that one entry of the first group has; where
+// there is no second group nothing is done. Where there is one, the first group's frame has four numbers.
+pub(crate) fn make_later(
+    out: &mut [i64],
+    work: &mut [i64],
+    cur: &mut [i64],
+    base: &mut [i64],
+    kind: u8,
+    degree: u8,
+    second: u8,
+    frame: &[i64],
+)
+    requires { ⌜ LaterFraming kind degree second (now frame) (now out) (now work) (now cur) (now base) ⌝ }
+    ensures { λ _. ⌜ LaterFramed kind degree second (now (frame .entry)) (now (out .entry)) (now (out .exit)) ⌝ }
+{
+    let later = later_dimension(kind);
+    if later == 0 {
+        return;
+    }
+    make_parts(
+        out,
+        work,
+        cur,
+        base,
+        degree as usize + 1,
+        later,
+        second,
+        &frame[4..9],
+    );
+}
+
 // Makes the entries of the first net of accepted polynomials over an accepted frame, in the first of 180
-// places, and says whether they are in range. The work is done in three rooms. A net of one group has rows
-// of four numbers.
+// places, and says whether they are in range. The groups are gone through one after the other: the first
+// group's polar values are the coefficients of the second group's polynomials.
 pub(crate) fn make_in(
     work: &mut [i64],
     cur: &mut [i64],
@@ -239,11 +353,18 @@ pub(crate) fn make_in(
     ensures made { λ _. ⌜ now (out .exit) ≡ putAt 0 (firstNet (polynomialsFrom kind degree second (now (coefficients .entry))) (now (frame .entry)) .entries) (now (out .entry)) ⌝ }
     ensures range { λ b. ⌜ b ≡ netInRange (firstNet (polynomialsFrom kind degree second (now (coefficients .entry))) (now (frame .entry))) ⌝ }
 {
-    let n = dimension_of(kind);
-    let m = degree as usize;
-    let all = scale(kind, degree, second);
-    coordinate_numbers(&mut *base, all, n, m, coefficients);
-    put_rows(&mut *out, work, cur, base, n, 4, frame, m);
+    make_rows(
+        &mut *out,
+        &mut *work,
+        &mut *cur,
+        &mut *base,
+        dimension_of(kind),
+        degree,
+        later_count(kind, second),
+        frame,
+        coefficients,
+    );
+    make_later(&mut *out, work, cur, base, kind, degree, second, frame);
     let count = number_count(kind, degree, second);
     all_within(&out[0..count], LIMIT)
 }

@@ -137,8 +137,8 @@ module _ (s : List ℕ) (l : Layout) (e : readingOf s ≡ Accepted l) where
   sound : Sound s l
   sound = accepted-sound s l e
 
-  pub layout-known : known (l .kind) (l .degree) 0 ≡ true
-  layout-known = sound .degree
+  pub layout-known : known (l .kind) (l .degree) (l .second) ≡ true
+  layout-known = sound .degrees
 
   pub refusal-is : refusalIn s ≡ refusalAt (firstRefusal (polynomialsIn s) (numbersIn s)) (l .coefficients .field)
   unfolding refusalIn
@@ -155,7 +155,7 @@ module _ (s : List ℕ) (l : Layout) (e : readingOf s ≡ Accepted l) where
       ((λ i.
       let g = polynomials-are i in
       known (g .kind) (g .degree) (g .second) && (framesAllowed (groups g) (numbers-are i) && (all (within 1048576) (g .coefficients) && true)))
-      ∙ (λ i. sound .degree i && (sound .frameGood i && (sound .coefficientsGood i && true))))
+      ∙ (λ i. sound .degrees i && (sound .frameGood i && (sound .coefficientsGood i && true))))
 
   -- the first net as it was made
   module _ (lent left : List ℤ) (enough : wide lent ≡ true) (number : ℕ) (made : FirstMade l s lent number left) where

@@ -38,7 +38,7 @@ layoutRead s = layoutBy (readingOf s) s
 
 -- the polynomials by a layout: the coefficients stand in the part of the record where field 3's value begins
 abbrev pub polynomialsAt : Layout → List ℕ → Polynomials
-polynomialsAt l s = polynomialsOf (l .kind) (l .degree) (drop (l .coefficients .start) s)
+polynomialsAt l s = polynomialsOf (l .kind) (l .degree) (l .second) (drop (l .coefficients .start) s)
 
 unfoldable pub polynomialsIn : List ℕ → Polynomials
 polynomialsIn s = polynomialsAt (layoutRead s) s

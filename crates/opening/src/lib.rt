@@ -41,17 +41,18 @@ pub struct Opened {
 // Makes the first net of a record with this layout, or tells the number of the refusal. The coefficient
 // reader gets the part of the record that begins with field 3's value.
 fn make_first(input: &[u8], layout: Layout, net: &mut [i64]) -> u8
-    requires { ⌜ (wide (now net) ≡ true) × (known (layout .kind) (layout .degree) 0 ≡ true) ⌝ }
+    requires { ⌜ (wide (now net) ≡ true) × (known (layout .kind) (layout .degree) (layout .second) ≡ true) ⌝ }
     ensures { λ k. ⌜ FirstMade layout (now (input .entry)) (now (net .entry)) k (now (net .exit)) ⌝ }
 {
     let kind = layout.kind;
     let degree = layout.degree;
+    let second = layout.second;
     let frame = frame_numbers(value(input, layout.frame));
     let start = layout.coefficients.start;
-    let count = number_count(kind, degree, 0);
+    let count = number_count(kind, degree, second);
     let mut coefficients = [0i64; COEFFICIENTS];
     read_coefficients(part_from(input, start), &mut coefficients[0..count]);
-    first_net(net, kind, degree, 0, &frame, &coefficients)
+    first_net(net, kind, degree, second, &frame, &coefficients)
 }
 
 // A refusal of the first net, at an offset; none has offset 0.

@@ -4,7 +4,7 @@ use native.Mathlib.Omega.{arith}
 use mathlib.Core.Path.{_≡_, refl, sym, ap, _∙_, subst}
 use mathlib.Core.Bool.{Bool, _&&_}
 use mathlib.Core.Logic.{_⊎_, inl, inr}
-use mathlib.Core.List.{List, [], _∷_, map, List·Memᴰ, List·Memᴰ·head, List·Memᴰ·tail, List·Memᴰ·not-nil, List·Memᴰ·append-cases, List·Memᴰ·eq-of-singleton, Memᴰ·of-map}
+use mathlib.Core.List.{List, [], _∷_, _++_, map, append-assoc, List·Memᴰ, List·Memᴰ·head, List·Memᴰ·tail, List·Memᴰ·not-nil, List·Memᴰ·append-cases, List·Memᴰ·eq-of-singleton, Memᴰ·of-map}
 use lib.ListN.{length}
 use Rattle.integers.specs.Sum.{upto}
 use Rattle.integers.specs.Test.{all}
@@ -52,3 +52,8 @@ counts-total (suc n) m e h =
 pub all-joined : {A B : Type 0} (test : B → Bool) (f : A → List B) (xs : List A) → all test (joined f xs) ≡ all (λ x. all test (f x)) xs
 all-joined test f [] = refl
 all-joined test f (x ∷ xs) = all-append test (f x) (joined f xs) ∙ ap (λ b. all test (f x) && b) (all-joined test f xs)
+
+-- the lists of two lists one after the other
+pub joined-append : {A B : Type 0} (f : A → List B) (xs ys : List A) → joined f (xs ++ ys) ≡ joined f xs ++ joined f ys
+joined-append f [] ys = refl
+joined-append f (x ∷ xs) ys = ap (λ l. f x ++ l) (joined-append f xs ys) ∙ sym (append-assoc (f x) (joined f xs) (joined f ys))

@@ -43,7 +43,11 @@ powersOver (g ∷ gs) qs es =
 unfoldable pub valueOver : List Group → List Term → List Point → ℤ
 valueOver gs terms qs = sum (λ t. t .coefficient *ℤ powersOver gs qs (t .exponents)) terms
 
+-- the terms of column c of coefficients that stand in rows of w numbers, a row to a monomial
+abbrev pub columnTerms : ℕ → ℕ → List (List Exponents) → List ℤ → List Term
+columnTerms w c [] numbers = []
+columnTerms w c (e ∷ es) numbers = record { exponents = e; coefficient = getD numbers c (pos 0) } ∷ columnTerms w c es (drop w numbers)
+
 -- the terms of component c: the coefficients of a record stand four to a monomial, x, y, z, w
 abbrev pub terms : ℕ → List (List Exponents) → List ℤ → List Term
-terms c [] numbers = []
-terms c (e ∷ es) numbers = record { exponents = e; coefficient = getD numbers c (pos 0) } ∷ terms c es (drop 4 numbers)
+terms c es numbers = columnTerms 4 c es numbers

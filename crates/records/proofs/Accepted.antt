@@ -1,13 +1,13 @@
 -- What holds of an accepted record. The steps of the reader are followed back from the end: none was refused, so that what stands in each slot passed its tests.
-use mathlib.Core.Path.{_≡_, refl, sym, _∙_, ap, subst}
+use mathlib.Core.Path.{_≡_, refl, sym, _∙_, ap, ap₂, subst}
 use mathlib.Core.Bool.{Bool, true, false, cond}
 use mathlib.Core.List.{List, [], _∷_}
 use mathlib.Core.Logic.{_⊎_, inl, inr}
-use Prim.Native.Nat.{ℕ, _+_, _*_, _<_}
+use Prim.Native.Nat.{ℕ, _+_, _*_}
 use native.Mathlib.Omega.{arith}
 use borrow.Author.Tests.{eqb-true}
-use lib.ListN.{length, getD, take, drop}
-use lib.Seq.{getD-take, getD-drop}
+use lib.ListN.{length, getD, take, drop, length-drop}
+use lib.Seq.{length-take-le}
 use lib.Dec.{eqb, ltb}
 use Rattle.integers.specs.Test.{within, all}
 use Rattle.integers.proofs.All.{clash, and-parts}
@@ -16,9 +16,9 @@ use Rattle.kinds.specs.Frames.{framesAllowed}
 use Rattle.machine.proofs.Refusals.{none-failed}
 use Rattle.bytes.specs.Numbers.{frameNumbers, coefficientsOf}
 use Rattle.bytes.proofs.Numbers.{coefficients-of-value}
-use Rattle.records.specs.Table.{tagOf, tagsIn, required, headGroups, frameLength, coefficientCount, coefficientsLength, pointLength, movesLengthAllowed, polynomialsOf, fieldRow}
+use Rattle.records.specs.Table.{tagOf, tagsIn, required, headGroups, headLength, headAllowed, frameLength, coefficientCount, coefficientsLength, pointLength, movesLengthAllowed, polynomialsOf, fieldRow}
 use Rattle.machine.specs.Refusals.{_else_, firstFailed, numbered}
-use Rattle.records.specs.Reading.{left, bytesAt, headOf, tagAmong, isTag, standing, missingNumber, endExtent, extentAt, extentIn, extentAmong, noFields, bytesOf, Inside, stay, readStanding, readSlot, readEnd, layoutWith, concluded, readingOf}
+use Rattle.records.specs.Reading.{left, lengthAt, bytesAt, headOf, tagAmong, isTag, standing, missingNumber, endExtent, extentAt, extentIn, extentAmong, noFields, bytesOf, Inside, stay, readStanding, readSlot, readEnd, layoutWith, concluded, readingOf}
 use Rattle.records.specs.Causes.{Sound}
 use Rattle.records.specs.declared.Extent.{Extent}
 use Rattle.records.specs.declared.Layout.{Layout}
@@ -37,6 +37,7 @@ use Rattle.records.proofs.Slots.Stepped.{took, fell, lacked, skipped}
 -- the extent is that of a field, which passed its tests
 record Filled (tag : Tag) (s : List ℕ) (e : Extent) : Type 0 where
   starts : e .start ≡ e .field + 3
+  ends : e .length ≡ lengthAt s (e .field)
   long : fieldRow tag .lengthAllowed (headOf s) (e .length) ≡ true
   room : Inside s e
   good : firstFailed (fieldRow tag .tests (headOf s) (bytesOf e s)) ≡ 0
@@ -52,7 +53,7 @@ went {slot} {s} {at} (took {tag = tag} h k is) z =
     let tests = field-passes tag (headOf s) s at k in
     let there = stands-there slot s at h in
     subst (λ (y : Progress). Went slot s at (y .extent)) (sym is)
-    (filled h refl (record { starts = refl; long = tests .long; room = omega arith; good = tests .good }))
+    (filled h refl (record { starts = refl; ends = refl; long = tests .long; room = omega arith; good = tests .good }))
 went (fell h k is) z = absurd (k (sym (ap (λ (y : Progress). y .number) is) ∙ z))
 went {s = s} {at = at} (lacked h q is) z = absurd (missing-refused s at (sym (ap (λ (y : Progress). y .number) is) ∙ z))
 went (skipped h q is) z = empty q (ap (λ (y : Progress). y .extent) is)
@@ -95,18 +96,21 @@ back slot s before z =
 passed : (b : Bool) (k : ℕ) → numbered (b else k ∷ []) ≡ true → firstFailed (b else k ∷ []) ≡ 0 → b ≡ true
 passed b k n e = and-parts b true (none-failed (b else k ∷ []) n .0 e) .0
 
-head-known : {s : List ℕ} {e : Extent} → e .field ≡ 0 → Filled Kind s e → known (getD s 3 0) (getD s 4 0) 0 ≡ true
-head-known {s} {e} first h = (λ i. known (sym (byte 0 (omega arith)) i) (sym (byte 1 (omega arith)) i) 0) ∙ passed (known (getD (bytesOf e s) 0 0) (getD (bytesOf e s) 1 0) 0) 4 refl (h .good)
-  where
-    byte : (k : ℕ) → k < 2 → getD (bytesOf e s) k 0 ≡ getD s (3 + k) 0
-    byte k b =
-        let two = eqb-true (e .length) 2 (h .long) in
-        let from : e .start + k ≡ 3 + k = omega (arith, h .starts) in
-        getD-take (e .length) (drop (e .start) s) k 0 (omega arith) ∙ getD-drop (e .start) s k 0 ∙ ap (λ j. getD s j 0) from
+-- field 1 begins at 0, so that its value is what the head is read from
+head-right : {s : List ℕ} {e : Extent} → e .field ≡ 0 → Filled Kind s e
+    → (known (headOf s .kind) (headOf s .degree) (headOf s .second) ≡ true) × (e .length ≡ headLength (headGroups (headOf s)))
+unfolding headOf bytesAt
+head-right {s} {e} first h =
+    let value : bytesOf e s ≡ bytesAt s 0 = ap₂ (λ n k. take n (drop k s)) (h .ends ∙ ap (lengthAt s) first) (h .starts ∙ ap (λ k. k + 3) first) in
+    let long : length (bytesOf e s) ≡ e .length = length-take-le (e .length) (drop (e .start) s) (simp length-drop (omega (arith, h .room))) in
+    let parts =
+    and-parts (known (headOf s .kind) (headOf s .degree) (headOf s .second)) (eqb (length (bytesAt s 0)) (headLength (headGroups (headOf s))))
+    (ap headAllowed (sym value) ∙ passed (headAllowed (bytesOf e s)) 4 refl (h .good)) in
+    (parts .0, sym long ∙ ap length value ∙ eqb-true (length (bytesAt s 0)) (headLength (headGroups (headOf s))) (parts .1))
 
 -- the coefficients of field 3's value are those of the part that begins with it
 coefficients-in : {s : List ℕ} {e : Extent} → Filled Coefficients s e
-    → all (within 1048576) (polynomialsOf (headOf s .kind) (headOf s .degree) (drop (e .start) s) .coefficients) ≡ true
+    → all (within 1048576) (polynomialsOf (headOf s .kind) (headOf s .degree) (headOf s .second) (drop (e .start) s) .coefficients) ≡ true
 coefficients-in {s} {e} h =
     let count = coefficientCount (headGroups (headOf s)) in
     let long : e .length ≡ 4 * count = omega (arith, eqb-true (e .length) (coefficientsLength (headGroups (headOf s))) (h .long)) in
@@ -142,11 +146,13 @@ module _ (s : List ℕ) where
       let three = back Third s step2 (four .0) in
       let two = back Second s step1 (three .0) in
       let one = back First s (stay 0 s 0) (two .0) in
-      let head = must refl (one .1) in
+      let first = must refl (one .1) in
+      let head = head-right (first .0) (first .1) in
       let frame = must refl (two .1) .1 in
       let coefficients = must refl (three .1) .1 in
       record {
-        degree = head-known (head .0) (head .1);
+        degrees = head .0;
+        headLong = head .1;
         frameLong = eqb-true (step2 .extent .length) (frameLength (headGroups (headOf s))) (frame .long);
         frameGood = passed (framesAllowed (headGroups (headOf s)) (frameNumbers (bytesOf (step2 .extent) s))) 5 refl (frame .good);
         coefficientsField = coefficients .starts;

@@ -202,7 +202,7 @@ module _ {s : List ℕ} {tag : Tag} {at : ℕ} (c : Comes s tag at) where
 
 -- what a reading tells: an accepted record is readSlot to its end, and a refused one has a cause
 abbrev Outcome : List ℕ → Reading → Type 0
-Outcome s (Accepted l) = Verdict s 0 (l .kind ∷ l .degree ∷ [])
+Outcome s (Accepted l) = Verdict s 0 (l .kind ∷ l .degree ∷ l .second ∷ [])
 Outcome s (Refused r) = Caused s (r .number) (r .offset)
 
 at-rest : {s : List ℕ} {at : ℕ} (e : Extent) (es : List Extent) → Begins s [] at → Outcome s (onward [] s (go at e) es)

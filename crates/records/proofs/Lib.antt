@@ -1,3 +1,4 @@
+pub mod Heads
 pub mod Slots
 pub mod Causes
 pub mod Accepted

@@ -1,4 +1,5 @@
--- Worked records: the circle's record (docs/RECORDS.md), whole, and a table of refusals, a line or more for each fieldRow of its table of causes. One computed test covers the table.
+-- Worked records: the circle's record (docs/RECORDS.md) and one of a rectangular patch, whole, and a table of refusals, a line or more for each row of the table of causes.
+-- One computed test covers the table.
 use mathlib.Core.Path.{_≡_, refl}
 use mathlib.Core.Bool.{Bool, true, false, _&&_}
 use mathlib.Core.List.{List, [], _∷_, _++_}
@@ -41,6 +42,7 @@ pub circle-read :
     (record {
       kind = 1;
       degree = 2;
+      second = 0;
       head = record { field = 0; start = 3; length = 2 };
       frame = record { field = 5; start = 8; length = 8 };
       coefficients = record { field = 16; start = 19; length = 48 };
@@ -49,6 +51,43 @@ pub circle-read :
     })
 unfolding readingOf framesAllowed frameAllowed frameNumbers frameOf monomialsOver monomials coefficientsOf
 circle-read = refl
+
+-- ---- fields of a rectangular patch, of degrees 1 and 2
+
+abbrev kinds : List ℕ
+kinds = 1 ∷ 0 ∷ 3 ∷ 3 ∷ 1 ∷ 2 ∷ []
+
+abbrev pair : List ℕ
+pair = 0 ∷ 0 ∷ 0 ∷ 1 ∷ 0 ∷ 1 ∷ 0 ∷ 1 ∷ []
+
+abbrev pairs : List ℕ
+pairs = 2 ∷ 0 ∷ 16 ∷ (pair ++ pair)
+
+-- six monomials
+abbrev products : List ℕ
+products = 3 ∷ 0 ∷ 96 ∷ replicate 96 0
+
+abbrev points : List ℕ
+points = 5 ∷ 0 ∷ 8 ∷ pair
+
+abbrev rectangle : List ℕ
+rectangle = kinds ++ pairs ++ products ++ points
+
+pub rectangle-read :
+    readingOf rectangle
+    ≡ Accepted
+    (record {
+      kind = 3;
+      degree = 1;
+      second = 2;
+      head = record { field = 0; start = 3; length = 3 };
+      frame = record { field = 6; start = 9; length = 16 };
+      coefficients = record { field = 25; start = 28; length = 96 };
+      moves = record { field = 135; start = 135; length = 0 };
+      point = record { field = 124; start = 127; length = 8 };
+    })
+unfolding readingOf framesAllowed frameAllowed frameNumbers frameOf monomialsOver monomials coefficientsOf
+rectangle-read = refl
 
 -- ---- refusals
 
@@ -76,6 +115,7 @@ samples =
     ∷ sample (kind ++ (2 ∷ 0 ∷ [])) 1 5
     ∷ sample (circle ++ (5 ∷ [])) 1 74
     ∷ sample (kind ++ (2 ∷ 0 ∷ 8 ∷ 0 ∷ [])) 1 5
+    ∷ sample (1 ∷ 0 ∷ 3 ∷ 3 ∷ 1 ∷ []) 1 0
     -- no tag at all, one too early, one that comes twice, one after its turn, and the end with one still to come
     ∷ sample (6 ∷ 0 ∷ 2 ∷ 1 ∷ 2 ∷ []) 2 0
     ∷ sample (kind ++ coefficients) 2 5
@@ -84,19 +124,32 @@ samples =
     ∷ sample [] 2 0
     ∷ sample (kind ++ frame) 2 16
     -- lengths: of the table, before the value is looked for
-    ∷ sample (1 ∷ 0 ∷ 3 ∷ []) 3 0
+    ∷ sample (1 ∷ 0 ∷ 1 ∷ []) 3 0
+    ∷ sample (1 ∷ 0 ∷ 4 ∷ []) 3 0
     ∷ sample (kind ++ (2 ∷ 0 ∷ 18 ∷ [])) 3 5
+    ∷ sample (kinds ++ (2 ∷ 0 ∷ 8 ∷ [])) 3 6
+    ∷ sample (kinds ++ (2 ∷ 0 ∷ 18 ∷ [])) 3 6
+    ∷ sample (kinds ++ pairs ++ (3 ∷ 0 ∷ 32 ∷ [])) 3 25
+    ∷ sample (kinds ++ pairs ++ products ++ (5 ∷ 0 ∷ 6 ∷ [])) 3 124
     ∷ sample (kind ++ frame ++ coefficients ++ (4 ∷ 1 ∷ 8 ∷ replicate 264 0)) 3 67
-    -- kind and degree
-    ∷ sample (1 ∷ 0 ∷ 2 ∷ 3 ∷ 2 ∷ []) 4 0
+    -- a kind that is none, a degree outside, and a degree too many or too few
+    ∷ sample (1 ∷ 0 ∷ 2 ∷ 4 ∷ 2 ∷ []) 4 0
     ∷ sample (1 ∷ 0 ∷ 2 ∷ 1 ∷ 11 ∷ []) 4 0
     ∷ sample (1 ∷ 0 ∷ 2 ∷ 2 ∷ 0 ∷ []) 4 0
-    -- a frame number of 5, one of -5, and a determinant of 0
+    ∷ sample (1 ∷ 0 ∷ 3 ∷ 3 ∷ 6 ∷ 1 ∷ []) 4 0
+    ∷ sample (1 ∷ 0 ∷ 3 ∷ 3 ∷ 1 ∷ 0 ∷ []) 4 0
+    ∷ sample (1 ∷ 0 ∷ 3 ∷ 1 ∷ 2 ∷ 0 ∷ []) 4 0
+    ∷ sample (1 ∷ 0 ∷ 3 ∷ 2 ∷ 2 ∷ 0 ∷ []) 4 0
+    ∷ sample (1 ∷ 0 ∷ 2 ∷ 3 ∷ 2 ∷ []) 4 0
+    -- a frame number of 5, one of -5, and a determinant of 0, also of the second pair alone
     ∷ sample (kind ++ (2 ∷ 0 ∷ 8 ∷ 0 ∷ 5 ∷ 0 ∷ 1 ∷ 0 ∷ 1 ∷ 0 ∷ 1 ∷ [])) 5 5
     ∷ sample (kind ++ (2 ∷ 0 ∷ 8 ∷ 255 ∷ 251 ∷ 0 ∷ 1 ∷ 0 ∷ 1 ∷ 0 ∷ 1 ∷ [])) 5 5
     ∷ sample (kind ++ (2 ∷ 0 ∷ 8 ∷ 0 ∷ 1 ∷ 0 ∷ 2 ∷ 0 ∷ 2 ∷ 0 ∷ 4 ∷ [])) 5 5
+    ∷ sample (kinds ++ (2 ∷ 0 ∷ 16 ∷ (pair ++ replicate 8 0))) 5 6
     -- a coefficient of 1048577
     ∷ sample (kind ++ frame ++ (3 ∷ 0 ∷ 48 ∷ 0 ∷ 16 ∷ 0 ∷ 1 ∷ replicate 44 0)) 6 16
+    -- and one in the last monomial
+    ∷ sample (kinds ++ pairs ++ (3 ∷ 0 ∷ 96 ∷ (replicate 92 0 ++ (0 ∷ 16 ∷ 0 ∷ 1 ∷ [])))) 6 25
     ∷ []
 
 pub right : List Sample → Bool

@@ -12,7 +12,7 @@ use Rattle.kinds.specs.Kinds.{groupsOf, known}
 use Rattle.kinds.specs.Frames.{framesAllowed}
 use Rattle.machine.specs.Refusals.{firstFailed}
 use Rattle.bytes.specs.Numbers.{frameNumbers}
-use Rattle.records.specs.Table.{slots, tagsIn, required, frameLength, coefficientsLength, pointLength, movesLengthAllowed, polynomialsOf, fieldRow}
+use Rattle.records.specs.Table.{slots, tagsIn, required, headLength, frameLength, coefficientsLength, pointLength, movesLengthAllowed, polynomialsOf, fieldRow}
 use Rattle.records.specs.Reading.{left, lengthAt, bytesAt, headOf, fieldNumber, tagAmong, isTag, standing, extentIn, bytesOf, Inside}
 use Rattle.records.specs.declared.Slot.{Slot}
 use Rattle.records.specs.declared.Tag.{Tag}
@@ -59,25 +59,26 @@ pub data Caused (s : List ℕ) : ℕ → ℕ → Type 0 where
   wrongValue : {tag : Tag} {at n : ℕ} → Comes s tag at → fieldRow tag .lengthAllowed (headOf s) (lengthAt s at) ≡ true → lengthAt s at ≤ left s (at + 3)
       → firstFailed (fieldRow tag .tests (headOf s) (bytesAt s at)) ≡ suc n → Caused s (suc n) at
 
--- The table's verdict on any bytes, a number and the values with it: 0 with kind and degree where the fields go up to the record's very end, or a row's
+-- The table's verdict on any bytes, a number and the values with it: 0 with kind and degrees where the fields go up to the record's very end, or a row's
 -- number with the offset where its cause is there.
 pub data Verdict (s : List ℕ) : ℕ → List ℕ → Type 0 where
-  accepted : Begins s [] (length s) → Verdict s 0 (headOf s .kind ∷ headOf s .degree ∷ [])
+  accepted : Begins s [] (length s) → Verdict s 0 (headOf s .kind ∷ headOf s .degree ∷ headOf s .second ∷ [])
   refused : {number offset : ℕ} → Caused s number offset → Verdict s number (offset ∷ [])
 
 -- the groups of vertices of an accepted record
 abbrev pub layoutGroups : Layout → List Group
-layoutGroups l = groupsOf (l .kind) (l .degree) 0
+layoutGroups l = groupsOf (l .kind) (l .degree) (l .second)
 
 -- What holds of an accepted record: fields 1, 2 and 3 are there, with the lengths and values that the table allows; 4 and 5 have such a length or are
 -- absent; every value lies within the record; and the coefficients are those of the part that begins with field 3's value.
 pub record Sound (s : List ℕ) (l : Layout) : Type 0 where
-  pub degree : known (l .kind) (l .degree) 0 ≡ true
+  pub degrees : known (l .kind) (l .degree) (l .second) ≡ true
+  pub headLong : l .head .length ≡ headLength (layoutGroups l)
   pub frameLong : l .frame .length ≡ frameLength (layoutGroups l)
   pub frameGood : framesAllowed (layoutGroups l) (frameNumbers (bytesOf (l .frame) s)) ≡ true
   pub coefficientsField : l .coefficients .start ≡ l .coefficients .field + 3
   pub coefficientsLong : l .coefficients .length ≡ coefficientsLength (layoutGroups l)
-  pub coefficientsGood : all (within 1048576) (polynomialsOf (l .kind) (l .degree) (drop (l .coefficients .start) s) .coefficients) ≡ true
+  pub coefficientsGood : all (within 1048576) (polynomialsOf (l .kind) (l .degree) (l .second) (drop (l .coefficients .start) s) .coefficients) ≡ true
   pub movesLong : movesLengthAllowed (l .moves .length) ≡ true
   pub pointLong : (l .point .length ≡ 0) ⊎ (l .point .length ≡ pointLength (layoutGroups l))
   pub within : (slot : Slot) → Inside s (extentIn slot l)

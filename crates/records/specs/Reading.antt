@@ -7,7 +7,7 @@ use lib.ListN.{length, getD, take, drop}
 use lib.Dec.{eqb, leb, ltb}
 use Rattle.machine.specs.Refusals.{Test, _else_, firstFailed}
 use Rattle.bytes.specs.Numbers.{unsignedOf}
-use Rattle.records.specs.Table.{slots, tagsIn, required, fieldRow}
+use Rattle.records.specs.Table.{slots, tagsIn, required, headIn, fieldRow}
 use Rattle.records.specs.declared.Head.{Head}
 use Rattle.records.specs.declared.Slot.{Slot}
 use Rattle.records.specs.declared.Slot.the-variants.{First, Second, Third, Fourth, Fifth}
@@ -36,9 +36,10 @@ unfoldable pub bytesAt : List ℕ → ℕ → List ℕ
 unfolding lengthAt
 bytesAt s at = take (lengthAt s at) (drop (at + 3) s)
 
--- what field 1 says: it comes first, so that its value begins at offset 3
-abbrev pub headOf : List ℕ → Head
-headOf s = record { kind = getD s 3 0; degree = getD s 4 0 }
+-- what field 1 says: it comes first, at offset 0
+unfoldable pub headOf : List ℕ → Head
+unfolding bytesAt
+headOf s = headIn (bytesAt s 0)
 
 -- the tests of a field with a right tag
 abbrev pub fieldTests : Tag → Head → List ℕ → ℕ → List Test
@@ -113,7 +114,7 @@ readEnd s last = cond (eqb (last .number) 0) (stay (missingNumber (ltb 0 (left s
 abbrev pub layoutWith : List ℕ → List Extent → Layout
 layoutWith s es =
     let e : ℕ → Extent = λ k. getD es k (endExtent s) in
-    record { kind = headOf s .kind; degree = headOf s .degree; head = e 0; frame = e 1; coefficients = e 2; moves = e 3; point = e 4 }
+    record { kind = headOf s .kind; degree = headOf s .degree; second = headOf s .second; head = e 0; frame = e 1; coefficients = e 2; moves = e 3; point = e 4 }
 
 -- the reading by how far the reader has come after all slots
 unfoldable pub concluded : List ℕ → Progress → List Extent → Reading
@@ -126,12 +127,12 @@ onward (slot ∷ rest) s here es = let next = readSlot slot (headOf s) s here in
 
 -- the reading of any bytes: the slots in their order, and then the end
 unfoldable pub readingOf : List ℕ → Reading
-unfolding readSlot readEnd concluded
+unfolding headOf readSlot readEnd concluded
 readingOf s = onward slots s (stay 0 s 0) []
 
 -- a layout of no kind, in which every field is absent: a refused record has no other
 abbrev pub noFields : List ℕ → Layout
-noFields s = let e = endExtent s in record { kind = 0; degree = 0; head = e; frame = e; coefficients = e; moves = e; point = e }
+noFields s = let e = endExtent s in record { kind = 0; degree = 0; second = 0; head = e; frame = e; coefficients = e; moves = e; point = e }
 
 -- ---- number and values of each case
 
@@ -140,9 +141,9 @@ abbrev pub readingNumber : Reading → ℕ
 readingNumber (Accepted l) = 0
 readingNumber (Refused r) = r .number
 
--- the values: kind and degree of an accepted record; what is returned with a refusal's number, the offset
+-- the values: kind and degrees of an accepted record; what is returned with a refusal's number, the offset
 abbrev pub readingValues : Reading → List ℕ
-readingValues (Accepted l) = l .kind ∷ l .degree ∷ []
+readingValues (Accepted l) = l .kind ∷ l .degree ∷ l .second ∷ []
 readingValues (Refused r) = r .offset ∷ []
 
 -- ---- a field's value: where it stands, and its bytes

@@ -1,7 +1,7 @@
 -- The table of fields (docs/RECORDS.md, 'The bytes'): the slots in their order, what may stand in each, and a row for each field: its tag byte, its lengths and the
 -- tests of its value with their refusals. What a kind is and which frames it accepts is said in kinds' specs; here stand only the places of their bytes.
-use Prim.Native.Nat.{ℕ, _*_, _%_}
-use mathlib.Core.Bool.{Bool, true, false, _&&_}
+use Prim.Native.Nat.{ℕ, _+_, _*_, _%_}
+use mathlib.Core.Bool.{Bool, true, false, _&&_, _||_}
 use mathlib.Core.List.{List, [], _∷_}
 use lib.ListN.{length, getD}
 use lib.Dec.{eqb, leb}
@@ -45,9 +45,23 @@ required Fifth = false
 
 -- ---- lengths and numbers, by what field 1 says
 
--- the groups of vertices; the kinds that a record may have no second degree
+-- what its value says: the kind, a degree and another, which is 0 where it is not there
+abbrev pub headIn : List ℕ → Head
+headIn value = record { kind = getD value 0 0; degree = getD value 1 0; second = getD value 2 0 }
+
+-- the groups of vertices
 abbrev pub headGroups : Head → List Group
-headGroups h = groupsOf (h .kind) (h .degree) 0
+headGroups h = groupsOf (h .kind) (h .degree) (h .second)
+
+-- 1 byte for the kind, and 1 for the degree of each group
+abbrev pub headLength : List Group → ℕ
+headLength gs = 1 + length gs
+
+-- the kind is one and has the degrees, and there is a degree for each of its groups and no more: 'a kind that disagrees with its length is 4'
+abbrev pub headAllowed : List ℕ → Bool
+headAllowed value =
+    let h = headIn value in
+    known (h .kind) (h .degree) (h .second) && eqb (length value) (headLength (headGroups h))
 
 -- 2 bytes for each number of a frame
 abbrev pub frameLength : List Group → ℕ
@@ -69,9 +83,9 @@ abbrev pub pointLength : List Group → ℕ
 pointLength gs = 2 * vertexCount gs
 
 -- the polynomials of a part that begins with field 3's value
-abbrev pub polynomialsOf : ℕ → ℕ → List ℕ → Polynomials
-polynomialsOf kind degree part =
-    record { kind = kind; degree = degree; second = 0; coefficients = coefficientsOf part (coefficientCount (groupsOf kind degree 0)) }
+abbrev pub polynomialsOf : ℕ → ℕ → ℕ → List ℕ → Polynomials
+polynomialsOf kind degree second part =
+    record { kind = kind; degree = degree; second = second; coefficients = coefficientsOf part (coefficientCount (groupsOf kind degree second)) }
 
 -- ---- the rows
 
@@ -82,14 +96,14 @@ pub record FieldRow : Type 0 where
   pub tests : Head → List ℕ → List Test
 
 abbrev pub fieldRow : Tag → FieldRow
--- 'kind byte (1 curve, 2 patch), degree byte'; 'kind or degree outside' is 4
+-- 'kind byte (1 curve, 2 patch), degree byte', or 3 bytes, 'kind, p, q; lengths 2 and 3 both pass'; 'kind or degree outside' is 4
 fieldRow Kind =
     record {
       byte = 1;
-      lengthAllowed = λ h n. eqb n 2;
-      tests = λ h value. known (getD value 0 0) (getD value 1 0) 0 else 4 ∷ [];
+      lengthAllowed = λ h n. eqb n 2 || eqb n 3;
+      tests = λ h value. headAllowed value else 4 ∷ [];
     }
--- 'r, s (, t), each as T, Z or U, V, Z, 16-bit signed'; 'frame number outside, or determinant 0' is 5
+-- 'r, s (, t), each as T, Z or U, V, Z, 16-bit signed', or 'r1, s1, r2, s2'; 'frame number outside, or determinant 0' is 5
 fieldRow Frame =
     record {
       byte = 2;
@@ -101,7 +115,7 @@ fieldRow Coefficients =
     record {
       byte = 3;
       lengthAllowed = λ h n. eqb n (coefficientsLength (headGroups h));
-      tests = λ h value. all (within 1048576) (polynomialsOf (h .kind) (h .degree) value .coefficients) else 6 ∷ [];
+      tests = λ h value. all (within 1048576) (polynomialsOf (h .kind) (h .degree) (h .second) value .coefficients) else 6 ∷ [];
     }
 -- 'operation byte, vertex byte, three 16-bit weights', of each move; 'A record's moves and point are judged when made, not when read'
 fieldRow Moves = record { byte = 4; lengthAllowed = λ h n. movesLengthAllowed n; tests = λ h value. [] }

@@ -9,16 +9,26 @@
 // all) and Causes (the table of refusals as propositions). What bytes make of numbers is the crate
 // bytes', and what is accepted of a kind and a frame is kinds'.
 ghost use mathlib.Core.Path.{_≡_};
-ghost use mathlib.Core.Bool.{true};
+ghost use mathlib.Core.Bool.{true, _||_};
 ghost use mathlib.Core.List.{[], _∷_};
 ghost use Prim.Native.Nat.{_+_, _<_, _≤_};
+ghost use lib.Dec.{eqb};
 ghost use lib.ListN.{length};
 ghost use Rattle.machine.specs.Refusals.{_else_, firstFailed};
 ghost use Rattle.bytes.specs.Parts.{Lies, toEnd};
-ghost use Rattle.records.specs.Table.{slots, tagOf, required, movesLengthAllowed, fieldRow};
+ghost use Rattle.records.specs.Table.{
+  slots,
+  tagOf,
+  required,
+  headIn,
+  headAllowed,
+  movesLengthAllowed,
+  fieldRow,
+};
 ghost use Rattle.records.specs.Reading.{
   left,
   lengthAt,
+  headOf,
   fieldNumber,
   standing,
   missingNumber,
@@ -43,6 +53,7 @@ use bytes::part_from;
 use kinds::frame_allowed;
 use kinds::frame_count;
 use kinds::known_kind;
+use kinds::later_dimension;
 use kinds::number_count;
 use kinds::vertex_count;
 
@@ -54,10 +65,12 @@ pub struct Extent {
     pub length: usize,
 }
 
-// An accepted record: kind and degree, and where what stands in each slot is.
+// An accepted record: kind and degrees, and where what stands in each slot is. A kind of one group has
+// the second degree 0.
 pub struct Layout {
     pub kind: u8,
     pub degree: u8,
+    pub second: u8,
     pub head: Extent,
     pub frame: Extent,
     pub coefficients: Extent,
@@ -81,6 +94,7 @@ pub enum Reading {
 pub struct Head {
     pub kind: u8,
     pub degree: u8,
+    pub second: u8,
 }
 
 // The slots of a record, in their order: each may have one field, or must.
@@ -159,6 +173,16 @@ fn is_required(slot: Slot) -> bool
     }
 }
 
+// Field 1 has one degree or two.
+fn head_length_allowed(n: usize) -> bool
+    ensures { λ r. ⌜ r ≡ (eqb n 2 || eqb n 3) ⌝ }
+{
+    if n == 2 {
+        return true;
+    }
+    n == 3
+}
+
 // Whole moves of 8 bytes, at most 32.
 fn moves_length_allowed(n: usize) -> bool
     ensures { λ r. ⌜ r ≡ movesLengthAllowed n ⌝ }
@@ -169,17 +193,43 @@ fn moves_length_allowed(n: usize) -> bool
     n <= 256
 }
 
-// Whether the table allows the length n for the field, at the kind and degree of field 1.
-fn length_allowed(tag: Tag, kind: u8, degree: u8, n: usize) -> bool
-    ensures { λ r. ⌜ r ≡ fieldRow tag .lengthAllowed (record { kind = kind; degree = degree }) n ⌝ }
+// Whether the table allows the length n for the field, by what field 1 says.
+fn length_allowed(tag: Tag, head: Head, n: usize) -> bool
+    ensures { λ r. ⌜ r ≡ fieldRow tag .lengthAllowed head n ⌝ }
 {
     match tag {
-        Tag::Kind => n == 2,
-        Tag::Frame => n == 2 * frame_count(kind),
-        Tag::Coefficients => n == 4 * number_count(kind, degree, 0),
+        Tag::Kind => head_length_allowed(n),
+        Tag::Frame => n == 2 * frame_count(head.kind),
+        Tag::Coefficients => n == 4 * number_count(head.kind, head.degree, head.second),
         Tag::Moves => moves_length_allowed(n),
-        Tag::Point => n == 2 * vertex_count(kind),
+        Tag::Point => n == 2 * vertex_count(head.kind),
     }
+}
+
+// What the value of field 1 says: a byte that it does not have is 0.
+fn head_in(value: &[u8]) -> Head
+    ensures { λ r. ⌜ r ≡ headIn (now (value .entry)) ⌝ }
+{
+    Head {
+        kind: byte_at(value, 0),
+        degree: byte_at(value, 1),
+        second: byte_at(value, 2),
+    }
+}
+
+// Whether the value of field 1 has a kind with its degrees, one for each group. A kind has one group, or
+// two.
+fn head_allowed(value: &[u8]) -> bool
+    ensures { λ r. ⌜ r ≡ headAllowed (now (value .entry)) ⌝ }
+{
+    let head = head_in(value);
+    if !known_kind(head.kind, head.degree, head.second) {
+        return false;
+    }
+    if later_dimension(head.kind) == 0 {
+        return value.len() == 2;
+    }
+    value.len() == 3
 }
 
 // The number, or 0 where the test passes.
@@ -200,7 +250,7 @@ fn value_number(tag: Tag, head: Head, value: &[u8]) -> u8
     ensures { λ r. ⌜ r ≡ firstFailed (fieldRow tag .tests head (now (value .entry))) ⌝ }
 {
     match tag {
-        Tag::Kind => unless(known_kind(byte_at(value, 0), byte_at(value, 1), 0), 4),
+        Tag::Kind => unless(head_allowed(value), 4),
         Tag::Frame => unless(frame_allowed(head.kind, frame_numbers(value)), 5),
         Tag::Coefficients => {
             let count = value.len() / 4;
@@ -234,13 +284,25 @@ fn length_at(input: &[u8], at: usize) -> usize
     256 * high + low
 }
 
+// What field 1 says, which the record begins with. Where there are no three bytes, nothing is left that
+// its value could have.
+fn head_of(input: &[u8]) -> Head
+    ensures { λ r. ⌜ r ≡ headOf (now (input .entry)) ⌝ }
+{
+    let rest = part_from(input, 3);
+    if input.len() < 3 {
+        return head_in(rest);
+    }
+    head_in(first_part(rest, length_at(input, 0)))
+}
+
 // The number that the field at `at`, n bytes long, is refused with; 0 where it is not. The tests go by
 // the specification's order: the length, then whether the value is whole, then the value.
 fn field_number(tag: Tag, head: Head, input: &[u8], at: usize, n: usize) -> u8
     requires { ⌜ (at + 3 ≤ length (now input)) × (n ≡ lengthAt (now input) at) ⌝ }
     ensures { λ r. ⌜ r ≡ fieldNumber tag head (now (input .entry)) at ⌝ }
 {
-    if !length_allowed(tag, head.kind, head.degree, n) {
+    if !length_allowed(tag, head, n) {
         return 3;
     }
     let start = at + 3;
@@ -361,14 +423,12 @@ fn read_end(input: &[u8], last: Progress) -> Progress
 // ---- all slots
 
 // Reads a record: the slots are taken in their order, and so the fields front to back. Number and
-// values are those of the table: 0 with kind and degree, or a row's number with the offset.
+// values are those of the table: 0 with kind and degrees, or a row's number with the offset.
 pub fn read(input: &[u8]) -> Reading
     ensures reading { λ r. ⌜ r ≡ readingOf (now (input .entry)) ⌝ }
     ensures verdict { λ r. ⌜ Verdict (now (input .entry)) (readingNumber r) (readingValues r) ⌝ }
 {
-    let kind = byte_at(input, 3);
-    let degree = byte_at(input, 4);
-    let said = Head { kind, degree };
+    let said = head_of(input);
     let first = read_slot(Slot::First, said, input, stay_at(0, input, 0));
     let second = read_slot(Slot::Second, said, input, first);
     let third = read_slot(Slot::Third, said, input, second);
@@ -386,8 +446,9 @@ pub fn read(input: &[u8]) -> Reading
     let moves = fourth.extent;
     let point = fifth.extent;
     Reading::Accepted(Layout {
-        kind,
-        degree,
+        kind: said.kind,
+        degree: said.degree,
+        second: said.second,
         head,
         frame,
         coefficients,
@@ -406,6 +467,7 @@ pub fn no_fields(input: &[u8]) -> Layout
     Layout {
         kind: 0,
         degree: 0,
+        second: 0,
         head: end,
         frame: end,
         coefficients: end,

@@ -1,13 +1,13 @@
 -- No text that netprint writes is longer than 4096 bytes. A line is as long as its words with one more byte for each, so a bound on every word bounds the line;
 -- and there are at most 32 lines of moves, 45 of entries and one of a point after the first.
 use Prim.Native.Nat.{ℕ, zero, suc, _+_, _*_, _^_, _≤_, _<_}
-use native.Mathlib.Nat.{suc-mul, min-le-left}
+use native.Mathlib.Nat.{suc-mul, add-mul, min-le-left, mul-le-mul, le-trans}
 use native.Mathlib.Omega.{arith}
 use mathlib.Core.Path.{_≡_, refl, sym, ap, _∙_, subst}
 use mathlib.Core.Bool.{Bool, true, false, _&&_, cond}
-use mathlib.Core.List.{List, [], _∷_, _++_, map, List·Memᴰ, List·Memᴰ·head, List·Memᴰ·tail, append-nil}
-use borrow.Author.Tests.{leb-true}
-use lib.Dec.{leb, eqb}
+use mathlib.Core.List.{List, [], _∷_, _++_, map, List·Memᴰ, List·Memᴰ·head, List·Memᴰ·tail, map-append}
+use borrow.Author.Tests.{leb-true, ne-eqb}
+use lib.Dec.{leb, lit≤}
 use lib.IntN.{ℤ, pos, natAbs}
 use lib.ListN.{length, take, drop, length-append, length-take, take-append-drop}
 use lib.Signed.{quotZ}
@@ -16,6 +16,7 @@ use Rattle.integers.specs.Test.{all}
 use Rattle.integers.proofs.All.{and-parts, all-append}
 use Rattle.polar.specs.Order.{joined, total}
 use Rattle.polar.specs.Groups.{Group, countsOver}
+use Rattle.polar.specs.Scale.{product}
 use Rattle.entries.proofs.Groups.{Counted}
 use Rattle.entries.proofs.ListedOver.{counts-over}
 use Rattle.projection.specs.Projection.{limit, inRange, allInRange, isZero, allZero, isNegative, firstNonzero, negatedIf, gcdOf, coordsOf, directionOf, projectionBy, projectionOf}
@@ -23,12 +24,12 @@ use Rattle.projection.specs.declared.Coords.{Coords}
 use Rattle.projection.specs.declared.Projection.the-variants.{Finite, Direction}
 use Rattle.projection.proofs.Gcd.{gcd-up-to}
 use Rattle.projection.proofs.Signed.{within, natAbs-negated, quot-small}
-use Rattle.kinds.specs.Kinds.{groupsOf, known}
+use Rattle.kinds.specs.Kinds.{groupsOf, dimensionOf, laterGroups, known}
 use Rattle.kinds.specs.Frames.{Frames}
-use Rattle.kinds.specs.Scales.{scaleOf}
+use Rattle.kinds.specs.Scales.{scaleOf, scaleRow, atDegree, rowNumber}
 use Rattle.kinds.proofs.Limits.{by-known}
 use Rattle.kinds.proofs.Counts.{entries-fit}
-use Rattle.kinds.proofs.Scales.{known-scale, scale-up}
+use Rattle.kinds.proofs.Scales.{up-to, scale-read, row-low}
 use Rattle.machine.specs.Refusals.{Test, _else_, firstFailed}
 use Rattle.machine.specs.Calls.{beforeSize}
 use Rattle.machine.specs.Sizes.{callTests}
@@ -40,7 +41,7 @@ use Rattle.machine.specs.declared.Call.the-variants as call
 use Rattle.machine.proofs.Over.{Reached}
 use Rattle.machine.proofs.Demand3.{along}
 use Rattle.text.specs.Words.{decimal, signedDecimal, line}
-use Rattle.text.specs.Text.{word, refusedLine, kindWord, headLine, moveLine, moveLines, indices, entryLine, entryLines, netLines, pointRefusedLine, coordinateWord, projectionLine, pointLine, acceptedText}
+use Rattle.text.specs.Text.{word, refusedLine, headLine, moveLine, moveLines, named, indices, entryLine, entryLines, netLines, pointRefusedLine, coordinateWord, projectionLine, pointLine, acceptedText}
 use Rattle.text.proofs.Decimal.{length-decimal, length-u64, length-component, length-hexBits}
 
 -- ---- a line by its words
@@ -76,23 +77,39 @@ refused-room number offset small fits =
 
 -- ---- the first line
 
-kind-word : (b : Bool) → length (cond b (word "curve") (word "patch")) ≡ 5
-kind-word true = refl
-kind-word false = refl
+-- no scale has more than four digits: the numbers of a row, or two of the first five of the row of dimension 1
+scale-few : (kind degree second : ℕ) → known kind degree second ≡ true → scaleOf kind degree second ≤ 2520
+scale-few kind degree second h =
+    subst (λ n. n ≤ 2520) (sym (scale-read kind degree second h))
+    (by-known (λ k p q. atDegree (scaleRow (dimensionOf k)) p * product (map rowNumber (laterGroups k q)) ≤ 2520)
+    (λ p m. omega (arith, row-low 1 p)) (λ p m. omega (arith, row-low 2 p)) (λ p q m n. two p q (m .high) (n .high)) kind degree second h)
+  where
+    small : (m : ℕ) → m < 6 → atDegree (scaleRow 1) m ≤ 12
+    small = up-to 12 (atDegree (scaleRow 1)) 6 refl
 
--- the word, a degree of at most two digits and a scale of at most four
-one-degree : (kind degree : ℕ) → degree ≤ 10 → scaleOf kind degree 0 ≤ 2520 → length (line (kindWord kind ∷ decimal degree ∷ decimal (scaleOf kind degree 0) ∷ [])) ≤ 14
-one-degree kind degree top most =
-    let k = kind-word (eqb kind 1) in
-    let d = length-decimal degree 2 (omega arith) (omega arith) in
-    let s = length-decimal (scaleOf kind degree 0) 4 (omega arith) (omega arith) in
-    line-room 14 (kindWord kind ∷ decimal degree ∷ decimal (scaleOf kind degree 0) ∷ []) (omega arith) (omega arith)
+    two : (p q : ℕ) → p ≤ 5 → q ≤ 5 → atDegree (scaleRow 1) p * (atDegree (scaleRow 1) q * 1) ≤ 2520
+    two p q a b =
+        let first = small p (omega arith) in
+        let second : atDegree (scaleRow 1) q * 1 ≤ 12 = omega (arith, small q (omega arith)) in
+        le-trans (mul-le-mul first second) (lit≤ tt)
 
+-- a word, degrees and a scale
+words-room : (w : List ℕ) (degrees : List (List ℕ)) (scale : ℕ) → length w + spaced degrees ≤ 8 → scale ≤ 2520 → length (line (w ∷ (degrees ++ (decimal scale ∷ [])))) ≤ 14
+words-room w degrees scale short most =
+    let s = length-decimal scale 4 (omega arith) (omega arith) in
+    line-room 14 (w ∷ (degrees ++ (decimal scale ∷ []))) (omega (arith, spaced-append degrees (decimal scale ∷ []))) (omega arith)
+
+-- one degree of at most two digits, or two of one digit after a shorter word
 head-room : (kind degree second : ℕ) → known kind degree second ≡ true → length (headLine kind degree second) ≤ 14
 unfolding headLine
 head-room kind degree second h =
-    by-known (λ k p q. scaleOf k p q ≤ 2520 → length (headLine k p q) ≤ 14) (λ p low high. one-degree 1 p high) (λ p low high. one-degree 2 p (omega arith)) kind degree second h
-    (subst (λ n. n ≤ 2520) (sym (known-scale kind degree second h)) (scale-up kind degree second h))
+    by-known (λ k p q. scaleOf k p q ≤ 2520 → length (headLine k p q) ≤ 14)
+    (λ p m. words-room (word "curve") (decimal p ∷ []) (scaleOf 1 p 0) (omega (arith, length-decimal p 2 (omega (arith, m .high)) (omega arith))))
+    (λ p m. words-room (word "patch") (decimal p ∷ []) (scaleOf 2 p 0) (omega (arith, length-decimal p 1 (omega (arith, m .high)) (omega arith))))
+    (λ p q m n.
+    words-room (word "rect") (decimal p ∷ decimal q ∷ []) (scaleOf 3 p q)
+    (omega (arith, length-decimal p 1 (omega (arith, m .high)) (omega arith), length-decimal q 1 (omega (arith, n .high)) (omega arith))))
+    kind degree second h (scale-few kind degree second h)
 
 -- ---- a call's refusal is a number of the table up to 10
 
@@ -148,28 +165,61 @@ counts-room k (i ∷ e) below some =
     let rest = counts-room k e (omega arith) some in
     omega (arith, suc-mul (length e) (suc k))
 
--- one number of at most two digits, or three of one digit
-indices-room : (kind degree second : ℕ) → known kind degree second ≡ true → (es : List (List ℕ)) → Counted (groupsOf kind degree second) es
-    → spaced (map decimal (indices kind es)) ≤ 6
-indices-room kind degree second h es =
-    by-known (λ k p q. Counted (groupsOf k p q) es → spaced (map decimal (indices k es)) ≤ 6) (λ p low high. curve p high es) (λ p low high. patch p high es) kind degree second h
-  where
-    curve : (p : ℕ) → p ≤ 10 → (es : List (List ℕ)) → Counted (groupsOf 1 p 0) es → spaced (map decimal (indices 1 es)) ≤ 6
-    curve p high [] h = absurd h
-    curve p high ([] ∷ []) h = omega arith
-    curve p high ((i ∷ e) ∷ []) h =
-        let l = h .0 in
-        let sum = h .1 in
-        subst (λ is. spaced (map decimal is) ≤ 6) (sym (append-nil e)) (omega (arith, counts-room 2 e (omega arith) (omega arith)))
-    curve p high (e ∷ x ∷ es) h = absurd (h .2)
+-- how many indices a group has, by its dimension, and how many all groups have
+abbrev indexCount : ℕ → ℕ
+indexCount zero = 1
+indexCount (suc zero) = 1
+indexCount (suc (suc n)) = suc (suc (suc n))
 
-    patch : (p : ℕ) → p ≤ 8 → (es : List (List ℕ)) → Counted (groupsOf 2 p 0) es → spaced (map decimal (indices 2 es)) ≤ 6
-    patch p high [] h = absurd h
-    patch p high (e ∷ []) h =
-        let l = h .0 in
-        let sum = h .1 in
-        subst (λ is. spaced (map decimal is) ≤ 6) (sym (append-nil e)) (omega (arith, counts-room 1 e (omega arith) (omega arith)))
-    patch p high (e ∷ x ∷ es) h = absurd (h .2)
+abbrev indexCounts : List Group → ℕ
+indexCounts [] = 0
+indexCounts (g ∷ gs) = indexCount (g .dimension) + indexCounts gs
+
+-- no degree has more than k digits
+abbrev Below : ℕ → List Group → Type 0
+Below k [] = Unit {0}
+Below k (g ∷ gs) = (g .degree < 10 ^ k) × Below k gs
+
+-- group after group
+indices-spaced : (e : List ℕ) (es : List (List ℕ)) → spaced (map decimal (indices (e ∷ es))) ≡ spaced (map decimal (named e)) + spaced (map decimal (indices es))
+indices-spaced e es = ap spaced (map-append decimal (named e) (indices es)) ∙ spaced-append (map decimal (named e)) (map decimal (indices es))
+
+module _ (k : ℕ) (some : 0 < k) where
+  all-room : (n : ℕ) (e : List ℕ) → length e ≡ suc n → (suc n ≡ 2 → ⊥) → total e < 10 ^ k → spaced (map decimal (named e)) ≤ suc n * suc k
+  all-room n e h other below =
+      subst (λ b. spaced (map decimal (cond b (drop 1 e) e)) ≤ suc n * suc k) (sym (ne-eqb (length e) 2 (λ two. other (sym h ∙ two))))
+      (subst (λ m. spaced (map decimal e) ≤ m * suc k) h (counts-room k e below some))
+
+  -- the second of two counts, or all
+  named-room : (n : ℕ) (e : List ℕ) → length e ≡ suc n → total e < 10 ^ k → spaced (map decimal (named e)) ≤ indexCount n * suc k
+  named-room zero e h below = all-room 0 e h (λ two. omega arith) below
+  named-room (suc zero) [] h below = absurd (omega arith)
+  named-room (suc zero) (i ∷ []) h below = absurd (omega arith)
+  named-room (suc zero) (i ∷ j ∷ []) h below = omega (arith, counts-room k (j ∷ []) (omega arith) some)
+  named-room (suc zero) (i ∷ j ∷ x ∷ e) h below = absurd (omega arith)
+  named-room (suc (suc n)) e h below = all-room (suc (suc n)) e h (λ two. omega arith) below
+
+  names-room : (gs : List Group) (es : List (List ℕ)) → Below k gs → Counted gs es → spaced (map decimal (indices es)) ≤ indexCounts gs * suc k
+  names-room [] [] small counted = omega arith
+  names-room [] (e ∷ es) small counted = absurd counted
+  names-room (g ∷ gs) [] small counted = absurd counted
+  names-room (g ∷ gs) (e ∷ es) small counted =
+      omega (
+        arith,
+        indices-spaced e es,
+        named-room (g .dimension) e (counted .0) (subst (λ m. m < 10 ^ k) (sym (counted .1)) (small .0)),
+        names-room gs es (small .1) (counted .2),
+        add-mul (indexCount (g .dimension)) (indexCounts gs) (suc k),
+      )
+
+-- one number of at most two digits, three of one digit, or two of one digit
+indices-room : (kind degree second : ℕ) → known kind degree second ≡ true → (es : List (List ℕ)) → Counted (groupsOf kind degree second) es → spaced (map decimal (indices es)) ≤ 6
+indices-room kind degree second h es =
+    by-known (λ k p q. Counted (groupsOf k p q) es → spaced (map decimal (indices es)) ≤ 6)
+    (λ p m counted. le-trans (names-room 2 (lit≤ tt) (groupsOf 1 p 0) es (omega (arith, m .high), tt) counted) (lit≤ tt))
+    (λ p m counted. le-trans (names-room 1 (lit≤ tt) (groupsOf 2 p 0) es (omega (arith, m .high), tt) counted) (lit≤ tt))
+    (λ p q m n counted. le-trans (names-room 1 (lit≤ tt) (groupsOf 3 p q) es (omega (arith, m .high), (omega (arith, n .high), tt)) counted) (lit≤ tt))
+    kind degree second h
 
 -- sixteen bytes and a space for each number in range
 numbers-room : (xs : List ℤ) → all inRange xs ≡ true → spaced (map signedDecimal xs) ≤ length xs * 17
@@ -181,12 +231,12 @@ numbers-room (x ∷ xs) h =
     omega arith
 
 entry-room : (kind degree second : ℕ) → known kind degree second ≡ true → (es : List (List ℕ)) → Counted (groupsOf kind degree second) es
-    → (xs : List ℤ) → length xs ≤ 4 → all inRange xs ≡ true → length (entryLine kind es xs) ≤ 74
+    → (xs : List ℤ) → length xs ≤ 4 → all inRange xs ≡ true → length (entryLine es xs) ≤ 74
 unfolding entryLine
 entry-room kind degree second h es counted xs four fits =
     let i = indices-room kind degree second h es counted in
     let n = numbers-room xs fits in
-    line-room 74 (map decimal (indices kind es) ++ map signedDecimal xs) (omega (arith, spaced-append (map decimal (indices kind es)) (map signedDecimal xs))) (omega arith)
+    line-room 74 (map decimal (indices es) ++ map signedDecimal xs) (omega (arith, spaced-append (map decimal (indices es)) (map signedDecimal xs))) (omega arith)
 
 -- ---- the net
 
@@ -197,7 +247,7 @@ next-four xs h =
 
 entries-room : (kind degree second : ℕ) → known kind degree second ≡ true → (ess : List (List (List ℕ)))
     → ((es : List (List ℕ)) → List·Memᴰ es ess → Counted (groupsOf kind degree second) es) → (xs : List ℤ) → all inRange xs ≡ true
-    → length (entryLines kind ess xs) ≤ length ess * 74
+    → length (entryLines ess xs) ≤ length ess * 74
 unfolding entryLines
 entries-room kind degree second h [] each xs fits = omega arith
 entries-room kind degree second h (es ∷ ess) each xs fits =
@@ -205,7 +255,7 @@ entries-room kind degree second h (es ∷ ess) each xs fits =
     let four : length (take 4 xs) ≤ 4 = subst (λ k. k ≤ 4) (sym (length-take 4 xs)) (min-le-left 4 (length xs)) in
     let first = entry-room kind degree second h es (each es (List·Memᴰ·head refl)) (take 4 xs) four (both .0) in
     let rest = entries-room kind degree second h ess (λ x m. each x (List·Memᴰ·tail m)) (drop 4 xs) (both .1) in
-    omega (arith, length-append (entryLine kind es (take 4 xs)) (entryLines kind ess (drop 4 xs)))
+    omega (arith, length-append (entryLine es (take 4 xs)) (entryLines ess (drop 4 xs)))
 
 -- 45 entries at most
 net-room : (net : Net) → known (net .kind) (net .degree) (net .second) ≡ true → netInRange net ≡ true → length (netLines net) ≤ 3330

@@ -40,19 +40,19 @@ module _ (lent : List ℤ) (stands : Stands lent) where
   unfolding handedTests
   right = row-passes (handedTests (netAt lent)) passed 0
 
-  second-none : netAt lent .second ≡ 0
-  second-none = let l = limits (netAt lent .kind) (netAt lent .degree) (netAt lent .second) right in omega arith
-
-  -- what stands first are its kind and degree, as bytes
-  head-below : (byteOf (getD lent 0 (pos 0)) < 255) × (byteOf (getD lent 1 (pos 0)) < 255)
+  -- what stands first are its kind and degrees, as bytes
+  head-below : (byteOf (getD lent 0 (pos 0)) < 255) × (byteOf (getD lent 1 (pos 0)) < 255) × (byteOf (getD lent 2 (pos 0)) < 255)
   unfolding netAt
-  head-below = let l = limits (netAt lent .kind) (netAt lent .degree) (netAt lent .second) right in (omega arith, omega arith)
+  head-below = let l = limits (netAt lent .kind) (netAt lent .degree) (netAt lent .second) right in (omega arith, omega arith, omega arith)
 
   pub kind-there : (0 < length lent) × (byteOf (getD lent 0 (pos 0)) < 255)
   kind-there = (let l = stands .long in omega (arith, l), head-below .0)
 
   pub degree-there : (1 < length lent) × (byteOf (getD lent 1 (pos 0)) < 255)
   degree-there = (let l = stands .long in omega (arith, l), head-below .1)
+
+  pub second-there : (2 < length lent) × (byteOf (getD lent 2 (pos 0)) < 255)
+  second-there = (let l = stands .long in omega (arith, l), head-below .2)
 
   pub sound : Sound (netAt lent)
   unfolding netAt
@@ -65,36 +65,34 @@ module _ (lent : List ℤ) (stands : Stands lent) where
             length-take-le (numberCount (netGroups (netAt lent))) (drop 12 lent) (simp length-drop (omega arith));
       }
 
-  -- kind and degree as they are read
-  module _ {k d : ℕ} (kind : k ≡ byteOf (getD lent 0 (pos 0))) (degree : d ≡ byteOf (getD lent 1 (pos 0))) where
-    pub one-degree : known k d 0 ≡ true
+  -- kind and degrees as they are read
+  module _ {k d e : ℕ} (kind : k ≡ byteOf (getD lent 0 (pos 0))) (degree : d ≡ byteOf (getD lent 1 (pos 0))) (second : e ≡ byteOf (getD lent 2 (pos 0))) where
+    pub known-there : known k d e ≡ true
     unfolding netAt
-    one-degree = (λ i. known (kind i) (degree i) (sym second-none i)) ∙ right
+    known-there = (λ i. known (kind i) (degree i) (second i)) ∙ right
 
-    pub head-there : netHead (netAt lent) ≡ headLine k d 0
+    pub head-there : netHead (netAt lent) ≡ headLine k d e
     unfolding netAt
-    head-there = sym (λ i. headLine (kind i) (degree i) (sym second-none i))
+    head-there = sym (λ i. headLine (kind i) (degree i) (second i))
 
     -- the entries are r numbers, which stand behind the head
-    module _ {r : ℕ} (count : r ≡ numberCount (groupsOf k d 0)) where
+    module _ {r : ℕ} (count : r ≡ numberCount (groupsOf k d e)) where
       pub entries-few : r ≤ 180
-      entries-few = let fit = entries-fit k d 0 one-degree in omega (arith, count, fit)
+      entries-few = let fit = entries-fit k d e known-there in omega (arith, count, fit)
 
-      pub entries-long : length (take (12 + r - 12) (drop 12 lent)) ≡ numberCount (groupsOf k d 0)
+      pub entries-long : length (take (12 + r - 12) (drop 12 lent)) ≡ numberCount (groupsOf k d e)
       entries-long =
           let few = entries-few in
           let l = stands .long in
           let cut : 12 + r - 12 ≡ r = omega arith in
           length-take-le (12 + r - 12) (drop 12 lent) (simp length-drop (omega arith)) ∙ cut ∙ count
 
-      pub lines-there : netLines (netAt lent) ≡ entryLines k (countsOver (groupsOf k d 0)) (take (12 + r - 12) (drop 12 lent))
+      pub lines-there : netLines (netAt lent) ≡ entryLines (countsOver (groupsOf k d e)) (take (12 + r - 12) (drop 12 lent))
       unfolding netLines netAt
       lines-there =
           let cut : r ≡ 12 + r - 12 = omega arith in
-          sym
-          (λ i.
-          entryLines (kind i) (countsOver (groupsOf (kind i) (degree i) (sym second-none i))) (take (numberCount (groupsOf (kind i) (degree i) (sym second-none i))) (drop 12 lent)))
-          ∙ ap (λ n. entryLines k (countsOver (groupsOf k d 0)) (take n (drop 12 lent))) (sym count ∙ cut)
+          sym (λ i. entryLines (countsOver (groupsOf (kind i) (degree i) (second i))) (take (numberCount (groupsOf (kind i) (degree i) (second i))) (drop 12 lent)))
+          ∙ ap (λ n. entryLines (countsOver (groupsOf k d e)) (take n (drop 12 lent))) (sym count ∙ cut)
 
 -- ---- the number of a step
 

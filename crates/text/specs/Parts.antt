@@ -1,12 +1,12 @@
 -- What the private functions promise: parts of lines, the names of a net's entries, a net in lent places that takes calls, and the text as the net machine
 -- answers it. No public contract cites this.
-use Prim.Native.Nat.{ℕ, zero, suc}
+use Prim.Native.Nat.{ℕ, zero, suc, _≤_}
 use mathlib.Core.Path.{_≡_}
 use mathlib.Core.List.{List, [], _∷_, _++_, map}
 use lib.IntN.{ℤ}
-use lib.ListN.{length}
+use lib.ListN.{length, take}
 use Rattle.polar.specs.Order.{joined}
-use Rattle.kinds.specs.Kinds.{dimensionOf}
+use Rattle.polar.specs.Groups.{Group, countsOver}
 use Rattle.machine.specs.Refusals.{firstFailed}
 use Rattle.machine.specs.Steps.{refusalNumber, after, answers}
 use Rattle.machine.specs.Nets.{Net, handedTests, stepOf}
@@ -14,7 +14,7 @@ use Rattle.machine.specs.Lent.{netAt}
 use Rattle.machine.specs.declared.Call.{Call}
 use Rattle.opening.specs.Opening.{movesOf, pointOf}
 use Rattle.text.specs.Words.{decimal, signedDecimal}
-use Rattle.text.specs.Text.{indices, headLine, moveLines, netLines, pointLine}
+use Rattle.text.specs.Text.{named, headLine, moveLines, entryLines, netLines, pointLine}
 
 -- ---- parts of lines
 
@@ -36,26 +36,40 @@ between [] = []
 between (w ∷ []) = w
 between (w ∷ next ∷ words) = w ++ (32 ∷ between (next ∷ words))
 
--- ---- entries of a net of one group, by its dimension
+-- ---- the line of an entry: the first group has two or three vertices, and at most one group of two comes after it
 
--- the counts of an entry, i of the first vertex, j of the second and k of the third
+-- the counts of two vertices or of three
+abbrev pub TwoOrThree : List ℕ → Type 0
+TwoOrThree e = (2 ≤ length e) × (length e ≤ 3)
+
+-- the indices of a group
+abbrev pub nameText : List ℕ → List ℕ
+nameText e = between (map decimal (named e))
+
+-- a number of the group after the first, by its dimension; 0 is that of no group
+abbrev pub laterText : ℕ → ℕ → List ℕ
+laterText zero n = []
+laterText (suc d) n = 32 ∷ decimal n
+
+-- e are the counts of the first group, and l is the index of the group after it
+abbrev pub entryText : List ℕ → ℕ → ℕ → List ℤ → List ℕ
+entryText e later l numbers = nameText e ++ (laterText later l ++ numbersText numbers)
+
+-- ---- the order of the entries
+
+-- the counts of a group of dimension 1 or 2: i of the first vertex, j of the second and k of the third
 abbrev pub countsAt : ℕ → ℕ → ℕ → ℕ → List ℕ
-countsAt zero i j k = i ∷ []
-countsAt (suc zero) i j k = i ∷ j ∷ []
-countsAt (suc (suc n)) i j k = i ∷ j ∷ k ∷ []
-
--- the entry's counts for each group, and the words that name it
-abbrev pub entryCounts : ℕ → ℕ → ℕ → ℕ → List (List ℕ)
-entryCounts kind i j k = countsAt (dimensionOf kind) i j k ∷ []
-
-abbrev pub nameText : ℕ → ℕ → ℕ → ℕ → List ℕ
-nameText kind i j k = between (map decimal (indices kind (entryCounts kind i j k)))
+countsAt n i j k = take (suc n) (i ∷ j ∷ k ∷ [])
 
 -- row h: the vertices after the first are taken h times together, and this is how often the third is at most; two vertices leave no third
 abbrev pub lastOf : ℕ → ℕ → ℕ
 lastOf zero h = 0
 lastOf (suc zero) h = 0
 lastOf (suc (suc n)) h = h
+
+-- the lines of the entries with the counts e of the first group, in the order of the groups after it
+abbrev pub linesUnder : List ℕ → List Group → List ℤ → List ℕ
+linesUnder e later numbers = entryLines (map (λ es. e ∷ es) (countsOver later)) numbers
 
 -- ---- a net in lent places
 

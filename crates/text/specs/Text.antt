@@ -35,15 +35,21 @@ word (c then s) = code c ∷ word s
 unfoldable pub refusedLine : ℕ → ℕ → List ℕ
 refusedLine number offset = line (word "refused" ∷ decimal number ∷ word "at" ∷ decimal offset ∷ [])
 
--- ---- what the text says by the kind. To add a kind, add it here and to src/kind.rt; the rest of the text goes by the groups of the kind.
+-- ---- what the text says by the kind: its word. To add a kind, add it here and to src/kind.rt; the rest of the text goes by the groups of the kind.
 
--- 'kind word (`curve` or `patch`)'
+-- 'kind word (`curve` or `patch`)', 'The kind word is `rect`'
 abbrev pub kindWord : ℕ → List ℕ
-kindWord kind = cond (eqb kind 1) (word "curve") (word "patch")
+kindWord kind = cond (eqb kind 1) (word "curve") (cond (eqb kind 2) (word "patch") (word "rect"))
 
--- 'the entry's j (or i j k)': of a curve's entry the copies of s, of a patch's the copies of r, s and t. An entry's counts are a list for each group.
-abbrev pub indices : ℕ → List (List ℕ) → List ℕ
-indices kind es = joined (λ e. cond (eqb kind 1) (drop 1 e) e) es
+-- ---- what the text says by the groups: how an entry is named. An entry's counts are a list for each group.
+
+-- 'the entry's j (or i j k)', 'entry i j has i copies of s1 and j of s2': of two vertices the copies of the second, of three those of all
+abbrev pub named : List ℕ → List ℕ
+named e = cond (eqb (length e) 2) (drop 1 e) e
+
+-- group after group
+abbrev pub indices : List (List ℕ) → List ℕ
+indices es = joined named es
 
 -- ---- the first line: kind word, the degree of each group, scale
 
@@ -61,18 +67,18 @@ unfoldable pub moveLines : ℕ → List Answer → List ℕ
 moveLines k [] = []
 moveLines k (a ∷ rest) = moveLine k (refusalNumber a) ++ moveLines (suc k) rest
 
--- ---- the net: a line for each entry, its place and its four numbers
+-- ---- the net: a line for each entry, its indices and its four numbers
 
-unfoldable pub entryLine : ℕ → List (List ℕ) → List ℤ → List ℕ
-entryLine kind es numbers = line (map decimal (indices kind es) ++ map signedDecimal numbers)
+unfoldable pub entryLine : List (List ℕ) → List ℤ → List ℕ
+entryLine es numbers = line (map decimal (indices es) ++ map signedDecimal numbers)
 
 -- the entries with their numbers, four to an entry
-unfoldable pub entryLines : ℕ → List (List (List ℕ)) → List ℤ → List ℕ
-entryLines kind [] numbers = []
-entryLines kind (es ∷ ess) numbers = entryLine kind es (take 4 numbers) ++ entryLines kind ess (drop 4 numbers)
+unfoldable pub entryLines : List (List (List ℕ)) → List ℤ → List ℕ
+entryLines [] numbers = []
+entryLines (es ∷ ess) numbers = entryLine es (take 4 numbers) ++ entryLines ess (drop 4 numbers)
 
 unfoldable pub netLines : Net → List ℕ
-netLines net = entryLines (net .kind) (countsOver (netGroups net)) (net .entries)
+netLines net = entryLines (countsOver (netGroups net)) (net .entries)
 
 -- ---- the point
 

@@ -56,9 +56,9 @@ impl Library for Static {
     }
 
     fn first(&mut self, given: &Given, net: &mut Net) -> Result<(), u8> {
-        let Given { kind, degree, frame, coefficients } = given;
+        let Given { kind, degree, second, frame, coefficients } = given;
         let mut lent = Lent::of(&net.0, BEHIND);
-        let number = raw::first(*kind, *degree, frame, coefficients, lent.lend());
+        let number = raw::first(*kind, *degree, *second, frame, coefficients, lent.lend());
         lent.back(&mut net.0);
         answer(number)
     }
@@ -115,7 +115,7 @@ fn main() -> ExitCode {
         }
     };
     let seconds = started.elapsed().as_secs_f64();
-    println!("{}; {seconds:.1} s, {:.0} calls a second; disagreements 0", counts.closing_lines(11), counts.calls as f64 / seconds);
+    println!("{}\n{seconds:.1} s, {:.0} calls a second; disagreements 0", counts.closing_lines(11), counts.calls as f64 / seconds);
     let missing = counts.missing(11);
     if missing.is_empty() {
         return ExitCode::SUCCESS;

@@ -1,20 +1,25 @@
 //! A library, answer by answer and net by net, against the machine and the
 //! handed-net model.
 
-use crate::calls::{Answer, Call};
+use crate::calls::{refused_before_size, Answer, Call, NO_WEIGHTS};
 use crate::counts::Counts;
-use crate::generate::{any_first, any_record, any_room, any_run, encode, everywhere, four_numbers, handed, made, Caller, Mood};
+use crate::generate::{any_first, any_record, any_room, any_run, any_shape, encode, everywhere, four_numbers, handed, made};
+use crate::generate::{Caller, Mood};
 use crate::handed::Net;
 use crate::library::{answer, Library};
 use crate::machine::Machine;
 use crate::projection::project_into;
 use crate::random::Random;
-use crate::record::{field_of, read_with_net, Record, Refusal};
-use crate::shape::Shape;
+use crate::record::{field_of, read_with_net, told_kind, Record, Refusal};
+use crate::shape::{in_range, Kind, Shape};
 use crate::text::text;
 
 /// A full sweep of damages, at every byte, once in so many lists.
 const SWEEP_ONCE_IN: usize = 400;
+
+/// From sweep to sweep so many shapes further on, which comes to all 43 and takes turns
+/// among the kinds.
+const SWEEP_STEP: usize = 16;
 
 /// Every tag there is, once in so many records; else the five, two beside them, the
 /// largest and any one.
@@ -55,7 +60,7 @@ impl Run<'_> {
     /// The third demand: one record, one list, the machine beside it.
     fn record_list(&mut self, number: usize) -> Result<(), String> {
         let mood = Mood::ALL[number % Mood::ALL.len()];
-        let shape = self.random.pick(&Shape::all());
+        let shape = any_shape(&mut self.random);
         let made = made(&mut self.random, shape, mood);
         let bytes = encode(&made.record);
         let context = |what: String, calls: &[Call]| format!("{what}\nrecord {}\ncalls {calls:?}", hex(&bytes));
@@ -86,7 +91,7 @@ impl Run<'_> {
         self.counts.run(&net);
         let start = net.clone();
         let shape = if net.is_short() { None } else { net.shape() };
-        let kind = shape.map_or(crate::shape::Kind::Patch, |shape| shape.kind);
+        let kind = shape.map_or(Kind::Patch, |shape| shape.kind);
         let mood = self.random.pick(&[Mood::Plain, Mood::Units, Mood::Wide, Mood::Broken]);
         let mut caller = Caller::blind(kind, mood, WEIGHT_BITS);
         let mut calls = Vec::new();
@@ -116,11 +121,11 @@ impl Run<'_> {
     /// One record damaged at every byte and cut at every length.
     fn sweep(&mut self, number: usize) -> Result<(), String> {
         let all = Shape::all();
-        let shape = all[number % all.len()];
+        let shape = all[SWEEP_STEP * number % all.len()];
         let mut made = made(&mut self.random, shape, Mood::Plain);
-        let moved = Call::Move { operation: 1, vertex: 1, weights: [1, -1, 0] };
-        made.record.moves = vec![moved, Call::Move { operation: 2, vertex: 2, weights: [0; 3] }];
-        made.record.point = Some([1, 2, 0]);
+        let moved = Call::Move { operation: 1, vertex: 1, weights: [1, -1, 0, 0] };
+        made.record.moves = vec![moved, Call::Move { operation: 2, vertex: 2, weights: NO_WEIGHTS }];
+        made.record.point = Some(if shape.kind == Kind::Rect { [1, 2, 0, 1] } else { [1, 2, 0, 0] });
         let lent = handed(&mut self.random);
         for bytes in everywhere(&encode(&made.record)) {
             self.check_read(&bytes, &mut lent.clone())?;
@@ -145,8 +150,11 @@ impl Run<'_> {
             (_, Answer::Point { x, y, z, w, .. }) => wanted[..4].copy_from_slice(&[x, y, z, w]),
             _ => {}
         }
+        if let (Call::Point { weights }, Some(shape)) = (*call, rect_in_order(&before, call)) {
+            self.counts.point_of_a_rect(&before, shape, weights);
+        }
         let given = answer(self.library, net, call, &mut found);
-        self.counts.answer(&given);
+        self.counts.answer(before.kind(), &given);
         if given != expected {
             return Err(format!("the library answers {given:?}, expected {expected:?}, on {before:?}"));
         }
@@ -174,7 +182,7 @@ impl Run<'_> {
             Err(refusal) => Err(*refusal),
         };
         let given = self.library.read(bytes, net);
-        self.counts.read(expected);
+        self.counts.read(told_kind(bytes), expected);
         if given != expected.map(|_| ()) {
             return Err(format!("read {given:?}, expected {expected:?}\nrecord {}", hex(bytes)));
         }
@@ -191,7 +199,7 @@ impl Run<'_> {
         let mut expected_net = net.clone();
         let expected = numbers.make(&mut expected_net);
         let given = self.library.first(&numbers, &mut net);
-        self.counts.first(&expected);
+        self.counts.first(Kind::numbered(numbers.kind.into()), &expected);
         if given != expected {
             return Err(format!("first net {given:?}, expected {expected:?}\n{numbers:?}"));
         }
@@ -228,7 +236,7 @@ impl Run<'_> {
                 wanted[..expected.len()].copy_from_slice(&expected);
             }
             let given = self.library.text(bytes, &mut buffer);
-            self.counts.text(&wanted_answer);
+            self.counts.text(told_kind(bytes), &wanted_answer);
             if given != wanted_answer || buffer != wanted {
                 let (said, should) = (String::from_utf8_lossy(&buffer), String::from_utf8_lossy(&wanted));
                 return Err(format!("text {given:?}\n{said}\nexpected {wanted_answer:?}\n{should}\nrecord {}", hex(bytes)));
@@ -249,6 +257,13 @@ impl Run<'_> {
         }
         Ok(())
     }
+}
+
+/// The shape of a rectangular patch on which nothing but size can refuse the call.
+fn rect_in_order(net: &Net, call: &Call) -> Option<Shape> {
+    let shape = if net.is_short() { None } else { net.shape() };
+    let in_range = |shape: &Shape| net.numbers(*shape).iter().all(|&number| in_range(number));
+    shape.filter(|shape| shape.kind == Kind::Rect && refused_before_size(Kind::Rect, call).is_none()).filter(in_range)
 }
 
 /// The net left must be of the machine's shape and hold what the machine's own frame

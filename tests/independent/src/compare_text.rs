@@ -4,17 +4,19 @@ use crate::compare::hex;
 use crate::counts::Counts;
 use crate::generate::{any_record, everywhere};
 use crate::random::Random;
-use crate::samples::{circle_record, patch_record};
+use crate::record::told_kind;
+use crate::samples::{circle_record, patch_record, rect_record};
 use crate::text::{outcome, write, LONGEST_INPUT};
 use std::io::Write;
 use std::process::{Command, Stdio};
 
-/// The records of a run: every damage of two samples, in turn with generated ones.
+/// The records of a run: every damage of three samples, in turn with generated ones.
 pub fn records(count: usize, seed: u64) -> Vec<Vec<u8>> {
     let mut random = Random::new(seed);
-    let mut sweep: Vec<Vec<u8>> = vec![Vec::new(), circle_record(), patch_record()];
-    sweep.extend(everywhere(&circle_record()));
-    sweep.extend(everywhere(&patch_record()));
+    let samples = [circle_record(), patch_record(), rect_record()];
+    let mut sweep: Vec<Vec<u8>> = vec![Vec::new()];
+    sweep.extend_from_slice(&samples);
+    samples.iter().for_each(|sample| sweep.extend(everywhere(sample)));
     let mut next = sweep.into_iter();
     let mut one = |number: usize| match number % 3 {
         0 => next.next().unwrap_or_else(|| any_record(&mut random)),
@@ -28,7 +30,7 @@ pub fn compare_text(program: &str, count: usize, seed: u64) -> Result<Counts, St
     let mut counts = Counts::default();
     for (number, bytes) in records(count, seed).iter().enumerate() {
         let expected = outcome(&bytes[..bytes.len().min(LONGEST_INPUT)]);
-        counts.outcome(&expected);
+        counts.outcome(told_kind(bytes), &expected);
         let expected = write(&expected);
         let given = said(program, bytes).map_err(|error| format!("{program}: {error}"))?;
         if given != expected.as_bytes() {

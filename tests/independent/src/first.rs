@@ -9,12 +9,14 @@ use crate::shape::Shape;
 pub const FRAME: usize = 9;
 pub const COEFFICIENTS: usize = 180;
 
-/// What a first net is made of: a curve takes four numbers of the frame, a patch nine,
-/// and the coefficients stand four to a monomial in the record's order.
+/// What a first net is made of: a curve takes four numbers of the frame, a patch nine, a
+/// rectangular patch eight, and the coefficients stand four to a monomial in the record's
+/// order.
 #[derive(Clone, Debug)]
 pub struct Given {
     pub kind: u8,
     pub degree: u8,
+    pub second: u8,
     pub frame: Vec<i64>,
     pub coefficients: Vec<i64>,
 }
@@ -25,13 +27,51 @@ impl Given {
         if self.frame.len() < FRAME || self.coefficients.len() < COEFFICIENTS || net.is_short() {
             return Err(11);
         }
-        let shape = Shape::named(i64::from(self.kind), i64::from(self.degree)).ok_or(4)?;
-        let vertices = shape.vertices();
-        let frame = frame(shape, &self.frame[..vertices * vertices]).ok_or(5)?;
+        let shape = Shape::named(self.kind.into(), self.degree.into(), self.second.into()).ok_or(4)?;
+        let frame = frame(shape.kind, &self.frame[..shape.kind.frame_numbers()]).ok_or(5)?;
         let coefficients = coefficients(&self.coefficients[..4 * shape.places()]).ok_or(6)?;
         let record = Record { shape, frame, coefficients, moves: Vec::new(), point: None, coefficients_at: 0 };
         let entries = record.first_net().map_err(|refusal| refusal.number)?;
         net.write(shape, &entries);
         Ok(())
+    }
+}
+
+#[cfg(test)]
+mod tests {
+    use super::*;
+
+    /// All coefficients of x at the largest, over (4, 4) and (1, 0) in both pairs.
+    fn large(degree: u8, second: u8) -> Given {
+        let coefficients = (0..COEFFICIENTS).map(|place| if place % 4 == 0 { 1 << 20 } else { 0 }).collect();
+        Given { kind: 3, degree, second, frame: vec![4, 4, 1, 0, 4, 4, 1, 0, i64::MAX], coefficients }
+    }
+
+    #[test]
+    fn only_the_highest_degrees_of_a_rectangular_patch_can_be_too_large() {
+        for shape in crate::shape::Kind::Rect.shapes() {
+            let [p, q] = shape.degrees.map(|degree| degree as u8);
+            let wanted = if p + q >= 9 { Err(7) } else { Ok(()) };
+            assert_eq!(large(p, q).make(&mut Net::empty()), wanted, "{p} {q}");
+        }
+        let mut net = Net::empty();
+        large(4, 4).make(&mut net).unwrap();
+        assert_eq!((&net.0[..3], net.0[12]), (&[3, 4, 4][..], 25 * 144 << (2 * 8 + 20)));
+    }
+
+    #[test]
+    fn a_first_net_is_tested_from_its_head_on() {
+        let spoil = |change: fn(&mut Given)| {
+            let mut given = large(5, 5);
+            change(&mut given);
+            given.make(&mut Net::empty())
+        };
+        assert_eq!(spoil(|given| (given.second, given.frame[0]) = (6, 5)), Err(4));
+        assert_eq!(spoil(|given| (given.kind, given.frame[0]) = (1, 5)), Err(4));
+        assert_eq!(spoil(|given| (given.frame[0], given.coefficients[143]) = (5, 1 << 21)), Err(5));
+        assert_eq!(spoil(|given| (given.frame[7], given.coefficients[143]) = (1, 1 << 21)), Err(5));
+        assert_eq!(spoil(|given| given.coefficients[143] = (1 << 20) + 1), Err(6));
+        assert_eq!(spoil(|given| given.coefficients[144] = (1 << 20) + 1), Err(7));
+        assert_eq!(spoil(|given| drop(given.frame.pop())), Err(11));
     }
 }

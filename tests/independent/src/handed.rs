@@ -4,7 +4,7 @@
 
 use crate::calls::{place_of, refused_before_size, Answer, Call, Weights, FLIP};
 use crate::projection::project;
-use crate::shape::{in_range, Kind, Shape};
+use crate::shape::{in_range, Copies, Kind, Shape};
 
 /// So many places a net has at least; fewer are refused, 11, and further ones are its
 /// owner's.
@@ -15,7 +15,7 @@ pub const PLACES: usize = 193;
 pub const ENTRIES: usize = 12;
 
 /// A net in a run of 64-bit numbers: kind, degree and second degree (0 for a curve or
-/// patch) at 0, 1 and 2, the components of entry e at 12 + 4e and the three places
+/// triangular patch) at 0, 1 and 2, the components of entry e at 12 + 4e and the three places
 /// after it. All other places hold anything.
 #[derive(Clone, Debug, PartialEq, Eq)]
 pub struct Net(pub Vec<i64>);
@@ -33,15 +33,19 @@ impl Net {
 
     /// Writes kind, degrees and entries; the unused places keep their values.
     pub fn write(&mut self, shape: Shape, entries: &[[i64; 4]]) {
-        self.0[..3].copy_from_slice(&[i64::from(shape.kind.number()), shape.degree as i64, 0]);
+        self.0[..3].copy_from_slice(&head(shape));
         for (place, number) in self.0[ENTRIES..].iter_mut().zip(entries.iter().flatten()) {
             *place = *number;
         }
     }
 
+    /// The kind that the run says it is of, whatever else is wrong with it.
+    pub fn kind(&self) -> Option<Kind> {
+        self.0.first().and_then(|&number| Kind::numbered(number))
+    }
+
     pub fn shape(&self) -> Option<Shape> {
-        let named = Shape::named(self.0[0], self.0[1]);
-        named.filter(|_| self.0[2] == 0)
+        Shape::named(self.0[0], self.0[1], self.0[2])
     }
 
     /// The numbers of the entries that this shape uses.
@@ -53,6 +57,22 @@ impl Net {
     pub fn used(&self, shape: Shape) -> Entries {
         let entry = |four: &[i64]| [four[0], four[1], four[2], four[3]];
         self.numbers(shape).chunks(4).map(entry).collect()
+    }
+
+    /// The net of the same rectangular patch with its two pairs exchanged.
+    pub fn with_pairs_exchanged(&self, shape: Shape) -> Net {
+        let [p, q] = shape.degrees;
+        let entries = self.used(shape);
+        let turned: Entries = (0..=q).flat_map(|j| (0..=p).map(move |i| i * (q + 1) + j)).map(|place| entries[place]).collect();
+        let mut other = self.clone();
+        other.write(Shape::rect(q, p), &turned);
+        other
+    }
+
+    /// The pair with which a point on a rectangular patch is refused for size, counted from
+    /// 0; the net and the weights must be in order.
+    pub fn refused_in_pair(&self, shape: Shape, weights: Weights) -> Option<usize> {
+        at_point(shape, self.used(shape), weights).err()
     }
 
     /// The room is judged first (11), then the net itself (4, then 10), whatever the
@@ -76,16 +96,19 @@ impl Net {
         match *call {
             Call::Move { operation: FLIP, vertex, .. } => self.write(shape, &flipped(shape, &entries, vertex)),
             Call::Move { vertex, weights, .. } => {
-                let levels = levels(shape, entries, weights).ok_or(10)?;
+                let group = shape.kind.group_of(place_of(vertex));
+                let levels = levels(shape, entries, group, &weights).ok_or(10)?;
                 self.write(shape, &replaced(shape, &levels, vertex));
             }
-            Call::Point { weights } => {
-                let levels = levels(shape, entries, weights).ok_or(10)?;
-                return found(levels[shape.degree][0]);
-            }
+            Call::Point { weights } => return found(at_point(shape, entries, weights).map_err(|_| 10)?),
         }
         Ok(Answer::Taken)
     }
+}
+
+/// Kind, degree and second degree.
+pub fn head(shape: Shape) -> [i64; 3] {
+    [i64::from(shape.kind.number()), shape.degrees[0] as i64, shape.degrees[1] as i64]
 }
 
 fn found(point: [i64; 4]) -> Result<Answer, u8> {
@@ -99,18 +122,19 @@ fn all_in_range(entries: &[[i64; 4]]) -> bool {
 
 /// Each copy of the vertex brings one minus sign, and two of them cancel.
 fn flipped(shape: Shape, entries: &[[i64; 4]], vertex: u8) -> Entries {
-    let odd = |copies: &[usize; 3]| copies[place_of(vertex)] % 2 == 1;
-    let turn = |(copies, entry): (&[usize; 3], &[i64; 4])| if odd(copies) { entry.map(|c| -c) } else { *entry };
+    let odd = |copies: &Copies| copies[place_of(vertex)] % 2 == 1;
+    let turn = |(copies, entry): (&Copies, &[i64; 4])| if odd(copies) { entry.map(|c| -c) } else { *entry };
     shape.copies().iter().zip(entries).map(turn).collect()
 }
 
-/// Level n holds the polar values with n copies of q and m − n vertices, in the
-/// order of a net of degree m − n. All levels together are all the polar values
-/// from frame and q; nothing if one of them is out of range.
-fn levels(shape: Shape, entries: Entries, weights: Weights) -> Option<Vec<Entries>> {
+/// Level n holds the polar values with n copies of q and all other points from the frame,
+/// q being named by a group's weights and taken in place of its vertices. They stand in
+/// the order of a net whose degree of that group is n less. All levels together are all
+/// the polar values with any number of q; nothing if one of them is out of range.
+fn levels(shape: Shape, entries: Entries, group: usize, weights: &[i64]) -> Option<Vec<Entries>> {
     let mut levels = vec![entries];
-    for taken in 1..=shape.degree {
-        let next = one_more(shape.kind, shape.degree - taken, &levels[taken - 1], weights);
+    for left in (0..shape.degrees[group]).rev() {
+        let next = one_more(shape.with_degree(group, left), &levels[levels.len() - 1], group, weights);
         if !all_in_range(&next) {
             return None;
         }
@@ -119,60 +143,58 @@ fn levels(shape: Shape, entries: Entries, weights: Weights) -> Option<Vec<Entrie
     Some(levels)
 }
 
-/// Puts q in one place more. The level below is in range, so a sum of three of its
-/// numbers times 4096 is within 2 to the 62nd.
-fn one_more(kind: Kind, degree: usize, below: &[[i64; 4]], weights: Weights) -> Entries {
-    let sum_at = |copies: [usize; 3]| {
+/// Puts q in one place more, which leaves a net of this shape. The level below is in range,
+/// so a sum of three of its numbers times 4096 is within 2 to the 62nd.
+fn one_more(shape: Shape, below: &[[i64; 4]], group: usize, weights: &[i64]) -> Entries {
+    let longer_shape = shape.with_degree(group, shape.degrees[group] + 1);
+    let vertices = shape.groups()[group].span();
+    let sum_at = |copies: Copies| {
         let mut sum = [0; 4];
-        for vertex in 0..kind.vertices() {
+        for (vertex, weight) in vertices.clone().zip(weights) {
             let mut longer = copies;
             longer[vertex] += 1;
-            let entry = below[place(kind, longer)];
+            let entry = below[longer_shape.place(&longer)];
             for (total, component) in sum.iter_mut().zip(entry) {
-                *total += weights[vertex] * component;
+                *total += weight * component;
             }
         }
         sum
     };
-    kind.copies(degree).into_iter().map(sum_at).collect()
-}
-
-/// Where the entry with these copies stands in the net of their degree: before it
-/// come all with more copies of r, then those with as many and more of s.
-fn place(kind: Kind, [_, j, k]: [usize; 3]) -> usize {
-    match kind {
-        Kind::Curve => j,
-        Kind::Patch => (j + k) * (j + k + 1) / 2 + k,
-    }
+    shape.copies().into_iter().map(sum_at).collect()
 }
 
 /// Over the new frame, each copy of the vertex is a copy of q.
 fn replaced(shape: Shape, levels: &[Entries], vertex: u8) -> Entries {
     let at = place_of(vertex);
-    let entry = |copies: [usize; 3]| {
+    let group = shape.kind.group_of(at);
+    let entry = |copies: Copies| {
+        let taken = copies[at];
         let mut others = copies;
         others[at] = 0;
-        levels[copies[at]][place(shape.kind, others)]
+        levels[taken][shape.with_degree(group, shape.degrees[group] - taken).place(&others)]
     };
     shape.copies().into_iter().map(entry).collect()
+}
+
+/// One group after the other gives way to its q, until one polar value is left; the group's
+/// number if one on the way is out of range.
+fn at_point(mut shape: Shape, mut entries: Entries, weights: Weights) -> Result<[i64; 4], usize> {
+    for (group, weights) in shape.kind.grouped(&weights).iter().enumerate() {
+        let mut levels = levels(shape, entries, group, weights).ok_or(group)?;
+        entries = levels.pop().expect("at least the entries");
+        shape = shape.with_degree(group, 0);
+    }
+    Ok(entries[0])
 }
 
 #[cfg(test)]
 mod tests {
     use super::*;
-
-    #[test]
-    fn places_count_the_order_of_a_net() {
-        for shape in Shape::all() {
-            for (index, copies) in shape.copies().into_iter().enumerate() {
-                assert_eq!(place(shape.kind, copies), index);
-            }
-        }
-    }
+    use crate::calls::NO_WEIGHTS;
 
     #[test]
     fn only_numbers_in_use_are_read_and_written() {
-        let shape = Shape { kind: Kind::Curve, degree: 1 };
+        let shape = Shape::curve(1);
         let mut net = Net((0..200).map(|place| i64::MIN + place).collect());
         let before = net.clone();
         net.write(shape, &[[1, 2, 3, 4], [5, 6, 7, 8]]);
@@ -180,18 +202,96 @@ mod tests {
         assert_eq!(net.0[3..12], before.0[3..12]);
         assert_eq!(net.0[12..20], [1, 2, 3, 4, 5, 6, 7, 8]);
         assert_eq!(net.0[20..], before.0[20..]);
-        let flip = Call::Move { operation: FLIP, vertex: 1, weights: [0; 3] };
+        let flip = Call::Move { operation: FLIP, vertex: 1, weights: NO_WEIGHTS };
         assert_eq!(net.answer(&flip), Answer::Taken);
         assert_eq!(net.0[12..21], [-1, -2, -3, -4, 5, 6, 7, 8, before.0[20]]);
     }
 
     #[test]
     fn room_goes_before_the_head() {
-        let flip = Call::Move { operation: FLIP, vertex: 1, weights: [0; 3] };
-        for (length, kind, second, number) in [(192, 0, 0, 11), (0, 0, 0, 11), (193, 0, 0, 4), (193, 1, 1, 4), (194, 1, -1, 4)] {
-            let mut run = vec![kind, 1, second];
+        let flip = Call::Move { operation: FLIP, vertex: 1, weights: NO_WEIGHTS };
+        for (length, head, number) in [
+            (192, [0, 1, 0], 11),
+            (0, [0, 1, 0], 11),
+            (192, [3, 1, 1], 11),
+            (193, [0, 1, 0], 4),
+            (193, [1, 1, 1], 4),
+            (194, [1, 1, -1], 4),
+            (193, [2, 1, 1], 4),
+            (193, [3, 1, 0], 4),
+            (193, [3, 0, 1], 4),
+            (193, [3, 6, 5], 4),
+            (193, [3, 5, 261], 4),
+            (193, [259, 5, 5], 4),
+        ] {
+            let mut run = head.to_vec();
             run.resize(length, 0);
             assert_eq!(Net(run).answer(&flip), Answer::Refused(number));
+        }
+    }
+
+    /// A net of bidegree (1, 1) with entries in x alone: r1 r2, r1 s2, s1 r2, s1 s2.
+    fn bilinear(x: [i64; 4]) -> Net {
+        let mut net = Net::empty();
+        net.write(Shape::rect(1, 1), &x.map(|x| [x, 0, 0, 0]));
+        net
+    }
+
+    fn point(net: &mut Net, weights: Weights) -> Result<i64, u8> {
+        match net.answer(&Call::Point { weights }) {
+            Answer::Point { x, .. } => Ok(x),
+            Answer::Refused(number) => Err(number),
+            Answer::Taken => unreachable!("a point is found or refused"),
+        }
+    }
+
+    /// Its size is tested with q1 and the second pair's frame, then with q1 and q2: never
+    /// with the first pair's frame and q2.
+    #[test]
+    fn the_size_of_a_point_is_not_symmetric_in_the_pairs() {
+        let full = crate::shape::RANGE;
+        // r1 at q2 is 2 to the 49th, which only a symmetric test would refuse.
+        assert_eq!(point(&mut bilinear([full, full, -full, -full]), [1, 1, 1, 1]), Ok(0));
+        // The same with the pairs exchanged: q1 at r2 is refused in the first stage.
+        assert_eq!(point(&mut bilinear([full, -full, full, -full]), [1, 1, 1, 1]), Err(10));
+        // Within the range for q1 over the second pair, and not at q1, q2.
+        assert_eq!(point(&mut bilinear([full, full, 0, 0]), [1, 1, 1, 1]), Err(10));
+        assert_eq!(point(&mut bilinear([full, full, 0, 0]), [1, 1, 1, 0]), Ok(full));
+        assert_eq!(point(&mut bilinear([full, 1, 0, 0]), [1, 1, 1, -1]), Ok(full - 1));
+    }
+
+    /// With q1 = r1 nothing new comes in the first stage; in the second, over r2 r2, r2 s2,
+    /// s2 s2 of 2^48, 0 and −2^48, the value at q2 = 2 r2 + 2 s2 is 0, and r2 q2 is 2^49.
+    #[test]
+    fn the_second_stage_refuses_on_its_way() {
+        let full = crate::shape::RANGE;
+        let mut net = Net::empty();
+        let x = [full, 0, -full, 0, 0, 0, 0, 0, 0];
+        net.write(Shape::rect(2, 2), &x.map(|x| [x, 0, 0, 0]));
+        assert_eq!(point(&mut net, [1, 0, 1, 1]), Ok(0));
+        assert_eq!(point(&mut net, [1, 0, 2, 2]), Err(10));
+        assert_eq!(point(&mut net, [0, 1, 2, 2]), Ok(0));
+    }
+
+    /// A replace takes its own pair's points from that pair and q, the other's from its frame.
+    #[test]
+    fn a_replace_looks_at_its_own_pair() {
+        let full = crate::shape::RANGE;
+        let replace = |vertex, weights| Call::Move { operation: 1, vertex, weights };
+        for (vertex, x, weights, wanted) in [
+            (1, [full, full, -full, -full], [1, 1, 0, 0], Ok([0, 0, -full, -full])),
+            (3, [full, full, -full, -full], [1, 1, 0, 0], Err(10)),
+            (3, [full, -full, full, -full], [1, 1, 0, 0], Ok([0, -full, 0, -full])),
+            (4, [1, 10, 100, 1000], [2, 3, 0, 0], Ok([1, 32, 100, 3200])),
+            (2, [1, 10, 100, 1000], [2, 3, 0, 0], Ok([1, 10, 302, 3020])),
+        ] {
+            let mut net = bilinear(x);
+            let before = net.clone();
+            match (net.answer(&replace(vertex, weights)), wanted) {
+                (Answer::Taken, Ok(x)) => assert_eq!(net, bilinear(x)),
+                (answer, Err(number)) => assert_eq!((answer, net), (Answer::Refused(number), before)),
+                (answer, _) => panic!("vertex {vertex}: {answer:?}"),
+            }
         }
     }
 }

@@ -42,12 +42,12 @@ impl Machine {
 
     /// Every entry's polar value over this frame, in the net's order.
     pub fn net(&self) -> Option<Vec<[i64; 4]>> {
-        self.polynomials.values(&self.frame)
+        self.polynomials.values(&self.groups())
     }
 
     /// The same by the exact integer alone.
     pub fn net_exactly(&self) -> Option<Vec<[i64; 4]>> {
-        self.polynomials.values_exactly(&self.frame)
+        self.polynomials.values_exactly(&self.groups())
     }
 
     /// Only signs of polar values change, so no size is tested.
@@ -57,46 +57,63 @@ impl Machine {
         Answer::Taken
     }
 
+    /// The new vertex's own group is mixed with it, the other one is not.
     fn replace(&mut self, vertex: u8, weights: Weights) -> Answer {
-        let q = self.named(weights);
-        if self.too_large(&q) {
+        let place = place_of(vertex);
+        let mut groups = self.groups();
+        let own = self.shape().kind.group_of(place);
+        let q = named(&groups[own], &weights);
+        mix(&mut groups[own], &q);
+        if !self.polynomials.all_in_range(&groups) {
             return Answer::Refused(10);
         }
-        self.frame[place_of(vertex)] = q;
+        self.frame[place] = q;
         Answer::Taken
     }
 
-    /// The value at q comes from powers, by another way than the σ of the size test.
+    /// One group after the other: its own are mixed with its q, those before it have only
+    /// their q, and those after it have their frame. The value comes from powers, by another
+    /// way than the σ of the size test.
     fn point(&self, weights: Weights) -> Answer {
-        let q = self.named(weights);
-        if self.too_large(&q) {
-            return Answer::Refused(10);
+        let mut groups = self.groups();
+        let mut qs = Vec::new();
+        for (group, weights) in self.shape().kind.grouped(&weights).iter().enumerate() {
+            let q = named(&groups[group], weights);
+            mix(&mut groups[group], &q);
+            if !self.polynomials.all_in_range(&groups) {
+                return Answer::Refused(10);
+            }
+            groups[group] = vec![q.clone()];
+            qs.push(q);
         }
-        let found = self.polynomials.scaled_value(&q);
+        let found = self.polynomials.scaled_value(&qs);
         let small = |component: &Exact| component.when_in_range().expect("a named polar value, so in range");
         let [x, y, z, w] = [small(&found[0]), small(&found[1]), small(&found[2]), small(&found[3])];
         let projection = project([x, y, z, w]).expect("in range");
         Answer::Point { x, y, z, w, projection }
     }
 
-    /// q = αr + βs (+ γt).
-    fn named(&self, weights: Weights) -> Parameter<Exact> {
-        let mut q = parameter([0, 0, 0]);
-        for (vertex, weight) in self.frame.iter().zip(weights) {
-            for (sum, number) in q.iter_mut().zip(vertex) {
-                sum.add_times(number, weight);
-            }
-        }
-        q
+    /// The vertices, group by group.
+    fn groups(&self) -> Vec<Vec<Parameter<Exact>>> {
+        self.shape().kind.grouped(&self.frame)
     }
+}
 
-    /// Tries every mixture of the vertices with q. q goes first: where the size is too
-    /// large, its copies mostly show it at once.
-    fn too_large(&self, q: &Parameter<Exact>) -> bool {
-        let mut points = vec![q.clone()];
-        points.extend(self.frame.iter().cloned());
-        !self.polynomials.all_in_range(&points)
+/// q = αr + βs (+ γt), of the vertices of one group.
+fn named(group: &[Parameter<Exact>], weights: &[i64]) -> Parameter<Exact> {
+    let mut q = parameter([0, 0, 0]);
+    for (vertex, &weight) in group.iter().zip(weights) {
+        for (sum, number) in q.iter_mut().zip(vertex) {
+            sum.add_times(number, weight);
+        }
     }
+    q
+}
+
+/// q goes before the vertices: where the size is too large, its copies mostly show it at
+/// once.
+fn mix(group: &mut Vec<Parameter<Exact>>, q: &Parameter<Exact>) {
+    group.insert(0, q.clone());
 }
 
 pub fn negated(vertex: &Parameter<Exact>) -> Parameter<Exact> {

@@ -83,7 +83,7 @@ fn close(result: Result<Counts, String>, started: Instant, last_refusal: usize) 
     let missing = counts.missing(last_refusal);
     let seconds = started.elapsed().as_secs_f64();
     let rate = counts.calls as f64 / seconds.max(1e-9);
-    println!("{}; {seconds:.1} s, {rate:.0} a second; disagreements 0", counts.closing_lines(last_refusal));
+    println!("{}\n{seconds:.1} s, {rate:.0} a second; disagreements 0", counts.closing_lines(last_refusal));
     if missing.is_empty() {
         return ExitCode::SUCCESS;
     }

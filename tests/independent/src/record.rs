@@ -1,8 +1,8 @@
 //! The reader: any bytes, to a record or a numbered refusal with an offset.
 
-use crate::calls::{Call, Weights};
-use crate::polar::{parameter, Polynomials};
-use crate::shape::Shape;
+use crate::calls::{Call, Weights, NO_WEIGHTS};
+use crate::polar::{parameters, Polynomials};
+use crate::shape::{Kind, Shape};
 
 /// 2 to the 20th, either sign.
 pub const LARGEST_COEFFICIENT: i64 = 1_048_576;
@@ -16,8 +16,8 @@ pub struct Refusal {
     pub offset: usize,
 }
 
-/// What an accepted record says. A parameter point of a curve is (T, 0, Z), and
-/// its point's third weight is 0.
+/// What an accepted record says. A vertex (T, Z) of a curve or of a pair is (T, 0, Z),
+/// and the weights that a move or the point does not have are 0.
 #[derive(Clone, Debug, PartialEq, Eq)]
 pub struct Record {
     pub shape: Shape,
@@ -37,9 +37,8 @@ impl Record {
     /// Polar values of the frame's own vertices, in the net's order; 7 if one of them
     /// is too large.
     pub fn first_net(&self) -> Result<Vec<[i64; 4]>, Refusal> {
-        let frame: Vec<_> = self.frame.iter().map(|&vertex| parameter(vertex)).collect();
         let refused = Refusal { number: 7, offset: self.coefficients_at };
-        self.polynomials().values(&frame).ok_or(refused)
+        self.polynomials().values(&parameters(self.shape, &self.frame)).ok_or(refused)
     }
 }
 
@@ -48,6 +47,14 @@ pub fn read_with_net(bytes: &[u8]) -> Result<(Record, Vec<[i64; 4]>), Refusal> {
     let record = read(bytes)?;
     let net = record.first_net()?;
     Ok((record, net))
+}
+
+/// The kind that the bytes say they are of, refused or not.
+pub fn told_kind(bytes: &[u8]) -> Option<Kind> {
+    match *bytes {
+        [1, _, _, kind, ..] => Kind::numbered(kind.into()),
+        _ => None,
+    }
 }
 
 /// One field after the other; what is missing shows only when all are read.
@@ -136,8 +143,8 @@ impl Found {
 
     fn length_is_allowed(&self, tag: u8, length: usize) -> bool {
         match (tag, self.shape) {
-            (1, _) => length == 2,
-            (2, Some(shape)) => length == 2 * shape.vertices() * shape.vertices(),
+            (1, _) => length == 2 || length == 3,
+            (2, Some(shape)) => length == 2 * shape.kind.frame_numbers(),
             (3, Some(shape)) => length == 16 * shape.places(),
             (4, _) => length % 8 == 0 && length / 8 <= LARGEST_MOVE_COUNT,
             (5, Some(shape)) => length == 2 * shape.vertices(),
@@ -147,11 +154,8 @@ impl Found {
 
     fn take_value(&mut self, tag: u8, value: &[u8], at: usize) -> Result<(), u8> {
         match (tag, self.shape) {
-            (1, _) => {
-                let shape = Shape::named(i64::from(value[0]), i64::from(value[1]));
-                self.shape = Some(shape.ok_or(4)?);
-            }
-            (2, Some(shape)) => self.frame = Some(frame(shape, &short_numbers(value)).ok_or(5)?),
+            (1, _) => self.shape = Some(shape(value).ok_or(4)?),
+            (2, Some(shape)) => self.frame = Some(frame(shape.kind, &short_numbers(value)).ok_or(5)?),
             (3, Some(_)) => self.coefficients = Some((at, coefficients(&long_numbers(value)).ok_or(6)?)),
             (4, _) => self.moves = value.chunks(8).map(one_move).collect(),
             (_, _) => self.point = Some(weights(value)),
@@ -182,14 +186,29 @@ fn long_numbers(value: &[u8]) -> Vec<i64> {
     value.chunks(4).map(|four| i64::from(i32::from_be_bytes([four[0], four[1], four[2], four[3]]))).collect()
 }
 
-/// The vertices, if every number is within its limits and they are a frame.
-pub fn frame(shape: Shape, numbers: &[i64]) -> Option<Vec<[i64; 3]>> {
+/// The shape that field 1 names: a rectangular patch by three bytes, the others by two.
+fn shape(value: &[u8]) -> Option<Shape> {
+    let named = match *value {
+        [kind, degree] => Shape::named(kind.into(), degree.into(), 0),
+        [kind, degree, second] => Shape::named(kind.into(), degree.into(), second.into()),
+        _ => None,
+    };
+    named.filter(|shape| (shape.kind == Kind::Rect) == (value.len() == 3))
+}
+
+/// The vertices, if every number is within its limits and each group is a frame.
+pub fn frame(kind: Kind, numbers: &[i64]) -> Option<Vec<[i64; 3]>> {
     let limits = -LARGEST_FRAME_NUMBER..=LARGEST_FRAME_NUMBER;
     if !numbers.iter().all(|number| limits.contains(number)) {
         return None;
     }
-    let frame: Vec<[i64; 3]> = numbers.chunks(shape.vertices()).map(vertex).collect();
-    (determinant(&frame) != 0).then_some(frame)
+    let numbers_of_each = if kind == Kind::Patch { 3 } else { 2 };
+    let frame: Vec<[i64; 3]> = numbers.chunks(numbers_of_each).map(vertex).collect();
+    is_frame(kind, &frame).then_some(frame)
+}
+
+pub fn is_frame(kind: Kind, vertices: &[[i64; 3]]) -> bool {
+    kind.grouped(vertices).iter().all(|group| determinant(group) != 0)
 }
 
 fn vertex(numbers: &[i64]) -> [i64; 3] {
@@ -200,14 +219,14 @@ fn vertex(numbers: &[i64]) -> [i64; 3] {
     }
 }
 
-/// Of the rows r, s of a curve or r, s, t of a patch.
-pub fn determinant(frame: &[[i64; 3]]) -> i64 {
-    match *frame {
+/// Of the rows r, s of a curve or a pair, or r, s, t of a patch.
+pub fn determinant(group: &[[i64; 3]]) -> i64 {
+    match *group {
         [r, s] => r[0] * s[2] - r[2] * s[0],
         [r, s, t] => {
             r[0] * (s[1] * t[2] - s[2] * t[1]) - r[1] * (s[0] * t[2] - s[2] * t[0]) + r[2] * (s[0] * t[1] - s[1] * t[0])
         }
-        _ => unreachable!("a frame has two or three vertices"),
+        _ => unreachable!("a group has two or three vertices"),
     }
 }
 
@@ -224,6 +243,40 @@ fn one_move(eight: &[u8]) -> Call {
 }
 
 fn weights(value: &[u8]) -> Weights {
-    let numbers = short_numbers(value);
-    [numbers[0], numbers[1], numbers.get(2).copied().unwrap_or(0)]
+    let mut weights = NO_WEIGHTS;
+    weights.iter_mut().zip(short_numbers(value)).for_each(|(weight, number)| *weight = number);
+    weights
+}
+
+#[cfg(test)]
+mod tests {
+    use super::*;
+
+    /// Refusals of one field after an accepted record's head.
+    fn refused(bytes: &[&[u8]]) -> (u8, usize) {
+        let refusal = read(&bytes.concat()).unwrap_err();
+        (refusal.number, refusal.offset)
+    }
+
+    #[test]
+    fn field_1_has_two_bytes_or_three_by_its_kind() {
+        for value in [&[3, 2][..], &[3, 0], &[1, 2, 0], &[2, 2, 0], &[1, 2, 2], &[3, 0, 1], &[3, 1, 0], &[3, 6, 5], &[3, 5, 6], &[4, 1, 1]] {
+            assert_eq!(refused(&[&[1, 0, value.len() as u8], value]), (4, 0), "{value:?}");
+        }
+        for length in [0, 1, 4, 5] {
+            assert_eq!(refused(&[&[1, 0, length], &[3, 1, 1, 0, 0]]), (3, 0));
+        }
+        assert_eq!(refused(&[&[1, 0, 3, 3, 1, 1]]), (2, 6));
+        assert_eq!(refused(&[&[1, 0, 3, 3, 1]]), (1, 0));
+    }
+
+    #[test]
+    fn either_determinant_of_a_rectangular_patch_may_be_at_fault() {
+        let shorts = |numbers: [i16; 8]| numbers.map(i16::to_be_bytes).concat();
+        for frame in [[0, 1, 0, 2, 0, 1, 1, 0], [0, 1, 1, 0, 1, 1, -1, -1], [0, 1, 1, 0, 0, 1, 5, 0]] {
+            assert_eq!(refused(&[&[1, 0, 3, 3, 1, 1, 2, 0, 16], &shorts(frame)]), (5, 6));
+        }
+        assert_eq!(refused(&[&[1, 0, 3, 3, 1, 1, 2, 0, 16], &shorts([0, 1, 1, 0, 0, 1, 4, 0])]), (2, 25));
+        assert_eq!(refused(&[&[1, 0, 3, 3, 1, 1, 2, 0, 18], &[0; 18]]), (3, 6));
+    }
 }

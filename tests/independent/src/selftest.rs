@@ -27,7 +27,7 @@ pub fn selftest(lists: usize, seed: u64) -> Result<Counts, String> {
 /// makes up for its way back reaches the same frame and leaves the same net.
 fn list_theorem(random: &mut Random, number: usize) -> Result<(), String> {
     let mood = Mood::ALL[number % Mood::ALL.len()];
-    let shape = Shape::all()[number % 18];
+    let shape = Shape::all()[number % Shape::all().len()];
     let made = made(random, shape, mood);
     let again = read(&encode(&made.record)).map_err(|refusal| format!("{refusal:?}"))?;
     if again != made.record {

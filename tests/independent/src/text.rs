@@ -5,7 +5,7 @@ use crate::handed::Net;
 use crate::polar::scale;
 use crate::projection::Projection;
 use crate::record::{read_with_net, Record, Refusal};
-use crate::shape::{Kind, Shape};
+use crate::shape::{Copies, Kind, Shape};
 
 /// What comes after so many bytes is not read.
 pub const LONGEST_INPUT: usize = 2048;
@@ -42,7 +42,7 @@ pub fn write(outcome: &Outcome) -> String {
     match outcome {
         Outcome::Refused(Refusal { number, offset }) => format!("refused {number} at {offset}\n"),
         Outcome::Made { shape, moves, net, point } => {
-            let mut text = format!("{} {} {}\n", shape.kind.word(), shape.degree, scale(*shape));
+            let mut text = first_line(*shape);
             text.extend(moves.iter().enumerate().map(|(before, answer)| move_line(before + 1, answer)));
             text.extend(shape.copies().iter().zip(net).map(|(copies, entry)| entry_line(shape.kind, copies, entry)));
             text.extend(point.iter().map(point_line));
@@ -59,12 +59,20 @@ fn move_line(number: usize, answer: &Answer) -> String {
     }
 }
 
-/// One line an entry: its index, one number or three, before its components.
-fn entry_line(kind: Kind, [i, j, k]: &[usize; 3], [x, y, z, w]: &[i64; 4]) -> String {
-    match kind {
-        Kind::Curve => format!("{j} {x} {y} {z} {w}\n"),
-        Kind::Patch => format!("{i} {j} {k} {x} {y} {z} {w}\n"),
-    }
+/// Kind word, the degree or both, scale.
+fn first_line(shape: Shape) -> String {
+    let degrees: String = shape.groups().iter().map(|group| format!(" {}", group.degree)).collect();
+    format!("{}{degrees} {}\n", shape.kind.word(), scale(shape))
+}
+
+/// One line an entry: its index, one number, three or two, before its components.
+fn entry_line(kind: Kind, copies: &Copies, [x, y, z, w]: &[i64; 4]) -> String {
+    let index = match (kind, copies) {
+        (Kind::Curve, [_, j, ..]) => format!("{j}"),
+        (Kind::Patch, [i, j, k, _]) => format!("{i} {j} {k}"),
+        (Kind::Rect, [_, i, _, j]) => format!("{i} {j}"),
+    };
+    format!("{index} {x} {y} {z} {w}\n")
 }
 
 fn point_line(answer: &Answer) -> String {

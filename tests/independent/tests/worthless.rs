@@ -1,14 +1,15 @@
 //! Libraries that are wrong in one place each, the paper's worthless boards among
 //! them. The comparison must find every one.
 
-use independent::calls::Weights;
+use independent::calls::{Weights, FLIP, REPLACE};
 use independent::compare::compare_calls;
 use independent::first::Given;
 use independent::handed::{Net, ENTRIES, PLACES};
 use independent::library::{Library, Model};
+use independent::polar::scale;
 use independent::projection::{project, Projection, Room, COORDINATES, DIRECTION};
-use independent::record::{Lookup, Refusal};
-use independent::shape::{in_range, Shape, RANGE};
+use independent::record::{told_kind, Lookup, Refusal};
+use independent::shape::{in_range, Copies, Kind, Shape, RANGE};
 
 #[derive(Clone, Copy, Debug, PartialEq)]
 enum Fault {
@@ -69,6 +70,22 @@ enum Fault {
     AbsentFieldAtTheStart,
     EmptyFieldAtTheEnd,
     TagByItsLowBits,
+    FourthWeightOfAMove,
+    FourthWeightOfAPoint,
+    ThreeBytesForACurve,
+    PairsExchanged,
+    PairsOfAPointExchanged,
+    SecondStageLeftOut,
+    SymmetricSizeTest,
+    SecondPairIdle,
+    ThirdWeightOfARect,
+    FlipOnlyInTheFirstPair,
+    OneScaleForBothPairs,
+    EntriesJThenI,
+    OneDeterminantOfARecord,
+    OneDeterminantOfAFirstNet,
+    FirstNetOfARectNeverTooLarge,
+    SecondDegreePrintedFirst,
 }
 
 struct Spoiled {
@@ -99,11 +116,39 @@ impl Spoiled {
         }
     }
 
+    /// A first net of a rectangular patch with the wrong scale or order.
+    fn spoil_first_net(&self, net: &mut Net) {
+        let Some(shape) = rect(net) else { return };
+        let entries = net.used(shape);
+        let second = scale(Shape::curve(shape.degrees[1]));
+        match self.fault {
+            Fault::OneScaleForBothPairs => net.write(shape, &entries.iter().map(|e| e.map(|c| c / second)).collect::<Vec<_>>()),
+            Fault::EntriesJThenI => {
+                let exchanged = Shape::rect(shape.degrees[1], shape.degrees[0]);
+                net.write(shape, &net.with_pairs_exchanged(shape).used(exchanged));
+            }
+            _ => {}
+        }
+    }
+
+    /// A point without the second stage of its size test: the first is that of a replace in
+    /// the first pair.
+    fn without_second_stage(&mut self, net: &Net, weights: Weights) -> Option<[i64; 4]> {
+        let shape = rect(net)?;
+        let vertex = if weights[0] != 0 { 1 } else { 2 };
+        let mut moved = net.clone();
+        self.model.take(&mut moved, REPLACE, vertex, [weights[0], weights[1], 0, 0]).ok()?;
+        let mut copies = [0; 4];
+        copies[usize::from(vertex) - 1] = shape.degrees[0];
+        let value = expand(&moved, shape, copies, &vec![(1, &weights[2..]); shape.degrees[1]]);
+        value.iter().all(|c| i64::try_from(*c).is_ok()).then(|| value.map(|c| c as i64))
+    }
+
     /// The net as a library would see it that judges the head otherwise.
     fn misread(&self, net: &Net) -> Option<Net> {
         let mut read = net.clone();
         match self.fault {
-            Fault::SecondDegreeNotLookedAt if !net.is_short() => read.0[2] = 0,
+            Fault::SecondDegreeNotLookedAt if !net.is_short() && (1..=2).contains(&net.0[0]) => read.0[2] = 0,
             Fault::KindByItsLowByte if !net.is_short() => read.0[0] &= 255,
             Fault::TakesShortRuns if net.0.len() == PLACES - 1 => read.0.push(0),
             Fault::RefusesLongerRuns if net.0.len() > PLACES => read.0.clear(),
@@ -119,33 +164,69 @@ impl Spoiled {
     }
 }
 
+/// Points q to put in places of a net, each with its group.
+type Qs<'a> = Vec<(usize, &'a [i64])>;
+
 /// A replace that keeps only the new net, with its own limit and no other test.
 fn plain_replace(net: &Net, shape: Shape, vertex: u8, weights: Weights) -> Vec<[i128; 4]> {
     let at = usize::from(vertex) - 1;
-    let value = |copies: [usize; 3]| blossom(net, shape, copies, at, weights);
+    let group = shape.kind.group_of(at);
+    let value = |copies: Copies| {
+        let mut others = copies;
+        others[at] = 0;
+        expand(net, shape, others, &vec![(group, &weights[..]); copies[at]])
+    };
     shape.copies().into_iter().map(value).collect()
 }
 
-/// The polar value with q in all places of one vertex, by plain recursion.
-fn blossom(net: &Net, shape: Shape, copies: [usize; 3], at: usize, weights: Weights) -> [i128; 4] {
-    let mut others = copies;
-    others[at] = 0;
-    expand(net, shape, others, copies[at], weights)
+/// A point and nothing on the way to it.
+fn plain_point(net: &Net, shape: Shape, weights: Weights) -> [i128; 4] {
+    let of = |group: independent::shape::Group| vec![group; group.degree];
+    let places = shape.groups().into_iter().flat_map(of);
+    let qs: Qs = places.map(|group| (shape.kind.group_of(group.first), &weights[group.span()])).collect();
+    expand(net, shape, [0; 4], &qs)
 }
 
-fn expand(net: &Net, shape: Shape, copies: [usize; 3], left: usize, weights: Weights) -> [i128; 4] {
-    if left == 0 {
+/// The polar value with these copies of the vertices and these points, by plain recursion.
+fn expand(net: &Net, shape: Shape, copies: Copies, qs: &[(usize, &[i64])]) -> [i128; 4] {
+    let Some(((group, weights), others)) = qs.split_first() else {
         let place = shape.copies().iter().position(|c| *c == copies).unwrap();
         return [0, 1, 2, 3].map(|c| i128::from(net.numbers(shape)[4 * place + c]));
-    }
+    };
     let mut sum = [0; 4];
-    for vertex in (0..shape.vertices()).filter(|&v| weights[v] != 0) {
+    for (vertex, &weight) in shape.groups()[*group].span().zip(*weights).filter(|(_, weight)| **weight != 0) {
         let mut longer = copies;
         longer[vertex] += 1;
-        let part = expand(net, shape, longer, left - 1, weights);
-        (0..4).for_each(|c| sum[c] += i128::from(weights[vertex]) * part[c]);
+        let part = expand(net, shape, longer, others);
+        (0..4).for_each(|c| sum[c] += i128::from(weight) * part[c]);
     }
     sum
+}
+
+/// The shape of a net, if it is a rectangular patch.
+fn rect(net: &Net) -> Option<Shape> {
+    let shape = if net.is_short() { None } else { net.shape() };
+    shape.filter(|shape| shape.kind == Kind::Rect)
+}
+
+/// Vertices 1 and 3, 2 and 4 for each other.
+fn in_the_other_pair(vertex: u8) -> u8 {
+    match vertex {
+        1 | 2 => vertex + 2,
+        3 | 4 => vertex - 2,
+        _ => vertex,
+    }
+}
+
+/// Whether eight numbers of a frame pass where the second determinant is not looked at.
+fn first_pair_is_good(numbers: &[i64]) -> bool {
+    numbers[..8].iter().all(|number| number.unsigned_abs() <= 4) && numbers[0] * numbers[3] != numbers[1] * numbers[2]
+}
+
+/// The numbers of the frame of a rectangular patch, where its bytes are whole.
+fn frame_of_a_rect(record: &[u8]) -> Option<Vec<i64>> {
+    let value = record.get(9..25).filter(|_| record[..3] == [1, 0, 3] && record[6..9] == [2, 0, 16])?;
+    Some(value.chunks(2).map(|two| i64::from(i16::from_be_bytes([two[0], two[1]]))).collect())
 }
 
 /// Where a field lies, by tags and lengths alone.
@@ -163,7 +244,7 @@ fn walk(record: &[u8], tag: u8) -> Lookup {
 
 /// Refused for size alone, and small enough for plain recursion.
 fn usable(net: &Net, shape: Shape) -> bool {
-    shape.degree <= 3 && net.used(shape).iter().flatten().all(|c| in_range(*c))
+    shape.degrees.iter().all(|degree| *degree <= 3) && net.used(shape).iter().flatten().all(|c| in_range(*c))
 }
 
 fn within(values: &[[i128; 4]], limit: i64) -> bool {
@@ -176,9 +257,20 @@ fn narrow(values: &[[i128; 4]]) -> Vec<[i64; 4]> {
 
 impl Library for Spoiled {
     fn read(&mut self, record: &[u8], net: &mut Net) -> Result<(), Refusal> {
+        if let (Fault::ThreeBytesForACurve, [1, 0, 3, 1 | 2, degree, 0, rest @ ..]) = (self.fault, record) {
+            return self.model.read(&[&[1, 0, 2, record[3], *degree], rest].concat(), net);
+        }
         let before = net.0.get(2).copied().unwrap_or(0);
         let answer = self.model.read(record, net);
         match (self.fault, answer) {
+            (Fault::OneScaleForBothPairs | Fault::EntriesJThenI, Ok(())) => self.spoil_first_net(net),
+            (Fault::FirstNetOfARectNeverTooLarge, Err(Refusal { number: 7, .. })) if told_kind(record) == Some(Kind::Rect) => {
+                return Ok(());
+            }
+            (Fault::OneDeterminantOfARecord, Err(Refusal { number: 5, .. })) if told_kind(record) == Some(Kind::Rect) => {
+                let good = frame_of_a_rect(record).is_some_and(|numbers| first_pair_is_good(&numbers));
+                return if good { Ok(()) } else { answer };
+            }
             (Fault::RefusedRecordMakesANet, Err(_)) => net.0.iter_mut().take(1).for_each(|kind| *kind = 0),
             (Fault::SecondDegreeKept, Ok(())) => net.0[2] = before,
             (_, Ok(())) => self.write_elsewhere(net),
@@ -206,6 +298,11 @@ impl Library for Spoiled {
                 net.0[used..192].fill(0);
             }
             Fault::FirstNetWithoutRoom if answer == Err(11) && !net.is_short() => return Err(6),
+            Fault::OneScaleForBothPairs | Fault::EntriesJThenI if answer.is_ok() => self.spoil_first_net(net),
+            Fault::OneDeterminantOfAFirstNet if answer == Err(5) && given.kind == 3 => {
+                return if first_pair_is_good(&given.frame) { Ok(()) } else { Err(5) };
+            }
+            Fault::FirstNetOfARectNeverTooLarge if answer == Err(7) && given.kind == 3 => return Ok(()),
             _ if answer.is_ok() => self.write_elsewhere(net),
             _ => {}
         }
@@ -214,6 +311,9 @@ impl Library for Spoiled {
 
     fn take(&mut self, net: &mut Net, operation: u8, vertex: u8, weights: Weights) -> Result<(), u8> {
         let before = net.clone();
+        if self.is(Fault::PairsExchanged) && rect(net).is_some() {
+            return self.model.take(net, operation, in_the_other_pair(vertex), weights);
+        }
         if let Some(mut read) = self.misread(net) {
             let answer = self.model.take(&mut read, operation, vertex, weights);
             if answer.is_ok() {
@@ -261,8 +361,15 @@ impl Library for Spoiled {
             Fault::StoresHalf if answer == Err(10) && operation == 1 => net.0[ENTRIES] = net.0[ENTRIES].wrapping_add(1),
             Fault::TakesHandedNetsOutOfRange if operation == 2 && answer == Err(10) => return Ok(()),
             Fault::ThirdWeightOfACurve if operation == 1 && answer == Err(8) && net.0[0] == 1 => {
-                return self.model.take(net, operation, vertex, [weights[0], weights[1], 0]);
+                return self.model.take(net, operation, vertex, [weights[0], weights[1], 0, weights[3]]);
             }
+            Fault::ThirdWeightOfARect if operation == 1 && answer == Err(8) && net.0[0] == 3 => {
+                return self.model.take(net, operation, vertex, [weights[0], weights[1], 0, weights[3]]);
+            }
+            Fault::FourthWeightOfAMove if operation == 1 && answer == Err(8) => {
+                return self.model.take(net, operation, vertex, [weights[0], weights[1], weights[2], 0]);
+            }
+            Fault::FlipOnlyInTheFirstPair if operation == FLIP && rect(&before).is_some() && vertex > 2 => *net = before,
             _ if answer.is_ok() => self.write_elsewhere(net),
             _ => {}
         }
@@ -273,11 +380,34 @@ impl Library for Spoiled {
         if let Some(read) = self.misread(net) {
             return self.model.find(&read, weights, found);
         }
+        if self.is(Fault::PairsOfAPointExchanged) && rect(net).is_some() {
+            let [r1, s1, r2, s2] = weights;
+            return self.model.find(net, [r2, s2, r1, s1], found);
+        }
         let answer = self.model.find(net, weights, found);
         match self.fault {
+            Fault::SecondStageLeftOut if answer == Err(10) => {
+                if let Some(value) = self.without_second_stage(net, weights) {
+                    found[..4].copy_from_slice(&value);
+                    return Ok(());
+                }
+            }
+            Fault::SymmetricSizeTest if answer.is_ok() => {
+                if let Some(shape) = rect(net) {
+                    let [r1, s1, r2, s2] = weights;
+                    return self.model.find(&net.with_pairs_exchanged(shape), [r2, s2, r1, s1], &mut [0; 4]);
+                }
+            }
+            Fault::SecondPairIdle if answer == Err(9) && weights[..2] != [0, 0] => {
+                found[..4].fill(0);
+                return Ok(());
+            }
+            Fault::FourthWeightOfAPoint if answer == Err(8) && rect(net).is_none() => {
+                return self.model.find(net, [weights[0], weights[1], weights[2], 0], found);
+            }
             Fault::LooksOnlyAtThePointFound if answer == Err(10) => {
                 if let Some(shape) = net.shape().filter(|s| usable(net, *s)) {
-                    let value = expand(net, shape, [0; 3], shape.degree, weights);
+                    let value = plain_point(net, shape, weights);
                     if within(&[value], RANGE) {
                         found[..4].copy_from_slice(&value.map(|c| c as i64));
                         return Ok(());
@@ -370,6 +500,7 @@ impl Library for Spoiled {
         match (self.fault, answer) {
             (Fault::WritesShortBuffers, Err(11)) => buffer.iter_mut().take(1).for_each(|byte| *byte = byte.wrapping_add(1)),
             (Fault::WritesPastTheText, Ok(length)) => buffer[length..].fill(0),
+            (Fault::SecondDegreePrintedFirst, Ok(_)) if buffer.starts_with(b"rect ") => buffer.swap(5, 7),
             _ => {}
         }
         answer
@@ -406,7 +537,11 @@ fn every_fault_is_found() {
         TakesHandedNetsOutOfRange, ThirdWeightOfACurve, OutcomeKeptBesideARefusal, OutcomeInTheNumber,
         ProjectionWithoutRoom, RangeBeforeRoom, ProjectionPastItsPlaces, DirectionClearedBesideAPoint,
         FieldsOfRecordsRefusedSeven, FieldsOfEveryRecord, FieldWithoutTheNumber, FieldFromItsTag,
-        FieldLengthByItsLowByte, AbsentFieldAtTheStart, EmptyFieldAtTheEnd, TagByItsLowBits,
+        FieldLengthByItsLowByte, AbsentFieldAtTheStart, EmptyFieldAtTheEnd, TagByItsLowBits, FourthWeightOfAMove,
+        FourthWeightOfAPoint, ThreeBytesForACurve, PairsExchanged, PairsOfAPointExchanged, SecondStageLeftOut,
+        SymmetricSizeTest, SecondPairIdle, ThirdWeightOfARect, FlipOnlyInTheFirstPair, OneScaleForBothPairs,
+        EntriesJThenI, OneDeterminantOfARecord, OneDeterminantOfAFirstNet, FirstNetOfARectNeverTooLarge,
+        SecondDegreePrintedFirst,
     ];
     for fault in faults {
         let mut library = Spoiled { fault, model: Model };

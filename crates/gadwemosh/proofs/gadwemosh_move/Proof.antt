@@ -13,7 +13,7 @@ returns c =
     let s = c .before .before .before in
     let a = s .args in
     let made = c .before .take-move in
-    let same = weights-back (s .fits .r) (s .fits .s) (s .fits .t) in (
+    let same = weights-back (s .fits .r) (s .fits .s) (s .fits .t) (s .fits .u) in (
       made .ensures .0 ∙ ap (λ w. callNumber (Move (a .operation) (a .vertex) w) (a .net .now) []) same,
       made .ensures .1 ∙ ap (λ w. callPlaces (Move (a .operation) (a .vertex) w) (a .net .now) []) same,
     )

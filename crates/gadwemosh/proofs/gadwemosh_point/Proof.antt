@@ -12,7 +12,7 @@ returns c =
     let s = c .before .before .before in
     let a = s .args in
     let made = c .before .find-point in
-    let same = weights-back (s .fits .r) (s .fits .s) (s .fits .t) in
+    let same = weights-back (s .fits .r) (s .fits .s) (s .fits .t) (s .fits .u) in
     (made .ensures .0 ∙ ap (λ w. callNumber (Point w) (a .net .now) (a .found .now)) same, made .ensures .1 ∙ ap (λ w. callFound (Point w) (a .net .now) (a .found .now)) same)
 
 pub gadwemosh-point-spec : {M : Type 1} → statement M

@@ -12,7 +12,10 @@ returns-2 : tie.Need-returns-2
 returns-2 c = ap dimensionOf (sym (c .match .keys2))
 
 returns-3 : tie.Need-returns-3
-returns-3 c = sym (no-dimension (c .before .args .kind) (c .match .rest .0 .1) (c .match .rest .1))
+returns-3 c = ap dimensionOf (sym (c .match .keys3))
+
+returns-4 : tie.Need-returns-4
+returns-4 c = let rest = c .match .rest in sym (no-dimension (c .before .args .kind) (rest .0 .0 .1, rest .0 .1, rest .1))
 
 pub dimension-of-spec : {M : Type 1} → statement M
-dimension-of-spec = tie.close (tie.spec returns returns-2 returns-3)
+dimension-of-spec = tie.close (tie.spec returns returns-2 returns-3 returns-4)

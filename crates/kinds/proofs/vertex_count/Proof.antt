@@ -13,7 +13,10 @@ returns-2 : tie.Need-returns-2
 returns-2 c p q = ap (λ k. vertexCount (groupsOf k p q)) (sym (c .match .keys2))
 
 returns-3 : tie.Need-returns-3
-returns-3 c p q = sym (ap vertexCount (no-groups (c .before .args .kind) p q (c .match .rest .0 .1) (c .match .rest .1)))
+returns-3 c p q = ap (λ k. vertexCount (groupsOf k p q)) (sym (c .match .keys3))
+
+returns-4 : tie.Need-returns-4
+returns-4 c p q = let rest = c .match .rest in sym (ap vertexCount (no-groups (c .before .args .kind) p q (rest .0 .0 .1, rest .0 .1, rest .1)))
 
 pub vertex-count-spec : {M : Type 1} → statement M
-vertex-count-spec = tie.close (tie.spec returns returns-2 returns-3)
+vertex-count-spec = tie.close (tie.spec returns returns-2 returns-3 returns-4)

@@ -18,7 +18,7 @@ use Rattle.opening.proofs.make_first.Tie as tie
 room : (c : tie.After-number-count) → c .number-count .result ≤ 180
 room c =
     let s = c .before .before .before .before in
-    omega (arith, c .number-count .ensures .entries, entries-fit (s .args .layout .kind) (s .args .layout .degree) 0 (s .pre .1))
+    omega (arith, c .number-count .ensures .entries, entries-fit (s .args .layout .kind) (s .args .layout .degree) (s .args .layout .second) (s .pre .1))
 
 part-coefficients-end : tie.Need-part-coefficients-end
 part-coefficients-end c = room (c .before)

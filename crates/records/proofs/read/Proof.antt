@@ -8,7 +8,6 @@ use borrow.Author.Tests.{eq-eqb, ne-eqb}
 use Rattle.records.specs.Reading.{readSlot, concluded, readingOf, readingNumber, readingValues}
 use Rattle.records.specs.Causes.{Verdict}
 use Rattle.records.specs.declared.Extent.{Extent}
-use Rattle.records.specs.declared.Head.{Head}
 use Rattle.records.specs.declared.Reading.{Reading}
 use Rattle.records.specs.declared.Slot.the-variants.{First}
 use Rattle.records.proofs.Slots.{all-steps}
@@ -28,7 +27,7 @@ extents c =
     ∷ []
 
 abbrev bytes : tie.After-read-slot5 → List ℕ
-bytes c = now (c .before .before .before .before .before .before .before .before .before .args .input)
+bytes c = now (c .before .before .before .before .before .before .before .before .args .input)
 
 -- the steps are the definition's
 steps : (c : tie.After-read-end) → readingOf (bytes (c .before)) ≡ concluded (bytes (c .before)) (c .read-end .result) (extents (c .before))
@@ -36,12 +35,11 @@ steps c =
     let fifth = c .before in
     let third = fifth .before .before in
     let first = third .before .before in
-    let byte = first .before .before in
+    let said = first .before .before .head-of in
     let s = bytes fifth in
-    let said : Head = record { kind = byte .before .byte-at .result; degree = byte .byte-at2 .result } in
     all-steps s
-    (λ i. record { kind = byte .before .byte-at .ensures i; degree = byte .byte-at2 .ensures i })
-    (first .read-slot .ensures ∙ ap (readSlot First said s) (first .before .stay-at .ensures))
+    (said .ensures)
+    (first .read-slot .ensures ∙ ap (readSlot First (said .result) s) (first .before .stay-at .ensures))
     (third .before .read-slot2 .ensures)
     (third .read-slot3 .ensures)
     (fifth .before .read-slot4 .ensures)
@@ -60,14 +58,13 @@ returns-2 : tie.Need-returns-2
 unfolding concluded
 returns-2 c =
     let passed = c .before .before .before .before .before in
-    let byte = passed .before .before .before .before .before .before .before .before in
-    both (bytes (passed .before .before)) _ (sym (steps (passed .before) ∙ rw (eq-eqb _ 0 (passed .if1 .left), sym (byte .before .byte-at .ensures), sym (byte .byte-at2 .ensures)) refl))
+    let said = passed .before .before .before .before .before .before .before .before .head-of in
+    both (bytes (passed .before .before)) _ (sym (steps (passed .before) ∙ rw (eq-eqb _ 0 (passed .if1 .left), sym (said .ensures)) refl))
 
 pub read-spec : {M : Type 1} → statement M
 read-spec =
     tie.close
     (tie.spec
-    (λ c κs. search needs)
     (λ c κs. search needs)
     (λ c κs. search needs)
     (λ c κs. search needs)

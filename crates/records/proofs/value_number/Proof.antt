@@ -10,7 +10,6 @@ use denote.Ref.{now}
 use borrow.Author.Needs.{needs}
 use borrow.Author.Tests.{eqb-true}
 use Rattle.integers.specs.Test.{within, all}
-use Rattle.kinds.specs.Kinds.{known}
 use Rattle.kinds.specs.Frames.{framesAllowed}
 use Rattle.machine.specs.Refusals.{_else_, firstFailed}
 use Rattle.bytes.specs.Numbers.{numbersTo, numberAt, coefficientsOf}
@@ -25,10 +24,7 @@ quarter count e = ap (λ n. n / 4) e ∙ mul-div-right count (omega arith)
 returns : tie.Need-returns
 returns c =
     let k = c .before in
-    rw (k .before .before .before .enum-told .given .1)
-    (c .unless .ensures
-    ∙ ap (λ (b : Bool). firstFailed (b else 4 ∷ []))
-    (k .known-kind .ensures ∙ (λ i. known (k .before .before .byte-at .ensures i) (k .before .byte-at2 .ensures i) 0)))
+    rw (k .before .enum-told .given .1) (c .unless .ensures ∙ ap (λ (b : Bool). firstFailed (b else 4 ∷ [])) (k .head-allowed .ensures))
 
 returns-2 : tie.Need-returns-2
 returns-2 c =
@@ -36,7 +32,7 @@ returns-2 c =
     let h = f .before .before .before .before .before .args .head in
     rw (f .before .before .enum-told2 .given .1)
     (c .unless2 .ensures
-    ∙ ap (λ (b : Bool). firstFailed (b else 5 ∷ [])) (f .frame-allowed .ensures (h .degree) 0 ∙ ap (framesAllowed (headGroups h)) (f .before .frame-numbers .ensures)))
+    ∙ ap (λ (b : Bool). firstFailed (b else 5 ∷ [])) (f .frame-allowed .ensures (h .degree) (h .second) ∙ ap (framesAllowed (headGroups h)) (f .before .frame-numbers .ensures)))
 
 returns-3 : tie.Need-returns-3
 unfolding coefficientsOf
@@ -58,8 +54,6 @@ value-number-spec =
     tie.close
     (tie.spec
     (λ c. search needs)
-    (λ c κs. search needs)
-    (λ c κs. search needs)
     (λ c κs. search needs)
     (λ c κs. search needs)
     (λ c. search needs)

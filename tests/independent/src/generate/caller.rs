@@ -1,12 +1,13 @@
 //! Lists of calls: proper ones along a frame, and ones broken in every way.
 
+use super::polynomials::Aim;
 use super::records::Made;
-use crate::calls::{place_of, Call, Weights, FLIP, LARGEST_WEIGHT, REPLACE};
+use crate::calls::{place_of, seats, Call, Weights, FLIP, LARGEST_WEIGHT, NO_WEIGHTS, REPLACE};
 use crate::exact::Exact;
 use crate::polar::Parameter;
 use crate::random::Random;
 use crate::record::determinant;
-use crate::shape::Kind;
+use crate::shape::{Kind, MOST_VERTICES};
 
 /// What a list is about.
 #[derive(Clone, Copy, Debug, PartialEq, Eq)]
@@ -53,7 +54,7 @@ impl Mood {
 pub struct Caller {
     kind: Kind,
     mood: Mood,
-    aims: Vec<[i64; 3]>,
+    aims: Vec<Aim>,
     still: Vec<usize>,
     weight_bits: u32,
     /// The replace that leads back to the frame before the last one taken.
@@ -83,7 +84,7 @@ impl Caller {
         }
         match (random.below(12), self.back) {
             (0..=2, Some(back)) => back,
-            (3 | 4, _) => Call::Move { operation: FLIP, vertex: self.vertex(random), weights: [0; 3] },
+            (3 | 4, _) => Call::Move { operation: FLIP, vertex: self.vertex(random), weights: NO_WEIGHTS },
             (5..=8, _) => Call::Point { weights: self.point(random, frame) },
             _ => self.replace(random),
         }
@@ -94,10 +95,11 @@ impl Caller {
     pub fn heard(&mut self, call: &Call, taken: bool) {
         if let (Call::Move { operation, vertex, weights }, true) = (*call, taken) {
             self.back = None;
-            if operation == REPLACE && weights[place_of(vertex)].abs() == 1 {
-                let own = weights[place_of(vertex)];
+            let (_, seat) = seats(self.kind, vertex);
+            let own = weights[seat];
+            if operation == REPLACE && own.abs() == 1 {
                 let mut back = weights.map(|weight| -own * weight);
-                back[place_of(vertex)] = own;
+                back[seat] = own;
                 self.back = Some(Call::Move { operation, vertex, weights: back });
             }
         }
@@ -113,50 +115,53 @@ impl Caller {
 
     /// Weights for a point: aimed where the polynomials vanish, or any.
     pub fn point(&self, random: &mut Random, frame: &[Parameter<Exact>]) -> Weights {
-        if !self.aims.is_empty() && !random.once_in(3) {
-            let aim = random.pick(&self.aims);
-            if let Some(weights) = weights_for(frame, aim) {
-                return weights;
-            }
-        }
-        let mut weights = self.weights(random);
+        let mut weights = self.weights(random, self.vertices());
         for &place in self.still.iter() {
             weights[place] = wide(random);
+        }
+        if !self.aims.is_empty() && !random.once_in(3) {
+            let aim = random.pick(&self.aims);
+            let span = self.kind.spans()[aim.group].clone();
+            if let Some(aimed) = weights_for(&frame[span.clone()], aim.point) {
+                weights[span].copy_from_slice(&aimed);
+            }
         }
         weights
     }
 
     fn replace(&self, random: &mut Random) -> Call {
         let vertex = self.vertex(random);
-        let place = place_of(vertex);
-        let mut weights = self.weights(random);
+        let (used, seat) = seats(self.kind, vertex);
+        let mut weights = self.weights(random, used);
         if !self.still.is_empty() {
-            weights = self.growing(random, place);
+            weights = self.growing(random, place_of(vertex));
         }
         if self.mood == Mood::Edge {
-            weights[place] = random.sign() * random.pick(&[4096, 4096, 256, 16, 16, 15, 17, 1]);
+            weights[seat] = random.sign() * random.pick(&[4096, 4096, 256, 16, 16, 15, 17, 1]);
         }
-        while weights[place] == 0 {
-            weights[place] = self.weight(random);
+        while weights[seat] == 0 {
+            weights[seat] = self.weight(random);
         }
         Call::Move { operation: REPLACE, vertex, weights }
     }
 
     /// Large on the vertices that the entries do not see; elsewhere the vertex itself.
     fn growing(&self, random: &mut Random, place: usize) -> Weights {
-        let mut weights = [0; 3];
-        for &still in &self.still {
-            weights[still] = if random.once_in(3) { wide(random) } else { random.sign() * LARGEST_WEIGHT };
+        let mut weights = NO_WEIGHTS;
+        let span = &self.kind.spans()[self.kind.group_of(place)];
+        for &still in self.still.iter().filter(|still| span.contains(still)) {
+            weights[still - span.start] = if random.once_in(3) { wide(random) } else { random.sign() * LARGEST_WEIGHT };
         }
         if !self.still.contains(&place) {
-            weights[place] = random.sign();
+            weights[place - span.start] = random.sign();
         }
         weights
     }
 
-    fn weights(&self, random: &mut Random) -> Weights {
-        let mut weights = [0; 3].map(|_| self.weight(random));
-        weights[self.vertices()..].fill(0);
+    /// So many, and 0 in the places that are not used.
+    fn weights(&self, random: &mut Random, used: usize) -> Weights {
+        let mut weights = NO_WEIGHTS.map(|_| self.weight(random));
+        weights[used..].fill(0);
         weights
     }
 
@@ -170,26 +175,43 @@ impl Caller {
     }
 
     fn broken(&self, random: &mut Random) -> Call {
-        let mut weights = self.weights(random);
         let (mut operation, mut vertex) = (REPLACE, self.vertex(random));
-        let place = place_of(vertex);
-        match random.below(11) {
+        let (used, seat) = seats(self.kind, vertex);
+        let mut weights = self.weights(random, used);
+        match random.below(10) {
             0 => operation = random.pick(&[0, 3, 4, 127, 128, 255]),
-            1 => vertex = random.pick(&[0, self.vertices() as u8 + 1, 4, 128, 255]),
-            2 => weights[random.below(self.vertices())] = self.outside(random),
-            3 => weights[2] = if self.kind == Kind::Curve { random.pick(&[1, -1, 4096]) } else { self.outside(random) },
-            4 => (operation, weights[random.below(3)]) = (FLIP, random.pick(&[1, -1, 4096, 5000])),
-            5 => weights[place] = 0,
-            6 => (weights[place], weights[1 - place.min(1)]) = (0, self.outside(random)),
-            7 => return Call::Point { weights: [0; 3] },
-            8 => return Call::Point { weights: [0, 0, if self.kind == Kind::Curve { 1 } else { self.outside(random) }] },
-            9 => {
-                weights[random.below(3)] = self.outside(random);
-                return Call::Point { weights };
+            1 => vertex = random.pick(&[0, self.vertices() as u8 + 1, 4, 5, 128, 255]),
+            2 => weights[random.below(used)] = self.outside(random),
+            3 => {
+                let far = self.outside(random);
+                weights[used + random.below(MOST_VERTICES - used)] = random.pick(&[1, -1, 4096, far]);
             }
+            4 => (operation, weights[random.below(MOST_VERTICES)]) = (FLIP, random.pick(&[1, -1, 4096, 5000])),
+            5 => weights[seat] = 0,
+            6 => (weights[seat], weights[(seat + 1) % used]) = (0, self.outside(random)),
+            7 | 8 => return Call::Point { weights: self.broken_point(random) },
             _ => (operation, vertex) = (random.next() as u8, random.next() as u8),
         }
         Call::Move { operation, vertex, weights }
+    }
+
+    /// A group that names nothing, a weight outside, or one that is not used; at times the
+    /// first and one of the others at once.
+    fn broken_point(&self, random: &mut Random) -> Weights {
+        let mut weights = self.weights(random, self.vertices());
+        let idle = random.pick(&self.kind.spans().into_iter().map(|span| (span.start, span.end)).collect::<Vec<_>>());
+        if random.once_in(2) {
+            weights[idle.0..idle.1].fill(0);
+        }
+        match random.below(4) {
+            0 => weights[random.below(MOST_VERTICES)] = self.outside(random),
+            1 if self.vertices() < MOST_VERTICES => {
+                weights[self.vertices() + random.below(MOST_VERTICES - self.vertices())] = random.pick(&[1, -1, 4096]);
+            }
+            2 => weights = NO_WEIGHTS,
+            _ => {}
+        }
+        weights
     }
 
     /// A weight past its limits that the library's type still carries.
@@ -209,20 +231,20 @@ fn wide(random: &mut Random) -> i64 {
     random.sign() * random.pick(&[0, 1, LARGEST_WEIGHT, power, near, anywhere])
 }
 
-/// The weights that name a multiple of this parameter point, if the frame is small
-/// enough and they are within their limits: one vertex after the other gives way to
-/// the point in the determinant.
-fn weights_for(frame: &[Parameter<Exact>], aim: [i64; 3]) -> Option<Weights> {
+/// The weights of one group that name a multiple of this parameter point, if its vertices
+/// are small enough and they are within their limits: one vertex after the other gives way
+/// to the point in the determinant.
+fn weights_for(group: &[Parameter<Exact>], aim: [i64; 3]) -> Option<Vec<i64>> {
     let small = |number: &Exact| number.to_i64().filter(|n| n.abs() < 1 << 15);
-    let vertices = frame.iter().map(|[u, v, z]| Some([small(u)?, small(v)?, small(z)?])).collect::<Option<Vec<_>>>()?;
-    let mut weights = [0; 3];
-    for place in 0..vertices.len() {
+    let vertices = group.iter().map(|[u, v, z]| Some([small(u)?, small(v)?, small(z)?])).collect::<Option<Vec<_>>>()?;
+    let in_place_of = |place: usize| {
         let mut with_aim = vertices.clone();
         with_aim[place] = aim;
-        weights[place] = determinant(&with_aim);
-    }
+        determinant(&with_aim)
+    };
+    let weights: Vec<i64> = (0..vertices.len()).map(in_place_of).collect();
     let divisor = weights.iter().fold(0, |found, &weight| common_divisor(found, weight.abs()));
-    let least = weights.map(|weight| weight / divisor.max(1));
+    let least: Vec<i64> = weights.iter().map(|weight| weight / divisor.max(1)).collect();
     least.iter().all(|weight| weight.abs() <= LARGEST_WEIGHT).then_some(least)
 }
 

@@ -20,7 +20,7 @@ pub fn everywhere(bytes: &[u8]) -> Vec<Vec<u8>> {
 /// One damage out of all.
 pub fn damaged(random: &mut Random, record: &Record) -> Vec<u8> {
     let mut bytes = encode(record);
-    match random.below(12) {
+    match random.below(14) {
         0 => change_a_byte(random, &mut bytes),
         1 => bytes.truncate(random.below(bytes.len() + 1)),
         2 => return rearranged(random, fields(record)),
@@ -32,6 +32,8 @@ pub fn damaged(random: &mut Random, record: &Record) -> Vec<u8> {
         8 => bytes.extend(vec![random.next() as u8; 2100]),
         9 => return with_empty_moves(record),
         10 => return many_moves(random, record),
+        11 => return head_of_another_length(random, record),
+        12 => return point_of_another_length(random, record),
         _ => (0..1 + random.below(4)).for_each(|_| change_a_byte(random, &mut bytes)),
     }
     bytes
@@ -76,8 +78,9 @@ fn length_off(random: &mut Random, mut list: Vec<Vec<u8>>) -> Vec<u8> {
 fn value_outside(random: &mut Random, mut list: Vec<Vec<u8>>) -> Vec<u8> {
     match random.below(3) {
         0 => {
-            let (kind, degree) = random.pick(&[(0, 2), (3, 2), (1, 0), (1, 11), (2, 0), (2, 9), (255, 1), (1, 255)]);
-            list[0] = field(1, &[kind, degree]);
+            let two = random.pick(&[[0, 2], [3, 2], [1, 0], [1, 11], [2, 0], [2, 9], [255, 1], [1, 255], [4, 1]]);
+            let three = random.pick(&[[3, 0, 1], [3, 1, 0], [3, 6, 5], [3, 5, 6], [3, 255, 1], [4, 1, 1], [1, 2, 0], [2, 1, 2]]);
+            list[0] = if random.once_in(2) { field(1, &two) } else { field(1, &three) };
         }
         1 => {
             let place = 3 + 2 * random.below((list[1].len() - 3) / 2);
@@ -93,14 +96,42 @@ fn value_outside(random: &mut Random, mut list: Vec<Vec<u8>>) -> Vec<u8> {
     list.concat()
 }
 
-/// Determinant 0: a vertex that is a multiple of another, or the sum of the others.
+/// Field 1 with a byte more or a byte less, so that its kind disagrees with its length, and
+/// with other lengths. What follows is read by nobody.
+fn head_of_another_length(random: &mut Random, record: &Record) -> Vec<u8> {
+    let mut list = fields(record);
+    let mut value = list[0][3..].to_vec();
+    match random.below(4) {
+        0 => value.truncate(random.below(3)),
+        1 => value = vec![random.pick(&[1, 2, 3]); 4],
+        _ if value.len() == 3 => drop(value.pop()),
+        _ => value.push(random.pick(&[0, 0, 1, 5])),
+    }
+    list[0] = field(1, &value);
+    list.concat()
+}
+
+/// A point with the weights of another kind, in 4, 6 or 8 bytes, or with none.
+fn point_of_another_length(random: &mut Random, record: &Record) -> Vec<u8> {
+    let mut bare = record.clone();
+    bare.point = None;
+    let mut list = fields(&bare);
+    let value: Vec<u8> = (0..random.pick(&[0, 2, 4, 6, 8, 8, 10])).map(|place| place % 2).collect();
+    list.push(field(5, &value));
+    list.concat()
+}
+
+/// Determinant 0 in one group: a vertex that is a multiple of another, or the sum of the
+/// others.
 fn frame_outside(random: &mut Random, record: &Record) -> Vec<u8> {
     let mut flat = record.clone();
-    let last = flat.frame.len() - 1;
-    let first = flat.frame[0];
+    let groups = record.shape.groups();
+    let span = random.pick(&groups).span();
+    let vertices = &mut flat.frame[span];
+    let (first, last) = (vertices[0], vertices.len() - 1);
     let sign = random.sign();
-    flat.frame[last] = if last == 2 && random.once_in(2) {
-        let second = flat.frame[1];
+    vertices[last] = if last == 2 && random.once_in(2) {
+        let second = vertices[1];
         [0, 1, 2].map(|c| (first[c] + second[c]).clamp(-4, 4))
     } else {
         first.map(|number| sign * number)

@@ -1,7 +1,7 @@
 //! Numbers for first nets without a record, proper ones and ones outside.
 
 use super::nets::any_number;
-use super::records::{any_made, numbers_of};
+use super::records::{any_made, frame_numbers};
 use crate::first::{Given, COEFFICIENTS, FRAME};
 use crate::random::Random;
 use crate::record::{LARGEST_COEFFICIENT, LARGEST_FRAME_NUMBER};
@@ -10,10 +10,11 @@ use crate::record::{LARGEST_COEFFICIENT, LARGEST_FRAME_NUMBER};
 /// not take is anything at all, and now and then there is too little of it.
 pub fn any_first(random: &mut Random) -> Given {
     let record = any_made(random).record;
-    let kind = record.shape.kind;
-    let frame = record.frame.iter().flat_map(|vertex| numbers_of(kind, vertex)).collect();
+    let kind = record.shape.kind.number();
+    let [degree, second] = record.shape.degrees.map(|degree| degree as u8);
+    let frame = frame_numbers(&record);
     let coefficients = record.coefficients.into_iter().flatten().collect();
-    let mut given = Given { kind: kind.number(), degree: record.shape.degree as u8, frame, coefficients };
+    let mut given = Given { kind, degree, second, frame, coefficients };
     for _ in 0..random.pick(&[0, 0, 0, 0, 1, 1, 1, 2]) {
         outside(random, &mut given);
     }
@@ -23,16 +24,24 @@ pub fn any_first(random: &mut Random) -> Given {
 }
 
 fn outside(random: &mut Random, given: &mut Given) {
-    match random.below(6) {
-        0 => given.kind = random.pick(&[0, 3, 4, 128, 255]),
-        1 => given.degree = random.pick(&[0, 9, 10, 11, 128, 255]),
-        2 | 3 => one_outside(random, &mut given.frame, LARGEST_FRAME_NUMBER),
-        4 => {
-            let numbers = if given.frame.len() == 4 { 2 } else { 3 };
-            given.frame.copy_within(..numbers, numbers);
-        }
+    match random.below(8) {
+        0 => given.kind = random.pick(&[0, 1, 2, 3, 4, 128, 255]),
+        1 => given.degree = random.pick(&[0, 6, 9, 10, 11, 128, 255]),
+        2 => given.second = random.pick(&[0, 1, 5, 6, 128, 255]),
+        3 | 4 => one_outside(random, &mut given.frame, LARGEST_FRAME_NUMBER),
+        5 | 6 => one_twice(random, &mut given.frame),
         _ => one_outside(random, &mut given.coefficients, LARGEST_COEFFICIENT),
     }
+}
+
+/// One vertex of a group stands for the next too, so its determinant is 0.
+fn one_twice(random: &mut Random, frame: &mut [i64]) {
+    let (numbers, from) = match frame.len() {
+        9 => (3, 0),
+        8 => (2, random.pick(&[0, 4])),
+        _ => (2, 0),
+    };
+    frame.copy_within(from..from + numbers, from + numbers);
 }
 
 fn one_outside(random: &mut Random, numbers: &mut [i64], largest: i64) {

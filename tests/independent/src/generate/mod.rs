@@ -11,4 +11,4 @@ pub use caller::{Caller, Mood};
 pub use damage::{damaged, everywhere};
 pub use first::any_first;
 pub use nets::{any_room, any_run, four_numbers, handed};
-pub use records::{any_record, encode, fields, made, Made};
+pub use records::{any_record, any_shape, bare, encode, fields, made, Made};

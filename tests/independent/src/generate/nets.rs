@@ -1,6 +1,7 @@
 //! Handed nets and quadruples of any numbers.
 
-use crate::handed::{Net, ENTRIES, PLACES};
+use super::records::any_shape;
+use crate::handed::{head, Net, ENTRIES, PLACES};
 use crate::projection::Room;
 use crate::random::Random;
 use crate::shape::{Shape, RANGE};
@@ -10,8 +11,8 @@ use crate::shape::{Shape, RANGE};
 pub fn handed(random: &mut Random) -> Net {
     let length = PLACES + random.pick(&[0, 0, 0, 1, 1, 2, 7, 64]);
     let mut net = Net((0..length).map(|_| any_number(random)).collect());
-    let shape = random.pick(&Shape::all());
-    net.0[..3].copy_from_slice(&[i64::from(shape.kind.number()), shape.degree as i64, 0]);
+    let shape = any_shape(random);
+    net.0[..3].copy_from_slice(&head(shape));
     let sort = random.below(5);
     let used = &mut net.0[ENTRIES..ENTRIES + 4 * shape.places()];
     used.iter_mut().for_each(|number| *number = entry_number(random, sort));
@@ -52,18 +53,21 @@ fn about_the_limit(random: &mut Random, shape: Shape, used: &mut [i64]) {
     used.iter_mut().for_each(|number| *number = random.pick(&[0, 0, 0, 0, 0, 1, -1]));
     let copies = shape.copies();
     let vertex = random.below(shape.vertices());
-    let own = copies.iter().position(|copies| copies[vertex] == shape.degree).unwrap_or(0);
+    let degree = shape.degrees[shape.kind.group_of(vertex)];
+    let own = copies.iter().position(|copies| copies[vertex] == degree).unwrap_or(0);
     let component = random.below(4);
     used[4 * own + component] = random.sign() * (RANGE - random.between(0, 2));
 }
 
 /// Kind, degree or second degree that no net has, numbers that are no bytes among them.
 fn shape_outside(random: &mut Random, net: &mut Net) {
-    let outside = random.pick(&[0, 3, 9, 11, 128, 255, 256, 257, 258, -1, -254, -255, -256, 1 << 32, i64::MAX, i64::MIN]);
-    match random.below(4) {
+    let outside = random.pick(&[0, 4, 6, 9, 11, 128, 255, 256, 257, 258, 259, -1, -253, -254, -255, -256, 1 << 32, i64::MAX, i64::MIN]);
+    match random.below(7) {
         0 => net.0[0] = outside,
         1 => net.0[1] = outside,
-        2 => net.0[2] = random.pick(&[outside, 1, 2, 8, 10]),
+        2 => net.0[2] = random.pick(&[outside, 1, 2, 5, 8, 10]),
+        3 | 4 => net.0[2] = if net.0[2] == 0 { random.between(1, 5) } else { random.pick(&[0, 6]) },
+        5 => net.0[0] = random.pick(&[1, 2, 3]),
         _ => (net.0[0], net.0[1]) = (outside, random.pick(&[0, 1, 9, 10, 11])),
     }
 }

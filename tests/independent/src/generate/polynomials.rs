@@ -2,12 +2,20 @@
 
 use crate::random::Random;
 use crate::record::LARGEST_COEFFICIENT;
-use crate::shape::{Kind, Shape};
+use crate::shape::{Exponents, Group, Shape};
 
-/// Coefficients with parameter points to aim at: there w, or everything, is 0.
+/// Coefficients with something to aim at.
 pub struct Sort {
     pub coefficients: Vec<[i64; 4]>,
-    pub aims: Vec<[i64; 3]>,
+    pub aims: Vec<Aim>,
+}
+
+/// A parameter point of one group at which w, or everything, is 0, whatever the points of
+/// the other group.
+#[derive(Clone, Copy, Debug)]
+pub struct Aim {
+    pub group: usize,
+    pub point: [i64; 3],
 }
 
 /// One sort out of all that need no particular frame.
@@ -52,21 +60,25 @@ fn some_components(random: &mut Random, shape: Shape) -> Vec<[i64; 4]> {
 
 /// The marked components have a common linear factor, which is 0 at the point aimed at.
 fn vanishing(random: &mut Random, shape: Shape, marked: [bool; 4]) -> Sort {
-    let aim = random_parameter(random, shape.kind, 2);
-    let form = form_through(random, shape.kind, aim);
+    let group = random.below(shape.groups().len());
+    let own = shape.groups()[group];
+    let point = random_parameter(random, own.vertices, 2);
+    let form = form_through(random, own, point);
     let mut coefficients = filled(random, shape, |random| random.between(-3, 3));
+    let rest = shape.with_degree(group, own.degree - 1);
     for component in (0..4).filter(|&component| marked[component]) {
-        let rest = shape.kind.exponents(shape.degree - 1).iter().map(|_| random.between(-3, 3)).collect::<Vec<i64>>();
-        let product = times_form(shape.kind, shape.degree - 1, &rest, form);
+        let other = (0..rest.places()).map(|_| random.between(-3, 3)).collect::<Vec<i64>>();
+        let product = times_form(rest, group, &other, form);
         coefficients.iter_mut().zip(product).for_each(|(entry, a)| entry[component] = a);
     }
-    Sort { coefficients, aims: vec![aim] }
+    Sort { coefficients, aims: vec![Aim { group, point }] }
 }
 
-pub fn random_parameter(random: &mut Random, kind: Kind, size: i64) -> [i64; 3] {
+/// Of a group with so many vertices.
+pub fn random_parameter(random: &mut Random, vertices: usize, size: i64) -> [i64; 3] {
     loop {
         let mut point = [0; 3].map(|_| random.between(-size, size));
-        if kind == Kind::Curve {
+        if vertices == 2 {
             point[1] = 0;
         }
         if point != [0; 3] {
@@ -76,12 +88,12 @@ pub fn random_parameter(random: &mut Random, kind: Kind, size: i64) -> [i64; 3] 
 }
 
 /// A linear form that is 0 at the point, and not the zero form.
-fn form_through(random: &mut Random, kind: Kind, [u, v, z]: [i64; 3]) -> [i64; 3] {
-    if kind == Kind::Curve {
+fn form_through(random: &mut Random, group: Group, [u, v, z]: [i64; 3]) -> [i64; 3] {
+    if group.vertices == 2 {
         return [z, 0, -u];
     }
     loop {
-        let [a, b, c] = random_parameter(random, kind, 2);
+        let [a, b, c] = random_parameter(random, group.vertices, 2);
         let form = [v * c - z * b, z * a - u * c, u * b - v * a];
         if form != [0; 3] {
             return form;
@@ -89,14 +101,18 @@ fn form_through(random: &mut Random, kind: Kind, [u, v, z]: [i64; 3]) -> [i64; 3
     }
 }
 
-/// The product of a form and a polynomial of degree d, of degree d + 1.
-pub fn times_form(kind: Kind, degree: usize, polynomial: &[i64], form: [i64; 3]) -> Vec<i64> {
-    let exponents = kind.exponents(degree + 1);
+/// The product of a polynomial of this shape and a form in the coordinates of one group,
+/// whose degree it raises by one.
+pub fn times_form(shape: Shape, group: usize, polynomial: &[i64], form: [i64; 3]) -> Vec<i64> {
+    let exponents = shape.with_degree(group, shape.degrees[group] + 1).exponents();
     let mut product = vec![0; exponents.len()];
-    for (&(h, l), &a) in kind.exponents(degree).iter().zip(polynomial) {
-        for (target, by) in [((h + 1, l), form[0]), ((h, l + 1), form[1]), ((h, l), form[2])] {
+    for (own, &a) in shape.exponents().iter().zip(polynomial) {
+        let (h, l) = own[group];
+        for (raised, by) in [((h + 1, l), form[0]), ((h, l + 1), form[1]), ((h, l), form[2])] {
             if by != 0 {
-                let place = exponents.iter().position(|&e| e == target).expect("a monomial of the product");
+                let mut target = own.clone();
+                target[group] = raised;
+                let place = exponents.iter().position(|e| *e == target).expect("a monomial of the product");
                 product[place] += a * by;
             }
         }
@@ -104,15 +120,18 @@ pub fn times_form(kind: Kind, degree: usize, polynomial: &[i64], form: [i64; 3])
     product
 }
 
-/// A power of one form times a constant for each component: over vertices at which
-/// the form is 0 the frame may grow without end and the entries do not.
-pub fn power_of_form(random: &mut Random, shape: Shape, form: [i64; 3]) -> Option<Vec<[i64; 4]>> {
-    let mut power = vec![1];
-    for degree in 0..shape.degree {
-        power = times_form(shape.kind, degree, &power, form);
+/// A power of one form in the coordinates of one group, times anything small in those of
+/// the other group, or a constant: over vertices at which the form is 0 the frame may grow
+/// without end and the entries do not.
+pub fn power_of_form(random: &mut Random, shape: Shape, group: usize, form: [i64; 3]) -> Option<Vec<[i64; 4]>> {
+    let mut coefficients = vec![[0; 4]; shape.places()];
+    for component in 0..4 {
+        let mut product: Vec<i64> = (0..shape.with_degree(group, 0).places()).map(|_| random.between(-2, 2)).collect();
+        for degree in 0..shape.degrees[group] {
+            product = times_form(shape.with_degree(group, degree), group, &product, form);
+        }
+        coefficients.iter_mut().zip(product).for_each(|(entry, a)| entry[component] = a);
     }
-    let constants = [0; 4].map(|_| random.between(-2, 2));
-    let coefficients: Vec<[i64; 4]> = power.iter().map(|&a| constants.map(|c| a * c)).collect();
     let inside = coefficients.iter().flatten().all(|a| a.abs() <= LARGEST_COEFFICIENT);
     inside.then_some(coefficients)
 }
@@ -120,7 +139,7 @@ pub fn power_of_form(random: &mut Random, shape: Shape, form: [i64; 3]) -> Optio
 /// Polynomials of a patch without one of the coordinates U, V (0 or 1): they may use
 /// the other one and Z as they like.
 pub fn without_coordinate(random: &mut Random, shape: Shape, left_out: usize) -> Vec<[i64; 4]> {
-    let keep = |&(h, l): &(usize, usize)| if left_out == 0 { h == 0 } else { l == 0 };
-    let exponents = shape.exponents();
+    let keep = |&(h, l): &Exponents| if left_out == 0 { h == 0 } else { l == 0 };
+    let exponents = shape.exponents().concat();
     exponents.iter().map(|e| if keep(e) { [0; 4].map(|_| random.between(-3, 3)) } else { [0; 4] }).collect()
 }

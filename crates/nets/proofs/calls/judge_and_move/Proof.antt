@@ -1,13 +1,10 @@
 -- `judge_and_move` meets its contract: the tests of the handed net, then those of the move's arguments, then the move.
 use borrow.Author.Needs.{needs}
-use native.Mathlib.Omega.{arith}
-use mathlib.Core.Path.{_≡_, sym, ap, _∙_}
+use mathlib.Core.Path.{_≡_, sym, _∙_}
 use mathlib.Core.Bool.{true}
-use mathlib.Core.List.{[], _∷_}
-use Rattle.kinds.specs.Kinds.{group, groupsOf, known}
-use Rattle.kinds.proofs.Limits.{limits, one-group-of}
+use Rattle.kinds.specs.Kinds.{known}
+use Rattle.kinds.proofs.Limits.{limits}
 use Rattle.machine.specs.Refusals.{firstFailed}
-use Rattle.machine.specs.Calls.{beforeSize}
 use Rattle.machine.specs.Nets.{Net, handedTests}
 use Rattle.machine.specs.declared.Call.{Call}
 use Rattle.machine.specs.declared.Call.the-variants.{Move}
@@ -37,32 +34,21 @@ passed c = sym (c .before .judge-net .ensures) ∙ c .if1 .left
 known-net : (c : tie.Else1) → let a = c .before .before .before .args in known (a .kind) (a .degree) (a .second) ≡ true
 known-net c = let a = c .before .before .before .args in handed-known (a .kind) (a .degree) (a .second) (a .entries .now) (passed c)
 
-judge-move-requires : tie.Need-judge-move-requires
-judge-move-requires c κs =
-    let a = c .before .before .before .before .args in
-    let l = limits (a .kind) (a .degree) (a .second) (known-net (c .before)) in
-    let n = c .dimension-of .ensures in
-    (omega (arith, l .dimension-low, n), omega (arith, l .dimension-few, n))
-
--- what the move's tests say at the net's degrees
-judged : (c : tie.After-judge-move)
-    → let s = c .before .before .before .before .before in c .judge-move .result ≡ firstFailed (beforeSize (groupsOf (s .args .kind) (s .args .degree) (s .args .second)) (move s))
-judged c =
-    let s = c .before .before .before .before .before in
-    let a = s .args in
-    c .judge-move .ensures (a .degree)
-    ∙ ap (λ n. firstFailed (beforeSize (group n (a .degree) ∷ []) (move s))) (c .before .dimension-of .ensures)
-    ∙ sym (ap (λ gs. firstFailed (beforeSize gs (move s))) (one-group-of (a .kind) (a .degree) (a .second) (known-net (c .before .before))))
+judge-vertex-requires : tie.Need-judge-vertex-requires
+judge-vertex-requires c κs = let a = c .before .before .before .args in limits (a .kind) (a .degree) (a .second) (known-net c) .dimension-low
 
 returns-2 : tie.Need-returns-2
 returns-2 c =
-    let s = c .before .before .before .before .before .before in
-    stepped-arguments (net s) (move s) (c .before .judge-move .result) (s .args .entries .now) (c .if2 .taken) (passed (c .before .before .before)) (judged (c .before))
+    let d = c .before in
+    let s = d .before .before .before .before in
+    stepped-arguments (net s) (move s) (d .judge-vertex .result) (s .args .entries .now) (c .if2 .taken) (passed (d .before)) (d .judge-vertex .ensures (s .args .degree) (s .args .second))
 
 make-move-requires : tie.Need-make-move-requires
 make-move-requires c κs =
     let e = c .before in
-    record { long = e .before .before .before .before .before .before .pre; net-passes = passed (e .before .before .before); call-passes = sym (judged (e .before)) ∙ e .if2 .left }
+    let d = e .before in
+    let s = d .before .before .before .before in
+    record { long = s .pre; net-passes = passed (d .before); call-passes = sym (d .judge-vertex .ensures (s .args .degree) (s .args .second)) ∙ e .if2 .left }
 
 pub judge-and-move-spec : {M : Type 1} → statement M
 judge-and-move-spec =
@@ -71,8 +57,7 @@ judge-and-move-spec =
     (λ c κs. search needs)
     (λ c. search needs)
     returns
-    (λ c κs. search needs)
-    judge-move-requires
+    judge-vertex-requires
     (λ c. search needs)
     returns-2
     make-move-requires

@@ -13,17 +13,17 @@ descend-requires c κs =
     let s = c .before .before .before .before .before .before in
     let a = s .args in
     let ys = c .before .before .before .rename in
-    replace-starts (a .width) (a .dimension) (a .degree) (a .vertex) (a .weights) (c .renamed-weights .result) (a .entries .now) (a .room .now) (ys .last .0) (s .pre .0) (s .pre .1) (s .pre .2) (ys .ensures) (c .renamed-weights .ensures)
+    replace-starts 4 (a .dimension) (a .degree) (a .vertex) (a .weights) (c .before .renamed-weights .result) (a .entries .now) (a .room .now) (ys .last .0) (s .pre .0) (s .pre .1) (s .pre .2) (ys .ensures) (c .before .renamed-weights .ensures)
 
 -- whether all levels are in range
 named : (d : tie.After-descend)
     → let a = d .before .before .before .before .before .before .before .args in
-    d .descend .result ≡ allNamedAt (a .width) (a .dimension) (a .degree) (weightList (a .weights)) (a .entries .now)
+    d .descend .result ≡ allNamedAt 4 (a .dimension) (a .degree) (weightList (a .weights)) (a .entries .now)
 named d =
     let s = d .before .before .before .before .before .before .before in
     let a = s .args in
     let ys = d .before .before .before .before .rename in
-    replace-named (a .width) (a .dimension) (a .degree) (a .vertex) (a .weights) (d .before .renamed-weights .result) (a .entries .now) (a .room .now) (ys .last .0) (s .pre .0) (s .pre .1) (s .pre .2) (ys .ensures) (d .before .renamed-weights .ensures)
+    replace-named 4 (a .dimension) (a .degree) (a .vertex) (a .weights) (d .before .before .renamed-weights .result) (a .entries .now) (a .room .now) (ys .last .0) (s .pre .0) (s .pre .1) (s .pre .2) (ys .ensures) (d .before .before .renamed-weights .ensures)
     (d .descend .result) (d .descend .last .0) (d .descend .ensures)
 
 returns : tie.Need-returns
@@ -39,7 +39,7 @@ returns-2 c =
     let ys = d .before .before .before .before .rename in
     let ok = not-false (d .descend .result) (c .before .before .before .before .if1 .left) in (
       sym ok ∙ named d,
-      replace-made (a .width) (a .dimension) (a .degree) (a .vertex) (a .weights) (d .before .renamed-weights .result) (a .entries .now) (a .room .now) (ys .last .0) (s .pre .0) (s .pre .1) (s .pre .2) (ys .ensures) (d .before .renamed-weights .ensures)
+      replace-made 4 (a .dimension) (a .degree) (a .vertex) (a .weights) (d .before .before .renamed-weights .result) (a .entries .now) (a .room .now) (ys .last .0) (s .pre .0) (s .pre .1) (s .pre .2) (ys .ensures) (d .before .before .renamed-weights .ensures)
           (d .descend .result) (d .descend .last .0) (d .descend .ensures) (c .before .rename2 .last .0) ok (c .before .rename2 .ensures),
     )
 

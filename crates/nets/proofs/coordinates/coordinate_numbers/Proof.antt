@@ -12,10 +12,10 @@ use Rattle.nets.proofs.coordinates.coordinate_numbers.Statement.{statem
 use Rattle.nets.proofs.coordinates.coordinate_numbers.Tie as tie
 
 abbrev Inv-loop : tie.InvT-loop
-Inv-loop out₀ all dimension degree coefficients i₀ k₀ out i k = Going 4 dimension degree (coordinateAt dimension degree coefficients) out₀ out (placeAt dimension i k) i k
+Inv-loop out₀ all dimension degree width coefficients i₀ k₀ out i k = Going width dimension degree (coordinateAt width dimension degree coefficients) out₀ out (placeAt dimension i k) i k
 
 abbrev μ-loop : tie.MeasureT-loop
-μ-loop out₀ all dimension degree coefficients i₀ k₀ out i k = size 4 dimension degree - 4 * placeAt dimension i k
+μ-loop out₀ all dimension degree width coefficients i₀ k₀ out i k = size width dimension degree - width * placeAt dimension i k
 
 -- the entry of a turn is within the degree
 within : (c : tie.In-loop Inv-loop μ-loop) → c .before .loop .i ≤ c .before .before .args .degree
@@ -30,20 +30,20 @@ next : (c : tie.After-next-third Inv-loop μ-loop)
     → let end = c .before .before in
     let a = turn end .before .before .args in
     let l = turn end .before .loop in
-    Going 4 (a .dimension) (a .degree) (coordinateAt (a .dimension) (a .degree) (a .coefficients .now)) (a .out .now) (end .before .put-entry .last .0) (placeAt (a .dimension) (l .i) (l .k) + 1) (c .before .next-row .result) (c .next-third .result)
+    Going (a .width) (a .dimension) (a .degree) (coordinateAt (a .width) (a .dimension) (a .degree) (a .coefficients .now)) (a .out .now) (end .before .put-entry .last .0) (placeAt (a .dimension) (l .i) (l .k) + 1) (c .before .next-row .result) (c .next-third .result)
 next c =
     let end = c .before .before in
     going-next (turn end .before .before .pre .0 .sized) (turn end .before .loop .inv) (within (turn end)) (end .before .put-entry .ensures) (end .before .put-entry .kept .0)
     (c .before .next-row .result) (c .next-third .result) (c .before .next-row .ensures) (c .next-third .ensures)
 
 loop-holds : tie.Need-loop-holds Inv-loop μ-loop
-loop-holds c = let a = c .args in at-place (going-first 4 (a .dimension) (a .degree) (coordinateAt (a .dimension) (a .degree) (a .coefficients .now)) (a .out .now) (c .pre .0 .sized .low) (c .pre .0 .sized .high))
+loop-holds c = let a = c .args in at-place (going-first (a .width) (a .dimension) (a .degree) (coordinateAt (a .width) (a .dimension) (a .degree) (a .coefficients .now)) (a .out .now) (c .pre .0 .sized .low) (c .pre .0 .sized .high))
 
 put-entry-requires : tie.Need-put-entry-requires Inv-loop μ-loop
 put-entry-requires c κs =
     let s = c .before .before .before in
     let l = c .before .before .loop in
-    (s .pre .0, s .pre .1, subst (λ k. size 4 (s .args .dimension) (s .args .degree) ≤ k) (sym (l .inv .kept)) (s .pre .2), within (c .before), l .inv .third)
+    (s .pre .0, s .pre .1, subst (λ k. size (s .args .width) (s .args .dimension) (s .args .degree) ≤ k) (sym (l .inv .kept)) (s .pre .2), within (c .before), l .inv .third)
 
 next-row-requires : tie.Need-next-row-requires Inv-loop μ-loop
 next-row-requires c κs = going-asks (turn c .before .before .pre .0 .sized) (turn c .before .loop .inv)
@@ -56,7 +56,7 @@ loop-less c =
     let t = turn (c .before .before) in
     let a = t .before .before .args in
     let l = t .before .loop in
-    subst (λ q. size 4 (a .dimension) (a .degree) - 4 * q < size 4 (a .dimension) (a .degree) - 4 * placeAt (a .dimension) (l .i) (l .k)) (next c .place)
+    subst (λ q. size (a .width) (a .dimension) (a .degree) - a .width * q < size (a .width) (a .dimension) (a .degree) - a .width * placeAt (a .dimension) (l .i) (l .k)) (next c .place)
     (going-less (t .before .before .pre .0 .sized) (l .inv) (within t))
 
 loop-again : tie.Need-loop-again Inv-loop μ-loop
@@ -70,7 +70,7 @@ returns c =
     let s = c .before .before in
     let a = s .args in
     let l = c .before .loop in
-    (coordinates-made (a .dimension) (a .degree) (a .coefficients .now) (s .pre .0) (a .out .now) (l .out) (s .pre .2) (going-done (s .pre .0 .sized) (l .inv) (omega (arith, c .loop-test .left))), l .inv .kept)
+    (coordinates-made (a .width) (a .dimension) (a .degree) (a .coefficients .now) (s .pre .0) (a .out .now) (l .out) (s .pre .2) (going-done (s .pre .0 .sized) (l .inv) (omega (arith, c .loop-test .left))), l .inv .kept)
 
 pub coordinate-numbers-spec : {M : Type 1} → statement M
 coordinate-numbers-spec =

@@ -1,6 +1,7 @@
 -- `put_entry` meets its contract: the place of the entry, the place of its monomial and the factor are those of its counts.
 use borrow.Author.Needs.{needs, sfits-of}
-use Prim.Native.Nat.{_+_, _*_, _-_, _/_, _≤_}
+use Prim.Native.Nat.{ℕ, _+_, _*_, _-_, _/_, _≤_, _<_}
+use native.Mathlib.Nat.{le-trans, le-of-eq, lt-of-lt-of-le, mul-le-mul-left, mul-suc}
 use native.Mathlib.Omega.{arith}
 use mathlib.Core.Path.{sym, ap, _∙_, subst}
 use lib.IntN.{pos, natAbs}
@@ -12,13 +13,17 @@ use Rattle.nets.proofs.Scaled.{exponents-within, exponents-place, entry
 use Rattle.nets.proofs.coordinates.put_entry.Statement.{statement}
 use Rattle.nets.proofs.coordinates.put_entry.Tie as tie
 
+-- a row at a place below k lies before the end of k rows
+row-inside : (w : ℕ) {p k : ℕ} → p < k → w * p + w ≤ w * k
+row-inside w {p} {k} h = let up = mul-le-mul-left w h in omega (arith, up, mul-suc w p)
+
 -- the exponents of the entry
 within : (s : tie.Start) → let a = s .args in (a .k ≤ a .i) × (a .i - a .k + a .k ≤ a .degree) × (a .k ≤ (a .dimension - 1) * a .degree)
 within s = let a = s .args in exponents-within (a .dimension) (a .degree) (a .i) (a .k) (s .pre .0 .sized .low) (s .pre .0 .sized .high) (s .pre .3) (s .pre .4)
 
 place-requires : tie.Need-place-requires
 place-requires c κs =
-    let few = degree-below 4 (c .args .dimension) (c .args .degree) (c .pre .0 .sized) in
+    let few = degree-below (c .args .width) (c .args .dimension) (c .args .degree) (c .pre .0 .sized) in
     (c .pre .0 .sized .low, c .pre .0 .sized .high, omega (arith, few, c .pre .3), within c .0)
 
 sub-h : tie.Need-sub-h
@@ -38,15 +43,16 @@ put-scaled-requires c κs =
     let a = s .args in
     let low = s .pre .0 .sized .low in
     let high = s .pre .0 .sized .high in
-    let inside = place-inside (a .dimension) (a .degree) (a .i) (a .k) low high (s .pre .3) (s .pre .4) 4 in
+    let inside = place-inside (a .dimension) (a .degree) (a .i) (a .k) low high (s .pre .3) (s .pre .4) (a .width) in
     let to-is = c .before .before .before .place .ensures in
     let from-is = c .before .before .monomial-place .ensures in
     let below = exponents-place (a .dimension) (a .degree) (a .i - a .k) (a .k) low high (within s .1) (within s .2) in
+    let row-in = row-inside (a .width) below in
     let long = s .pre .0 .long in (
-      omega (arith, inside, to-is, s .pre .2),
-      omega (arith, below, long, from-is),
+      le-trans (le-of-eq (ap (λ p. a .width * p + a .width) to-is)) (le-trans inside (s .pre .2)),
+      le-trans (le-of-eq (ap (λ p. a .width * p + a .width) from-is)) (le-trans row-in long),
       subst (λ v. natAbs v ≤ 2520) {x = c .before .factor .result} {y = seen (c .before .factor .result)} (sym (back-fits (sfits-of (c .before .factor .ok)))) (c .before .factor .ensures .1),
-      λ j lo up. s .pre .0 .each j (omega (arith, below, from-is)),
+      λ j up. s .pre .0 .each j (lt-of-lt-of-le up (le-trans (le-of-eq (ap (λ p. a .width * p + a .width) from-is)) row-in)),
     )
 
 returns : tie.Need-returns
@@ -54,7 +60,7 @@ returns c =
     let s = c .before .before .before .before .before .before in
     let a = s .args in
     let times = c .before .before .before .factor in
-    entry-put (a .dimension) (a .degree) (a .i) (a .k) (c .before .before .before .before .before .place .result) (c .before .before .before .before .monomial-place .result) (seen (times .result)) (a .out .now) (a .coefficients .now) (c .before .put-scaled .last .0)
+    entry-put (a .width) (a .dimension) (a .degree) (a .i) (a .k) (c .before .before .before .before .before .place .result) (c .before .before .before .before .monomial-place .result) (seen (times .result)) (a .out .now) (a .coefficients .now) (c .before .put-scaled .last .0)
     (s .pre .0 .sized .low) (s .pre .0 .sized .high) (s .pre .3) (s .pre .4)
     (c .before .before .before .before .before .place .ensures) (c .before .before .before .before .monomial-place .ensures)
     (back-fits (sfits-of (times .ok)) ∙ times .ensures .0 ∙ ap (λ k. pos (k / multinomial (a .degree) (exponentsAt (a .dimension) (a .i - a .k) (a .k)))) (s .pre .1)) (c .before .put-scaled .ensures)

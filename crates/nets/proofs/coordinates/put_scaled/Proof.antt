@@ -1,112 +1,50 @@
--- `put_scaled` meets its contract: after c turns the first c of the four numbers are written.
-use borrow.Author.Needs.{needs, sfits-of}
+-- `put_scaled` meets its contract: both ways put a row of its width.
+use borrow.Author.Needs.{needs}
 use Prim.Native.Nat.{_+_, _*_, _-_, _≤_}
-use native.Mathlib.Omega.{arith}
-use mathlib.Core.Path.{_≡_, refl, sym, ap, _∙_, subst}
+use mathlib.Core.Path.{_≡_, sym, ap, ap₂, _∙_, subst}
 use lib.IntN.{pos, natAbs, _*ℤ_}
-use lib.ListN.{length, getD, length-set}
-use mir.Syntax.{w64}
-use mir.Val.{toZ}
+use lib.ListN.{length, getD}
 use Rattle.integers.proofs.Signed.{seen, back-fits}
 use Rattle.nets.specs.Rows.{written}
-use Rattle.nets.proofs.Row.{element}
-use Rattle.nets.proofs.Lists.{write-more}
+use Rattle.nets.specs.Coordinates.{NoneBeyond}
 use Rattle.nets.proofs.coordinates.put_scaled.Statement.{statement}
 use Rattle.nets.proofs.coordinates.put_scaled.Tie as tie
 
-abbrev Inv-loop : tie.InvT-loop
-Inv-loop out₀ to coefficients from factor p q c₀ out c =
-    (c ≤ 4) × (out ≡ written out₀ (4 * to) c (λ i. getD coefficients (4 * from + (i - 4 * to)) (pos 0) *ℤ toZ w64 factor)) × (length out ≡ length out₀)
+-- what a row of w numbers asks for, the factor being handed on as it is
+asked : (s : tie.Start)
+    → let a = s .args in
+    (a .width * a .to + a .width ≤ length (a .out .now))
+    × (a .width * a .from + a .width ≤ length (a .coefficients .now))
+    × (natAbs (seen (a .factor)) ≤ 2520)
+    × NoneBeyond 281474976710656 (a .width * a .from + a .width) (a .coefficients .now)
+asked s = (s .pre .0, s .pre .1, subst (λ v. natAbs v ≤ 2520) (sym (back-fits (s .fits .factor))) (s .pre .2), s .pre .3)
 
-abbrev μ-loop : tie.MeasureT-loop
-μ-loop out₀ to coefficients from factor p q c₀ out c = 4 - c
+scale-numbers-requires : tie.Need-scale-numbers-requires
+scale-numbers-requires c κs =
+    let branch = c .before in
+    let a = branch .before .args in
+    subst (λ w. (w * a .to + w ≤ length (a .out .now)) × (w * a .from + w ≤ length (a .coefficients .now)) × (natAbs (seen (a .factor)) ≤ 2520) × NoneBeyond 281474976710656 (w * a .from + w) (a .coefficients .now)) (branch .if1 .taken) (asked (branch .before))
 
-mul-p : tie.Need-mul-p Inv-loop μ-loop
-mul-p c = search needs
-
-mul-q : tie.Need-mul-q Inv-loop μ-loop
-mul-q c = search needs
-
-loop-holds : tie.Need-loop-holds Inv-loop μ-loop
-unfolding written
-loop-holds c = (search needs, refl, refl)
-
-add-scaled : tie.Need-add-scaled Inv-loop μ-loop
-add-scaled c = search needs
-
-mul-scaled : tie.Need-mul-scaled Inv-loop μ-loop
-mul-scaled c = search needs
-
-shared-slice-copy-out-scaled : tie.Need-shared-slice-copy-out-scaled Inv-loop μ-loop
-shared-slice-copy-out-scaled c = search needs
-
-scaled-requires : tie.Need-scaled-requires Inv-loop μ-loop
-scaled-requires c κs =
-    let s = c .before .before .before in
-    let l = c .before .before .loop in (
-      subst (λ v. natAbs v ≤ 1048576) (sym (element (getD (s .args .coefficients .now) (4 * s .args .from + l .c) (pos 0)) (c .scaled-arg .given)))
-          (s .pre .3 (4 * s .args .from + l .c) (omega arith) (omega (arith, c .before .loop-test .taken))),
-      subst (λ v. natAbs v ≤ 2520) (sym (back-fits (s .fits .factor))) (s .pre .2),
-    )
-
-add-t15 : tie.Need-add-t15 Inv-loop μ-loop
-add-t15 c = search needs
-
-mul-t16 : tie.Need-mul-t16 Inv-loop μ-loop
-mul-t16 c = search needs
-
-slice-set-from-out : tie.Need-slice-set-from-out Inv-loop μ-loop
-slice-set-from-out c =
-    omega (arith, c .before .before .before .loop .inv .2, c .before .before .before .before .pre .0, c .before .before .loop-test .taken)
-
-add-c : tie.Need-add-c Inv-loop μ-loop
-add-c c = search needs
-
-loop-less : tie.Need-loop-less Inv-loop μ-loop
-loop-less c = omega (arith, c .before .before .loop-test .taken)
-
-loop-again : tie.Need-loop-again Inv-loop μ-loop
-loop-again c =
-    let s = c .before .before .before .before in
-    let l = c .before .before .before .loop in
-    let place-is : l .c ≡ 4 * s .args .to + l .c - 4 * s .args .to = omega arith in (
-      omega (arith, c .before .before .loop-test .taken),
-      write-more (s .args .out .now) (l .out) (4 * s .args .to) (l .c) (seen (c .scaled .result)) (λ i. getD (s .args .coefficients .now) (4 * s .args .from + (i - 4 * s .args .to)) (pos 0) *ℤ seen (s .args .factor)) (l .inv .1)
-          (back-fits (sfits-of (c .scaled .ok)) ∙ c .scaled .ensures
-          ∙ ap (λ v. v *ℤ seen (s .args .factor)) (element (getD (s .args .coefficients .now) (4 * s .args .from + l .c) (pos 0)) (c .before .scaled-arg .given))
-          ∙ ap (λ i. getD (s .args .coefficients .now) (4 * s .args .from + i) (pos 0) *ℤ seen (s .args .factor)) place-is),
-      length-set (l .out) (4 * s .args .to + l .c) _ ∙ l .inv .2,
-    )
-
-same-length : tie.Need-same-length Inv-loop μ-loop
-same-length c = c .before .loop .inv .2
-
-returns : tie.Need-returns Inv-loop μ-loop
+returns : tie.Need-returns
 returns c =
-    let s = c .before .before in
-    let l = c .before .loop in
-    let whole : l .c ≡ 4 = omega (arith, l .inv .0, c .loop-test .left) in
-    l .inv .1
-    ∙ (λ j. written (s .args .out .now) (4 * s .args .to) (whole j) (λ i. getD (s .args .coefficients .now) (4 * s .args .from + (i - 4 * s .args .to)) (pos 0) *ℤ back-fits (s .fits .factor) j))
+    let d = c .before in
+    let branch = d .before .before in
+    let a = branch .before .args in
+    d .scale-numbers .ensures
+    ∙ ap₂ (λ w f. written (a .out .now) (w * a .to) w (λ i. getD (a .coefficients .now) (w * a .from + (i - w * a .to)) (pos 0) *ℤ f)) (sym (branch .if1 .taken)) (back-fits (branch .before .fits .factor))
+
+scale-numbers-requires-2 : tie.Need-scale-numbers-requires-2
+scale-numbers-requires-2 c κs = asked (c .before .before)
+
+returns-2 : tie.Need-returns-2
+returns-2 c =
+    let d = c .before in
+    let s = d .before .before .before in
+    let a = s .args in
+    d .scale-numbers2 .ensures
+    ∙ ap (λ f. written (a .out .now) (a .width * a .to) (a .width) (λ i. getD (a .coefficients .now) (a .width * a .from + (i - a .width * a .to)) (pos 0) *ℤ f)) (back-fits (s .fits .factor))
 
 pub put-scaled-spec : {M : Type 1} → statement M
 put-scaled-spec =
     tie.close
-    (tie.spec
-    Inv-loop
-    μ-loop
-    mul-p
-    mul-q
-    loop-holds
-    add-scaled
-    mul-scaled
-    shared-slice-copy-out-scaled
-    scaled-requires
-    add-t15
-    mul-t16
-    slice-set-from-out
-    add-c
-    loop-less
-    loop-again
-    same-length
-    returns)
+    (tie.spec scale-numbers-requires (λ c. search needs) returns scale-numbers-requires-2 (λ c. search needs) returns-2)

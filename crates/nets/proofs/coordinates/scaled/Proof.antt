@@ -9,8 +9,8 @@ use Rattle.integers.proofs.Signed.{seen, fits-abs, back, back-fits, abs-*-le}
 use Rattle.nets.proofs.coordinates.scaled.Statement.{statement}
 use Rattle.nets.proofs.coordinates.scaled.Tie as tie
 
-small : (a f : ℤ) → natAbs a ≤ 1048576 → natAbs f ≤ 2520 → natAbs (a *ℤ f) < 2 ^ 63
-small a f h k = let up : natAbs (a *ℤ f) ≤ 1048576 * 2520 = abs-*-le a f h k in omega arith
+small : (a f : ℤ) → natAbs a ≤ 281474976710656 → natAbs f ≤ 2520 → natAbs (a *ℤ f) < 2 ^ 63
+small a f h k = let up : natAbs (a *ℤ f) ≤ 281474976710656 * 2520 = abs-*-le a f h k in omega arith
 
 mul-result : tie.Need-mul-result
 mul-result c =

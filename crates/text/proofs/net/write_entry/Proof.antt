@@ -1,32 +1,31 @@
--- `write_entry` meets its contract: the entry's name, then its numbers.
+-- `write_entry` meets its contract: the first group's indices, that of the group after it, then the numbers.
 use borrow.Author.Needs.{needs}
-use mathlib.Core.Path.{_≡_, sym}
-use mathlib.Core.List.{_++_}
-use Rattle.text.specs.Text.{entryLine}
-use Rattle.text.specs.Parts.{numbersText, entryCounts, nameText}
-use Rattle.text.proofs.InParts.{entry-text}
 use Rattle.text.proofs.Over.{first-room, then-room, in-a-row}
-use Rattle.text.proofs.Then.{room-as, wrote-as}
 use Rattle.text.proofs.net.write_entry.Statement.{statement}
 use Rattle.text.proofs.net.write_entry.Tie as tie
 
-text : (s : tie.Start) → let a = s .args in nameText (a .kind) (a .i) (a .j) (a .k) ++ numbersText (a .numbers .now) ≡ entryLine (a .kind) (entryCounts (a .kind) (a .i) (a .j) (a .k)) (a .numbers .now)
-text s = let a = s .args in entry-text (a .kind) (a .i) (a .j) (a .k) (s .pre .0) (a .numbers .now)
-
 put-name-requires : tie.Need-put-name-requires
-put-name-requires c κs = let s = c .before .before in (s .pre .0, first-room _ (room-as (sym (text s)) (s .pre .1)))
+put-name-requires c κs = let s = c .before .before .before in (s .pre .0, first-room _ (s .pre .1))
+
+put-later-requires : tie.Need-put-later-requires
+put-later-requires c κs =
+    let n = c .before .before .before in
+    first-room _ (then-room (n .put-name .ensures) (n .before .before .before .before .pre .1))
 
 put-line-requires : tie.Need-put-line-requires
 put-line-requires c κs =
-    let a = c .before .before .before .before in
-    let s = a .before .before .before in
-    then-room (a .put-name .ensures) (room-as (sym (text s)) (s .pre .1))
+    let l = c .before .before .before .before in
+    let n = l .before .before .before .before in
+    then-room (l .put-later .ensures) (then-room (n .put-name .ensures) (n .before .before .before .before .pre .1))
 
 returns : tie.Need-returns
 returns c =
-    let a = c .before .before .before .before .before .before .before in
-    let s = a .before .before .before in
-    wrote-as (text s) (in-a-row (a .put-name .ensures) (c .before .before .put-line .ensures) (room-as (sym (text s)) (s .pre .1)))
+    let l = c .before .before .before .before .before .before .before in
+    let n = l .before .before .before .before in
+    let room = n .before .before .before .before .pre .1 in
+    in-a-row (n .put-name .ensures)
+    (in-a-row (l .put-later .ensures) (c .before .before .put-line .ensures) (then-room (n .put-name .ensures) room))
+    room
 
 pub write-entry-spec : {M : Type 1} → statement M
-write-entry-spec = tie.close (tie.spec put-name-requires (λ c. search needs) put-line-requires (λ c. search needs) returns)
+write-entry-spec = tie.close (tie.spec put-name-requires put-later-requires (λ c. search needs) put-line-requires (λ c. search needs) returns)
