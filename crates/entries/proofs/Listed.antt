@@ -12,7 +12,6 @@ use lib.Seq.{getD-append-add, getD-drop, ext-getD}
 use Rattle.integers.specs.Sum.{upto}
 use Rattle.integers.proofs.Sums.{length-upto}
 use Rattle.polar.specs.Order.{joined, total, counts}
-use Rattle.polar.proofs.Order.{counts-total}
 use Rattle.polar.proofs.Sigma.{at-upto}
 use Rattle.entries.specs.Entries.{placeOf}
 use Rattle.entries.specs.Rows.{entryAt, listed, size, rank}
@@ -96,11 +95,6 @@ module _ (w n m : ℕ) where
     where
       within : (p : ℕ) → p < length (counts n m) → w * p + c < length (listed w n m g)
       within p h = subst (λ s. w * p + c < s) (sym (length-listed g)) (digits-below w p c (length (counts n m)) h k)
-
-  -- functions that agree on the entries are listed alike
-  pub listed-cong : (f g : ℕ → List ℕ → ℤ) → ((c : ℕ) (e : List ℕ) → c < w → length e ≡ suc n → total e ≡ m → f c e ≡ g c e) → listed w n m f ≡ listed w n m g
-  unfolding listed
-  listed-cong f g h = rows-cong w f g (counts n m) (λ c e k q. let r = counts-total n m e q in h c e k (r .0) (r .1))
 
   -- a list with the function's values at the entries' places, and x's numbers past them
   pub net-ext : 0 < w → (ys xs : List ℤ) (g : ℕ → List ℕ → ℤ) → length ys ≡ length xs → size w n m ≤ length xs

@@ -126,11 +126,7 @@ scales-read-off =
 
 -- ---- group by group
 
--- the scale of a known kind: that of its first group times that of the others
-pub known-scale : (kind p q : ℕ) → known kind p q ≡ true → scaleOf kind p q ≡ scale (dimensionOf kind) p * scaleOver (laterGroups kind q)
-known-scale kind p q h = scale-known kind p q h ∙ ap scaleOver (groups-of kind p q h)
-
--- no other numbers have one
+-- only a known kind with its degrees has a scale
 pub unknown-scale : (kind p q : ℕ) → known kind p q ≡ false → scaleOf kind p q ≡ 0
 unfolding scaleOf
 unknown-scale kind p q h = ap (λ b. cond b (scaleOver (groupsOf kind p q)) 0) h

@@ -221,21 +221,22 @@ fn group_allowed(dimension: usize, numbers: &[i64]) -> bool
 
 // Whether the numbers of all frames are within their limit and no determinant is 0, whatever the degrees
 // are. Where there is a second group, the first has two vertices and its frame four numbers.
-pub fn frame_allowed(kind: u8, numbers: [i64; 9]) -> bool
-    ensures { λ r. ⌜ ((p q : ℕ) → r ≡ framesAllowed (groupsOf kind p q) numbers) ⌝ }
+pub fn frame_allowed(kind: u8, numbers: &[i64; 9]) -> bool
+    ensures { λ r. ⌜ ((p q : ℕ) → r ≡ framesAllowed (groupsOf kind p q) (now (numbers .entry))) ⌝ }
 {
     let n = dimension_of(kind);
     if n == 0 {
         return true;
     }
-    if !group_allowed(n, &numbers) {
+    let all = &numbers[..];
+    if !group_allowed(n, all) {
         return false;
     }
     let later = later_dimension(kind);
     if later == 0 {
         return true;
     }
-    group_allowed(later, &numbers[4..9])
+    group_allowed(later, &all[4..9])
 }
 
 // ---- scales

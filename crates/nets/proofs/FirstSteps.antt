@@ -1,17 +1,16 @@
 -- The making of a first net, test by test in the order of the code: what the accepted kind, frame and coefficients give it, that the values made are the entries of the
 -- net over the frame, and what is answered and left in the lent places.
-use Prim.Native.Nat.{ℕ, zero, suc, _+_, _*_, _-_, _^_, _≤_, _<_, zero-le, suc-le-suc}
-use native.Mathlib.Nat.{zero-add, le-refl, le-trans, le-of-eq, le-add-right, lt-of-lt-of-le, mul-suc, mul-le-mul, mul-le-mul-left, le-mul-of-pos-right, pow-le-pow-right, not-suc-le-zero, le-of-suc-le-suc}
+use Prim.Native.Nat.{ℕ, zero, suc, _+_, _*_, _-_, _^_, _≤_, _<_, suc-le-suc}
+use native.Mathlib.Nat.{zero-add, le-refl, le-trans, le-of-eq, le-add-right, lt-of-lt-of-le, mul-suc, mul-le-mul, mul-le-mul-left, le-mul-of-pos-right, pow-le-pow-right}
 use native.Mathlib.Numerals.{add-one}
 use native.Mathlib.Omega.{arith}
-use native.Mathlib.Decide.{decLt}
 use mathlib.Core.Path.{_≡_, refl, sym, ap, ap₂, _∙_, subst, fun-ext}
-use mathlib.Core.Bool.{Bool, true, false, _&&_, not}
+use mathlib.Core.Bool.{Bool, true, _&&_, not}
 use mathlib.Core.List.{List, [], _∷_, _++_}
 use lib.Dec.{leb, lit≤}
 use lib.IntN.{ℤ, pos, natAbs}
-use lib.ListN.{length, getD, take, drop, length-append, length-drop}
-use lib.Seq.{take-nil, take-all, take-at, drop-at, drop-drop, take-append-le, drop-append-le, length-take-le, ext-getD, getD-take, getD-drop, getD-append-add}
+use lib.ListN.{length, getD, take, drop, length-append, length-drop, take-append-drop}
+use lib.Seq.{take-nil, take-all, take-at, drop-at, drop-drop, take-append-le, drop-append-le, length-take-le, getD-take}
 use borrow.Author.Tests.{leb-true, le-leb, lt-leb}
 use Rattle.integers.specs.Test.{within, all}
 use Rattle.integers.proofs.All.{and-parts, all-first}
@@ -31,7 +30,7 @@ use Rattle.projection.specs.Projection.{isZero, inRange}
 use Rattle.kinds.specs.Kinds.{group, groupsOf, dimensionOf, laterGroups, laterDimension, known}
 use Rattle.kinds.specs.Frames.{frameOf, determinant, frameAllowed, framesOf, framesAllowed}
 use Rattle.kinds.proofs.Limits.{UpTo, by-known, limits, groups-of, later-none, later-one, pairs-only}
-use Rattle.kinds.proofs.Counts.{coefficients-entries, row-size, known-size, size-fits, entries-fit}
+use Rattle.kinds.proofs.Counts.{coefficients-entries, row-size, known-size, size-fits}
 use Rattle.kinds.proofs.Scales.{row-low, first-scale, later-scale, pair-scale}
 use Rattle.machine.specs.Refusals.{_else_, firstFailed}
 use Rattle.machine.specs.Nets.{Net, netInRange}
@@ -44,7 +43,7 @@ use Rattle.nets.specs.Rows.{Sized, written}
 use Rattle.nets.specs.Parts.{partAt, inParts}
 use Rattle.nets.specs.Coordinates.{NoneBeyond, Limited}
 use Rattle.nets.specs.FirstNet.{FrameWithin, framed, framedList, Framing, PartsFramed}
-use Rattle.nets.specs.Calls.{beforeFirst}
+use Rattle.nets.specs.Calls.{netFrom, beforeFirst, Stores, Stored, FirstStored}
 use Rattle.nets.proofs.Lists.{written-front}
 use Rattle.nets.proofs.FirstMoves.{known-sized}
 use Rattle.nets.proofs.Parts.{part-long, part-at, joined-upto}
@@ -425,32 +424,56 @@ module _ (kind degree second : ℕ) (frame coefficients lent : List ℤ) where
               by-judged ∙ passed-first (beforeFirst f (take 9 frame)) (netInRange made else 7 ∷ []) (none-failed (beforeFirst f (take 9 frame)) refl .0 none)
               ∙ ap (λ b. firstFailed (b else 7 ∷ [])) e
 
-          pub net-refused : netInRange made ≡ false → Answered 7 lent
-          net-refused e = answered 7 lent (by-range e) refl
+          -- what the making answers and stores
+          pub net-stored : (k : ℕ) (ys : List ℤ) → FirstStored f (take 9 frame) lent k ys → Answered k ys
+          net-stored k ys is = answered k ys (by-range refl ∙ sym (is .number-is)) (is .places-are)
 
-          -- the head is put, and then the entries are copied into their part of the places
-          pub net-accepted : netInRange made ≡ true → (out zeros headed ys : List ℤ) (count : ℕ)
-              → out ≡ putAt 0 (made .entries) zeros → headed ≡ putAt 0 (pos kind ∷ pos degree ∷ pos second ∷ []) lent → length headed ≡ length lent → count ≡ numberCount (groupsOf kind degree second)
-              → ys ≡ take 12 headed ++ (written (take 180 (drop 12 headed)) 0 count (λ i. getD out i (pos 0)) ++ drop 180 (drop 12 headed)) → Answered 0 ys
-          unfolding put netOver
-          net-accepted e out zeros headed ys count out-is head-is kept counted is =
-              answered 0 ys (by-range e)
-              (is
-              ∙ ap₂ (λ l r. take 12 headed ++ (l ++ r))
-              (ap (λ l. written (take 180 (drop 12 headed)) 0 count (λ i. getD l i (pos 0))) out-is
-              ∙ written-front (take 180 (drop 12 headed)) (made .entries) (drop (0 + length (made .entries)) zeros) count (counted ∙ sym entries-count) fits)
-              (drop-drop 180 12 headed)
-              ∙ part-put headed (le-leb 193 (length headed) (subst (λ k. 193 ≤ k) (sym kept) room)) (made .entries) (subst (λ k. k ≤ 180) (sym entries-count) few)
-              ∙ ap (putAt 12 (made .entries)) head-is)
-            where
-              entries-count : length (made .entries) ≡ numberCount (groupsOf kind degree second)
-              entries-count = first-count kind degree second (first-known f (take 9 frame) none) (take 9 frame) coefficients
+-- ---- storing
 
-              few : numberCount (groupsOf kind degree second) ≤ 180
-              few = entries-fit kind degree second (first-known f (take 9 frame) none)
+module _ (kind p q : ℕ) (lent entries : List ℤ) (asked : Stores kind p q lent entries) where
+  -- there is room for them
+  pub part-room : (headed : List ℤ) → length headed ≡ length lent → numberCount (groupsOf kind p q) ≤ length (take 180 (drop 12 headed))
+  part-room headed kept =
+      let long = asked .places in
+      subst (λ k. numberCount (groupsOf kind p q) ≤ k) (sym (length-take-le 180 (drop 12 headed) (subst (λ k. 180 ≤ k) (sym (length-drop 12 headed)) (omega (arith, kept))))) (asked .fit)
 
-              fits : count ≤ length (take 180 (drop 12 headed))
-              fits =
-                  subst (λ k. count ≤ k)
-                  (sym (length-take-le 180 (drop 12 headed) (subst (λ k. 180 ≤ k) (sym (length-drop 12 headed)) (omega (arith, kept)))))
-                  (subst (λ k. k ≤ 180) (sym counted) few)
+  -- the head is put, and then the entries are copied into their part of the places
+  pub net-put : (headed ys : List ℤ) (count : ℕ) → headed ≡ putAt 0 (pos kind ∷ pos p ∷ pos q ∷ []) lent → length headed ≡ length lent → count ≡ numberCount (groupsOf kind p q)
+      → ys ≡ take 12 headed ++ (written (take 180 (drop 12 headed)) 0 count (λ i. getD entries i (pos 0)) ++ drop 180 (drop 12 headed)) → ys ≡ put (netFrom kind p q entries) lent
+  unfolding put
+  net-put headed ys count head-is kept counted is =
+      is
+      ∙ ap₂ (λ l r. take 12 headed ++ (l ++ r))
+      (ap (λ l. written (take 180 (drop 12 headed)) 0 count (λ i. getD l i (pos 0))) (sym (take-append-drop n entries))
+      ∙ written-front (take 180 (drop 12 headed)) own (drop n entries) count (counted ∙ sym own-count) fits)
+      (drop-drop 180 12 headed)
+      ∙ part-put headed (le-leb 193 (length headed) (subst (λ k. 193 ≤ k) (sym kept) (asked .places))) own (subst (λ k. k ≤ 180) (sym own-count) (asked .fit))
+      ∙ ap (putAt 12 own) head-is
+    where
+      n : ℕ
+      n = numberCount (groupsOf kind p q)
+
+      own : List ℤ
+      own = take n entries
+
+      own-count : length own ≡ n
+      own-count = length-take-le n entries (asked .enough)
+
+      fits : count ≤ length (take 180 (drop 12 headed))
+      fits = subst (λ k. k ≤ length (take 180 (drop 12 headed))) (sym counted) (part-room headed kept)
+
+-- a first net that is made in a room is stored as it is
+pub first-stored : (kind p q : ℕ) → known kind p q ≡ true → (frame coefficients room out lent ys : List ℤ) (b : Bool) (k : ℕ)
+    → let f = polynomialsFrom kind p q coefficients in
+    out ≡ putAt 0 (firstNet f frame .entries) room → b ≡ netInRange (firstNet f frame) → Stored (netFrom kind p q out) b lent k ys → FirstStored f frame lent k ys
+unfolding netOver
+first-stored kind p q right frame coefficients room out lent ys b k made-is range is =
+    let f = polynomialsFrom kind p q coefficients in
+    let entries = firstNet f frame .entries in
+    let count = first-count kind p q right frame coefficients in
+    let own : take (numberCount (groupsOf kind p q)) out ≡ entries =
+    ap (take (numberCount (groupsOf kind p q))) made-is ∙ take-at entries (drop (0 + length entries) room) (numberCount (groupsOf kind p q)) count in
+    record {
+      number-is = is .number-is ∙ ap (λ r. firstFailed (r else 7 ∷ [])) range;
+      places-are = is .places-are ∙ ap (λ l. unlessRefused k (put (record { kind = kind; degree = p; second = q; entries = l }) lent) lent) own;
+    }

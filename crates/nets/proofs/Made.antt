@@ -10,8 +10,8 @@ use mathlib.Core.List.{List, [], _∷_, _++_, append-nil}
 use lib.Dec.{leb, lit≤}
 use borrow.Author.Tests.{leb-true}
 use lib.IntN.{ℤ, pos, natAbs}
-use lib.ListN.{length, getD, take, drop, replicate}
-use lib.Seq.{take-all, drop-length, ext-getD, getD-take, length-take-le}
+use lib.ListN.{length, getD, take, drop}
+use lib.Seq.{take-all, drop-length}
 use Rattle.integers.specs.Test.{within, all}
 use Rattle.integers.specs.Sum.{upto}
 use Rattle.integers.proofs.Sums.{upto-below}
@@ -27,21 +27,18 @@ use Rattle.kinds.specs.Kinds.{group, groupsOf, dimensionOf, laterGroups, laterD
 use Rattle.kinds.specs.Frames.{vertexCount}
 use Rattle.machine.specs.Refusals.{_else_, firstFailed}
 use Rattle.machine.proofs.Refusals.{testAt, row-passes}
-use Rattle.machine.proofs.Lent.{front-put}
 use Rattle.machine.specs.Calls.{weightList, beforeSize}
 use Rattle.machine.specs.Sizes.{namedBy, allNamed}
-use Rattle.machine.specs.Steps.{foundAt, pointValues}
 use Rattle.machine.specs.Nets.{netGroups, netPolar, handedTests, netTests, withEntries, accepted}
 use Rattle.machine.specs.Lent.{putAt, unlessRefused}
 use Rattle.machine.specs.declared.Weights.{Weights}
 use Rattle.machine.specs.declared.Call.{Call}
 use Rattle.machine.specs.declared.Call.the-variants.{Move}
-use Rattle.nets.specs.Rows.{written, weightSum, Sized}
-use Rattle.nets.specs.Levels.{allNamedAt, replacedList}
-use Rattle.nets.specs.Flips.{flippedList, InRange}
+use Rattle.nets.specs.Rows.{weightSum, Sized}
+use Rattle.nets.specs.Levels.{allNamedAt, replacedList, Descends, Replaces}
+use Rattle.nets.specs.Flips.{flippedList, InRange, Flips}
 use Rattle.nets.specs.Parts.{partAt, partsOf, inParts, Parts}
 use Rattle.nets.specs.Calls.{netFrom, InOrder, Stepped}
-use Rattle.nets.proofs.Lists.{length-written, written-at}
 use Rattle.kinds.proofs.Limits.{limits, groups-of, later-none, later-one, pairs-only}
 use Rattle.kinds.proofs.Counts.{row-size, known-size, size-fits}
 use Rattle.nets.proofs.FirstMoves.{known-sized, sizeBy, movedBy, replace-size, replace-moved, flip-size, flip-moved}
@@ -72,6 +69,11 @@ handed-known kind degree second places passed =
 -- the first group, and the numbers of a row
 abbrev pub rowNumbers : ℕ → ℕ → ℕ
 rowNumbers kind second = numberCount (laterGroups kind second)
+
+-- without a second group a row has four
+pub row-of-four : (kind second : ℕ) → laterDimension kind ≡ 0 → rowNumbers kind second ≡ 4
+unfolding countsOver
+row-of-four kind second none = ap numberCount (later-none kind second none)
 
 module _ {kind degree second : ℕ} {places : List ℤ} {call : Call} (ordered : InOrder kind degree second places call) where
   abbrev pub n : ℕ
@@ -227,10 +229,10 @@ module _ {kind degree second : ℕ} {places : List ℤ} {operation vertex : ℕ}
     own-low : pred vertex ≤ n ordered
     own-low = subst (λ v. v ≤ n ordered) (sym before-one) low
 
-    pub rows-sized : (first : operation ≡ 1) (b : Bool) → b ≡ allNamedAt (w ordered) (n ordered) degree (weightList weights) places → b ≡ sizeBy (over ordered) (Move operation vertex weights) (used ordered)
+    rows-sized : (first : operation ≡ 1) (b : Bool) → b ≡ allNamedAt (w ordered) (n ordered) degree (weightList weights) places → b ≡ sizeBy (over ordered) (Move operation vertex weights) (used ordered)
     rows-sized first b is = is ∙ sym (replace-size (n ordered) degree (laterGroups kind second) operation vertex weights places own-low first)
 
-    pub rows-replaced : operation ≡ 1 → (b : Bool) (after : List ℤ) → after ≡ cond b (replacedList (w ordered) (n ordered) degree (weightList weights) (vertex - 1) places) places
+    rows-replaced : operation ≡ 1 → (b : Bool) (after : List ℤ) → after ≡ cond b (replacedList (w ordered) (n ordered) degree (weightList weights) (vertex - 1) places) places
         → after ≡ cond b (putAt 0 left places) places
     unfolding replacedList
     rows-replaced first b after is =
@@ -240,7 +242,7 @@ module _ {kind degree second : ℕ} {places : List ℤ} {operation vertex : ℕ}
         ∙ put-left (listed (w ordered) (n ordered) degree (λ c. replaced (suc (n ordered)) (weightList weights) (pred vertex) (entryAt (w ordered) (n ordered) degree places c)))
         (move-left ∙ replace-moved (n ordered) degree (laterGroups kind second) operation vertex weights places own-low first))
 
-    pub rows-flipped : (operation ≡ 1 → ⊥) → (after : List ℤ) → after ≡ flippedList (w ordered) (n ordered) degree (vertex - 1) places → after ≡ putAt 0 left places
+    rows-flipped : (operation ≡ 1 → ⊥) → (after : List ℤ) → after ≡ flippedList (w ordered) (n ordered) degree (vertex - 1) places → after ≡ putAt 0 left places
     unfolding flippedList
     rows-flipped other after is =
         is
@@ -248,15 +250,42 @@ module _ {kind degree second : ℕ} {places : List ℤ} {operation vertex : ℕ}
         ∙ put-left (listed (w ordered) (n ordered) degree (λ c. flipped (pred vertex) (entryAt (w ordered) (n ordered) degree places c)))
         (move-left ∙ flip-moved (n ordered) degree (laterGroups kind second) operation vertex weights places own-low other)
 
+    -- rows of v numbers in dimension d, which are the net's: what the functions on them ask for, and what their work is for the call
+    module _ (v d : ℕ) (v-is : v ≡ w ordered) (d-is : d ≡ n ordered) where
+      pub replace-asked : Descends v d degree weights places × (vertex - 1 ≤ d)
+      replace-asked =
+          subst (λ j. Descends v j degree weights places × (vertex - 1 ≤ j)) (sym d-is) (
+            subst (λ j. Descends j (n ordered) degree weights places) (sym v-is) (record { sized = net-sized ordered; long = net-long ordered; range = net-ranged ordered; light = move-light }),
+            low,
+          )
+
+      pub replace-stepped : operation ≡ 1 → (b : Bool) (k : ℕ) (ys : List ℤ) → k ≡ firstFailed (b else 10 ∷ []) → Replaces v d degree (weightList weights) (vertex - 1) places b ys
+          → Stepped (netFrom kind degree second places) (Move operation vertex weights) k places ys
+      replace-stepped first b k ys number says =
+          let is = subst (λ j. Replaces (w ordered) j degree (weightList weights) (vertex - 1) places b ys) d-is (subst (λ j. Replaces j d degree (weightList weights) (vertex - 1) places b ys) v-is says) in
+          replace-made first b k ys number (rows-sized first b (is .0)) (rows-replaced first b ys (is .1))
+
+      pub flip-asked : Flips v d degree (vertex - 1) places
+      flip-asked =
+          subst (λ j. Flips v j degree (vertex - 1) places) (sym d-is)
+          (subst (λ j. Flips j (n ordered) degree (vertex - 1) places) (sym v-is) (record { sized = net-sized ordered; vertex = low; long = net-long ordered; range = net-each ordered }))
+
+      pub flip-stepped : (operation ≡ 1 → ⊥) → (ys : List ℤ) → ys ≡ flippedList v d degree (vertex - 1) places → Stepped (netFrom kind degree second places) (Move operation vertex weights) 0 places ys
+      flip-stepped other ys is = flip-made other ys (rows-flipped other ys (is ∙ ap₂ (λ i j. flippedList i j degree (vertex - 1) places) v-is d-is))
+
   -- ---- in the second group
+
+  -- without one the vertex is of the first
+  pub own-only : laterDimension kind ≡ 0 → vertex - 1 ≤ n ordered
+  own-only none =
+      let high = subst (λ gs. vertex ≤ vertexCount (group (n ordered) degree ∷ gs)) (later-none kind second none) (vertex-in .1) in
+      let low = move-low in
+      omega arith
 
   module _ (past : n ordered < vertex - 1) where
     -- there is one, since the vertex is
     pub second-group : laterDimension kind ≡ 0 → ⊥
-    second-group none =
-        let high = subst (λ gs. vertex ≤ vertexCount (group (n ordered) degree ∷ gs)) (later-none kind second none) (vertex-in .1) in
-        let low = move-low in
-        omega arith
+    second-group none = let low = own-only none in omega arith
 
     far : n ordered < pred vertex
     far = subst (λ v. n ordered < v) (sym before-one) past

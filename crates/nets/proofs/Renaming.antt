@@ -3,7 +3,7 @@
 use Prim.Native.Nat.{ℕ, zero, suc, _+_, _*_, _-_, _≤_, _<_, zero-le, suc-le-suc}
 use native.Mathlib.Omega.{arith}
 use mathlib.Core.Path.{_≡_, refl, sym, ap, ap₂, _∙_, subst}
-use mathlib.Core.Bool.{Bool, true}
+use mathlib.Core.Bool.{Bool, true, false}
 use mathlib.Core.List.{List, []}
 use lib.IntN.{ℤ, pos, natAbs}
 use lib.ListN.{length, getD, set, take, length-set}
@@ -23,7 +23,7 @@ use Rattle.machine.specs.Calls.{weightList}
 use Rattle.machine.specs.declared.Weights.{Weights}
 use Rattle.nets.specs.Rows.{placeAt, written, level, weightSum}
 use Rattle.nets.specs.Flips.{countsAt}
-use Rattle.nets.specs.Levels.{copiedRow, renamedAt, valuesOf, allNamedAt, replacedList, Descends, Descended}
+use Rattle.nets.specs.Levels.{copiedRow, renamedAt, valuesOf, allNamedAt, replacedList, Replaces, Descends, Descended}
 use Rattle.nets.proofs.Lists.{length-written, written-outside, written-at}
 use Rattle.nets.proofs.Ranks.{rank-curve, rank-patch}
 use Rattle.nets.proofs.Places.{by-dimension, row-inside, row-of, own-of, counts-at-rank, counts-length, counts-total-is, counts-rank, counts-at-place}
@@ -225,34 +225,46 @@ three-exchanged (suc (suc (suc v))) weights h = absurd (wrong h)
     wrong : suc (suc (suc v)) ≤ 2 → ⊥
     wrong p = omega arith
 
--- ys is the net renamed into a room of its own, with the weights renamed too
-module _ (w n m v : ℕ) (weights renamed : Weights) (xs out ys : List ℤ) (start : Descends w n m weights xs) (top : v ≤ n) (free : size w n m ≤ length out)
-    (is : ys ≡ written out 0 (size w n m) (renamedAt w n m v xs)) (exchange-is : weightList renamed ≡ exchanged (pos 0) v (weightList weights)) where
+-- ys is the net xs renamed into a room of its own, with the weights renamed too
+pub record Renamed (w n m v : ℕ) (weights renamed : Weights) (xs ys : List ℤ) : Type 0 where
+  pub start : Descends w n m weights xs
+  pub top : v ≤ n
+  pub room : List ℤ
+  pub free : size w n m ≤ length room
+  pub is : ys ≡ written room 0 (size w n m) (renamedAt w n m v xs)
+  pub exchange-is : weightList renamed ≡ exchanged (pos 0) v (weightList weights)
+
+module _ {w n m v : ℕ} {weights renamed : Weights} {xs ys : List ℤ} (r : Renamed w n m v weights renamed xs ys) where
   some : 1 ≤ w
-  some = start .sized .some
+  some = r .start .sized .some
 
   vertex-there : v < suc n
-  vertex-there = suc-le-suc top
+  vertex-there = suc-le-suc (r .top)
 
   weight-there : v < length (weightList weights)
-  weight-there = omega (arith, top, start .sized .high)
+  weight-there = omega (arith, r .top, r .start .sized .high)
 
   -- it can be taken down the levels
   pub replace-starts : Descends w n m renamed ys
   replace-starts =
       record {
-        sized = start .sized;
-        long = subst (λ k. size w n m ≤ k) (sym (renamed-length w n m v some vertex-there xs out ys free is)) free;
-        range = renamed-range w n m v some vertex-there xs out ys free is (start .long) (start .range);
-        light = subst (λ k. k ≤ 12288) (sym (ap threeOf exchange-is ∙ three-exchanged v weights (omega (arith, top, start .sized .high)))) (start .light);
+        sized = r .start .sized;
+        long = subst (λ k. size w n m ≤ k) (sym (renamed-length w n m v some vertex-there xs (r .room) ys (r .free) (r .is))) (r .free);
+        range = renamed-range w n m v some vertex-there xs (r .room) ys (r .free) (r .is) (r .start .long) (r .start .range);
+        light = subst (λ k. k ≤ 12288) (sym (ap threeOf (r .exchange-is) ∙ three-exchanged v weights (omega (arith, r .top, r .start .sized .high)))) (r .start .light);
       }
 
   -- what the levels of it tell of the old net; zs is what they leave
-  module _ (b : Bool) (zs : List ℤ) (down : Descended w n m (weightList renamed) ys b zs) where
-    pub replace-named : b ≡ allNamedAt w n m (weightList weights) xs
-    replace-named =
-        down .named ∙ ap (λ ws. allNamedAt w n m ws ys) exchange-is ∙ renamed-named w n m v some vertex-there xs out ys free is (weightList weights) weight-there
+  module _ {b : Bool} {zs : List ℤ} (down : Descended w n m (weightList renamed) ys b zs) where
+    named : b ≡ allNamedAt w n m (weightList weights) xs
+    named =
+        down .named ∙ ap (λ ws. allNamedAt w n m ws ys) (r .exchange-is) ∙ renamed-named w n m v some vertex-there xs (r .room) ys (r .free) (r .is) (weightList weights) weight-there
 
-    pub replace-made : (new : List ℤ) → b ≡ true → new ≡ written xs 0 (size w n m) (renamedAt w n m v zs) → new ≡ replacedList w n m (weightList weights) v xs
-    replace-made new ok back =
-        renamed-replaced w n m v some vertex-there xs out ys free is (weightList weights) weight-there zs new (start .long) (down .last ok ∙ ap (λ ws. level w n m ws m ys) exchange-is) back
+    pub replace-refused : b ≡ false → Replaces w n m (weightList weights) v xs false xs
+    replace-refused out = (sym out ∙ named, refl)
+
+    pub replace-taken : (new : List ℤ) → b ≡ true → new ≡ written xs 0 (size w n m) (renamedAt w n m v zs) → Replaces w n m (weightList weights) v xs true new
+    replace-taken new ok back = (
+      sym ok ∙ named,
+      renamed-replaced w n m v some vertex-there xs (r .room) ys (r .free) (r .is) (weightList weights) weight-there zs new (r .start .long) (down .last ok ∙ ap (λ ws. level w n m ws m ys) (r .exchange-is)) back,
+    )

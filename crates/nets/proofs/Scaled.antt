@@ -1,6 +1,6 @@
 -- The net over the frame of the coordinates: each entry is a coefficient times the scale divided by its multinomial.
 use Prim.Native.Nat.{ℕ, zero, suc, _+_, _*_, _-_, _/_, _%_, _≤_, _<_, zero-le, suc-le-suc}
-use native.Mathlib.Nat.{add-zero, zero-add, mul-one, mul-zero, mul-comm, zero-mul, div-zero, not-suc-le-zero, le-of-suc-le-suc, suc-ne-zero, le-trans, mul-le-mul-left, le-mul-of-pos-right, div-eq-of-lt, div-le-self, div-eq-of-eq-mul-right, div-lt-iff-lt-mul, mod-lt}
+use native.Mathlib.Nat.{add-zero, zero-add, mul-one, mul-zero, mul-comm, zero-mul, div-zero, not-suc-le-zero, le-of-suc-le-suc, suc-ne-zero, le-trans, le-of-eq, mul-le-mul-left, le-mul-of-pos-right, div-eq-of-lt, div-le-self, div-eq-of-eq-mul-right, mul-div-mul-right, div-lt-iff-lt-mul, mod-lt}
 use native.Mathlib.Omega.{arith}
 use native.Mathlib.Decide.{decLe}
 use mathlib.Core.Path.{_≡_, refl, sym, ap, ap₂, _∙_, subst}
@@ -14,8 +14,8 @@ use Rattle.polar.specs.Order.{total, counts, monomials}
 use Rattle.polar.specs.Sigma.{Exponents}
 use Rattle.polar.specs.Groups.{Group, pairs, monomialsOver}
 use Rattle.polar.specs.Polar.{polarOver, columnTerms, terms}
-use Rattle.polar.specs.Scale.{factorial, factorials, multinomial, scale}
-use Rattle.polar.proofs.Diagonal.{multinomial-pos}
+use Rattle.polar.specs.Scale.{factorial, multinomial, scale}
+use Rattle.polar.proofs.Diagonal.{multinomial-pos, multinomial-whole}
 use Rattle.entries.specs.Frame.{taken, units}
 use Rattle.entries.specs.Entries.{placeOf}
 use Rattle.entries.specs.Rows.{size, rank, offset}
@@ -26,7 +26,7 @@ use Rattle.entries.proofs.Standard.{standard, place-below, place-two, offset-st
 use Rattle.kinds.specs.Kinds.{group}
 use Rattle.nets.specs.Rows.{written, placeAt}
 use Rattle.nets.specs.Flips.{countsAt}
-use Rattle.nets.specs.Coordinates.{exponentsAt, rowPolar, NoneBeyond, Limited, coordinateAt, Coordinates}
+use Rattle.nets.specs.Coordinates.{exponentsAt, rowPolar, NoneBeyond, Limited, coordinateAt, Coordinates, Monomial, denominator, scaledRow}
 use Rattle.nets.proofs.Lists.{written-at, written-cong}
 use Rattle.nets.proofs.Places.{by-dimension, spread-most, row-digit, own-digit, row-of, own-of, counts-at-rank, counts-at-place}
 use Rattle.nets.proofs.Factorials.{factorial-up}
@@ -54,19 +54,19 @@ factor-pos : (x y : ℕ) → 0 < x * y → 0 < y
 factor-pos x zero h = absurd (not-suc-le-zero (subst (λ k. 0 < k) (mul-zero x) h))
 factor-pos x (suc y) h = suc-le-suc zero-le
 
-module _ (n m h l : ℕ) (low : 1 ≤ n) (high : n ≤ 2) (below : h + l ≤ m) (second : l ≤ (n - 1) * m) where
+module _ (n m h l : ℕ) (is : Monomial n m h l) where
   exponents-length : length (exponentsAt n h l) ≡ n
-  exponents-length = by-dimension (λ d. length (exponentsAt d h l) ≡ d) n low high refl refl
+  exponents-length = by-dimension (λ d. length (exponentsAt d h l) ≡ d) n (is .low) (is .high) refl refl
 
   exponents-total : total (exponentsAt n h l) ≤ m
-  exponents-total = by-dimension (λ d. total (exponentsAt d h l) ≤ m) n low high (omega arith) (omega arith)
+  exponents-total = let within = is .whole in by-dimension (λ d. total (exponentsAt d h l) ≤ m) n (is .low) (is .high) (omega arith) (omega arith)
 
-  parts : factorial h * factorial l * factorial (m - h - l) ≡ factorials (exponentsAt n h l) * factorial (m - total (exponentsAt n h l))
+  pub parts : factorial h * factorial l * factorial (m - h - l) ≡ denominator n m h l
   parts =
-      by-dimension (λ d. l ≤ (d - 1) * m → factorial h * factorial l * factorial (m - h - l) ≡ factorials (exponentsAt d h l) * factorial (m - total (exponentsAt d h l))) n low high
+      by-dimension (λ d. l ≤ (d - 1) * m → factorial h * factorial l * factorial (m - h - l) ≡ denominator d m h l) n (is .low) (is .high)
       (λ a. let none : l ≡ 0 = omega arith in ap₂ (λ x y. factorial h * factorial x * factorial y) none (curve-left none))
       (λ a. ap₂ (λ x y. factorial h * x * factorial y) (sym (mul-one (factorial l))) patch-left)
-      second
+      (is .second)
     where
       curve-left : l ≡ 0 → m - h - l ≡ m - (h + 0)
       curve-left none = omega arith
@@ -74,21 +74,27 @@ module _ (n m h l : ℕ) (low : 1 ≤ n) (high : n ≤ 2) (below : h + l ≤ m) 
       patch-left : m - h - l ≡ m - (h + (l + 0))
       patch-left = omega arith
 
-  pub multinomial-is : factorial m / (factorial h * factorial l * factorial (m - h - l)) ≡ multinomial m (exponentsAt n h l)
+  quotient-pos : 0 < factorial m / denominator n m h l
   unfolding multinomial
-  multinomial-is = ap (λ d. factorial m / d) parts
+  quotient-pos = multinomial-pos n m (exponentsAt n h l) exponents-length exponents-total
 
-  pub quotient-pos : 0 < factorial m / (factorial h * factorial l * factorial (m - h - l))
-  quotient-pos = subst (λ k. 0 < k) (sym multinomial-is) (multinomial-pos n m (exponentsAt n h l) exponents-length exponents-total)
+  denominator-pos : 0 < denominator n m h l
+  denominator-pos = divisor-pos (factorial m) (denominator n m h l) quotient-pos
 
-  pub parts-up : m ≤ 10 → factorial h * factorial l * factorial (m - h - l) ≤ 3628800
-  parts-up ten = le-trans (divisor-up (factorial m) (factorial h * factorial l * factorial (m - h - l)) quotient-pos) (factorial-up m (omega arith))
+  pub denominator-up : denominator n m h l ≤ 3628800
+  denominator-up = let ten = is .ten in le-trans (divisor-up (factorial m) (denominator n m h l) quotient-pos) (factorial-up m (omega arith))
 
-  pub parts-pos : 0 < factorial h * factorial l * factorial (m - h - l)
-  parts-pos = divisor-pos (factorial m) (factorial h * factorial l * factorial (m - h - l)) quotient-pos
+  pub pair-up : factorial h * factorial l ≤ 3628800
+  pair-up =
+      le-trans (le-mul-of-pos-right (factorial h * factorial l) (factor-pos (factorial h * factorial l) (factorial (m - h - l)) (subst (λ k. 0 < k) (sym parts) denominator-pos)))
+      (le-trans (le-of-eq parts) denominator-up)
 
-  pub pair-up : m ≤ 10 → factorial h * factorial l ≤ 3628800
-  pair-up ten = le-trans (le-mul-of-pos-right (factorial h * factorial l) (factor-pos (factorial h * factorial l) (factorial (m - h - l)) parts-pos)) (parts-up ten)
+  -- the denominator times the multinomial is m!, so one division is as good as two
+  pub one-division : (all : ℕ) → all * denominator n m h l / factorial m ≡ all / multinomial m (exponentsAt n h l)
+  one-division all =
+      let k = multinomial m (exponentsAt n h l) in
+      ap (λ d. all * denominator n m h l / d) (sym (mul-comm k (denominator n m h l) ∙ multinomial-whole n m (exponentsAt n h l) exponents-length exponents-total))
+      ∙ mul-div-mul-right all k denominator-pos
 
   -- the place lies among the monomials
   pub exponents-place : placeOf (exponentsAt n h l) (monomials n m) < length (monomials n m)
@@ -183,18 +189,18 @@ entry-at w n m i k numbers low high b third j lo up =
     ∙ scaled-entry w n m i k (j - w * placeAt n i k) numbers low high b third)
 
 -- what the counts of an entry tell of its exponents
-pub exponents-within : (n m i k : ℕ) → 1 ≤ n → n ≤ 2 → i ≤ m → k ≤ (n - 1) * i → (k ≤ i) × (i - k + k ≤ m) × (k ≤ (n - 1) * m)
-exponents-within n m i k low high b third =
+pub exponents-within : (n m i k : ℕ) → 1 ≤ n → n ≤ 2 → m ≤ 10 → i ≤ m → k ≤ (n - 1) * i → (k ≤ i) × Monomial n m (i - k) k
+exponents-within n m i k low high ten b third =
     let few : k ≤ i = le-trans third (spread-most n i low high) in
-    (few, omega arith, le-trans third (mul-le-mul-left (n - 1) b))
+    (few, record { low = low; high = high; ten = ten; whole = omega arith; second = le-trans third (mul-le-mul-left (n - 1) b) })
 
 pub entry-put : (w n m i k to from : ℕ) (times : ℤ) (out numbers ys : List ℤ) → 1 ≤ n → n ≤ 2 → i ≤ m → k ≤ (n - 1) * i
     → to ≡ placeAt n i k → from ≡ placeOf (exponentsAt n (i - k) k) (monomials n m)
     → times ≡ pos (scale n m / multinomial m (exponentsAt n (i - k) k))
-    → ys ≡ written out (w * to) w (λ j. getD numbers (w * from + (j - w * to)) (pos 0) *ℤ times)
+    → ys ≡ scaledRow w out to numbers from times
     → ys ≡ written out (w * placeAt n i k) w (coordinateAt w n m numbers)
 entry-put w n m i k to from times out numbers ys low high b third to-is from-is times-is is =
-    is ∙ (λ z. written out (w * to-is z) w (λ j. getD numbers (w * from-is z + (j - w * to-is z)) (pos 0) *ℤ times-is z))
+    is ∙ (λ z. scaledRow w out (to-is z) numbers (from-is z) (times-is z))
     ∙ written-cong out (w * placeAt n i k) w
     (λ j. getD numbers (w * placeOf (exponentsAt n (i - k) k) (monomials n m) + (j - w * placeAt n i k)) (pos 0) *ℤ pos (scale n m / multinomial m (exponentsAt n (i - k) k)))
     (coordinateAt w n m numbers) (entry-at w n m i k numbers low high b third)

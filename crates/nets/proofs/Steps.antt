@@ -7,9 +7,10 @@ use mathlib.Core.Path.{_≡_, refl, sym, ap, _∙_}
 use mathlib.Core.Bool.{Bool, true, false}
 use mathlib.Core.List.{List, [], _∷_}
 use lib.IntN.{ℤ}
-use lib.ListN.{take}
+use lib.ListN.{length, take}
+use lib.Seq.{length-take-le}
 use Rattle.integers.specs.Test.{all}
-use Rattle.polar.specs.Groups.{Group}
+use Rattle.polar.specs.Groups.{Group, countsOver}
 use Rattle.projection.specs.Projection.{inRange}
 use Rattle.entries.specs.Entries.{numberCount}
 use Rattle.kinds.specs.Kinds.{groupsOf, known}
@@ -23,6 +24,7 @@ use Rattle.machine.specs.Nets.{Net, netGroups, netPolar, handedTests, netTests,
 use Rattle.machine.specs.Lent.{putAt, unlessRefused}
 use Rattle.machine.specs.declared.Call.{Call}
 use Rattle.machine.specs.declared.Call.the-variants.{Move, Point}
+use Rattle.nets.specs.Rows.{Whole}
 use Rattle.nets.specs.Calls.{netFrom, Stepped, Pointed}
 
 -- ---- the tests of a handed net
@@ -46,6 +48,11 @@ module _ (kind degree second : ℕ) (places : List ℤ) where
 -- a known kind's entries have room in the part that is lent
 pub entries-long : (kind degree second count long : ℕ) → known kind degree second ≡ true → count ≡ numberCount (groupsOf kind degree second) → long ≡ 180 → count ≤ long
 entries-long kind degree second count long right is l = let fit = entries-fit kind degree second right in omega arith
+
+-- and are whole entries
+pub entries-whole : (gs : List Group) (count : ℕ) (xs : List ℤ) → count ≡ numberCount gs → count ≤ length xs → Whole (length (take (count - 0) xs))
+entries-whole gs count xs is long =
+    record { entries = length (countsOver gs); four = ap (λ k. length (take k xs)) (sub-zero count) ∙ length-take-le count xs long ∙ is }
 
 -- ---- two tables, one after the other
 

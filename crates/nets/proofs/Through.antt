@@ -1,7 +1,7 @@
 -- Steps with a vertex of the frame. Each step makes the numbers at most 4 (1 + n) times as large, n being the dimension, and after h steps on a net that holds the values
 -- of a form the net holds those with h copies of the vertex fixed.
-use Prim.Native.Nat.{ℕ, zero, suc, pred, _+_, _*_, _-_, _/_, _%_, _^_, _≤_, _<_, suc-le-suc, zero-le}
-use native.Mathlib.Nat.{not-suc-le-zero, le-of-suc-le-suc, le-refl, le-trans, sub-zero, add-zero, mul-le-mul-right, mul-assoc, mul-comm, pow-suc, pow-le-pow-right, one-le-pow, mod-lt, div-add-mod, div-lt-iff-lt-mul}
+use Prim.Native.Nat.{ℕ, zero, suc, pred, _+_, _*_, _-_, _/_, _%_, _^_, _≤_, _<_, zero-le}
+use native.Mathlib.Nat.{not-suc-le-zero, le-of-suc-le-suc, le-refl, le-trans, sub-zero, add-zero, mul-le-mul-right, mul-assoc, mul-comm, pow-suc, one-le-pow, mod-lt, div-add-mod, div-lt-iff-lt-mul}
 use native.Mathlib.Numerals.{add-one}
 use native.Mathlib.Omega.{arith}
 use mathlib.Core.Path.{_≡_, refl, sym, ap, _∙_, subst}
@@ -175,16 +175,6 @@ vertex-fits w n (suc d) v frame cur s one f b long small =
   where
     room : size w n d ≤ length cur
     room = le-trans (size-mono w n d (suc d) (omega arith)) long
-
--- the net over the frame of the coordinates is small: a degree is at most 10, and at most 8 with three vertices
-pub small-first : (n m : ℕ) (xs : List ℤ) → 1 ≤ n → n ≤ 2 → m ≤ 10 → (n ≡ 2 → m ≤ 8) → ((i : ℕ) → i < size 4 n m → natAbs (getD xs i (pos 0)) ≤ 2642411520) → Small 4 n m xs
-small-first n m xs low high ten eight each = record { bound = 2642411520; each = each; fits = fits-all }
-  where
-    fits-all : (4 * suc n) ^ m * 2642411520 < 2 ^ 63
-    fits-all =
-        by-dimension (λ d. (d ≡ 2 → m ≤ 8) → (4 * suc d) ^ m * 2642411520 < 2 ^ 63) n low high
-        (λ h. let top = pow-le-pow-right {n = 8} (suc-le-suc zero-le) {i = m} {j = 10} ten in omega (arith, top))
-        (λ h. let top = pow-le-pow-right {n = 12} (suc-le-suc zero-le) {i = m} {j = 8} (h refl) in omega (arith, top)) eight
 
 -- ---- a room that has the first numbers of another
 

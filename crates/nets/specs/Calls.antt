@@ -9,23 +9,28 @@ use Rattle.integers.specs.Test.{within, all}
 use Rattle.projection.specs.Projection.{isZero, inRange}
 use Rattle.entries.specs.Entries.{numberCount}
 use Rattle.entries.specs.Rows.{size}
-use Rattle.kinds.specs.Kinds.{groupsOf, laterDimension}
-use Rattle.machine.specs.Refusals.{Test, firstFailed}
-use Rattle.machine.specs.Calls.{beforeSize}
+use Rattle.kinds.specs.Kinds.{groupsOf, dimensionOf, laterGroups, laterDimension}
+use Rattle.machine.specs.Refusals.{Test, _else_, firstFailed}
+use Rattle.machine.specs.Calls.{weightList, beforeSize}
 use Rattle.machine.specs.Steps.{pointValues}
-use Rattle.machine.specs.Nets.{Net, handedTests, netTests, accepted}
+use Rattle.machine.specs.Nets.{Net, netInRange, handedTests, netTests, accepted}
 use Rattle.machine.specs.Comparison.{Polynomials}
-use Rattle.machine.specs.First.{firstTests}
-use Rattle.machine.specs.Lent.{putAt, unlessRefused, polynomialsFrom}
+use Rattle.machine.specs.First.{firstTests, firstNet}
+use Rattle.machine.specs.Lent.{putAt, put, unlessRefused, polynomialsFrom}
 use Rattle.machine.specs.declared.Weights.{Weights}
 use Rattle.machine.specs.declared.Call.{Call}
 use Rattle.nets.specs.Rows.{Sized}
-use Rattle.nets.specs.Levels.{Descended}
+use Rattle.nets.specs.Levels.{Descends, Descended}
 
 -- the net of a kind and degrees whose entries are the first numbers of some places
 abbrev pub netFrom : ℕ → ℕ → ℕ → List ℤ → Net
 netFrom kind degree second places =
     record { kind = kind; degree = degree; second = second; entries = take (numberCount (groupsOf kind degree second)) places }
+
+-- the places of the entries, and a net that is not refused before a call is looked at
+pub record Accepted (kind degree second : ℕ) (places : List ℤ) : Type 0 where
+  pub long : length places ≡ 180
+  pub net-passes : firstFailed (handedTests (netFrom kind degree second places)) ≡ 0
 
 -- what the making of a call asks for: the places of the entries, a net that is not refused, and a call that is not refused for its arguments
 pub record InOrder (kind degree second : ℕ) (places : List ℤ) (call : Call) : Type 0 where
@@ -41,6 +46,13 @@ weightsFit n ws = all (within 4096) ws && all isZero (drop (suc n) ws)
 pub record Stepped (net : Net) (call : Call) (number : ℕ) (before after : List ℤ) : Type 0 where
   pub number-is : number ≡ firstFailed (netTests net call)
   pub places : after ≡ unlessRefused number (putAt 0 (accepted net call .left .entries) before) before
+
+-- what going down the first group's levels asks for, and what it gives: each row has the numbers of the groups after the first
+abbrev pub FirstDescends : ℕ → ℕ → ℕ → Weights → List ℤ → Type 0
+FirstDescends kind degree second weights xs = Descends (numberCount (laterGroups kind second)) (dimensionOf kind) degree weights xs
+
+abbrev pub FirstDescended : ℕ → ℕ → ℕ → Weights → List ℤ → Bool → List ℤ → Type 0
+FirstDescended kind degree second weights xs b ys = Descended (numberCount (laterGroups kind second)) (dimensionOf kind) degree (weightList weights) xs b ys
 
 -- the weights of the second of two groups of two vertices
 abbrev pub laterWeights : Weights → List ℤ
@@ -66,15 +78,30 @@ pub record Pointed (net : Net) (call : Call) (number : ℕ) (before after : List
 unfoldable pub beforeFirst : Polynomials → List ℤ → List Test
 beforeFirst f numbers = take 3 (firstTests f numbers)
 
--- what the making of a first net asks for: none of them fails, there are places for its entries, and the numbers of a frame and of polynomials are lent
-pub record FirstAsked (kind p q : ℕ) (out frame coefficients : List ℤ) : Type 0 where
+-- what the making of a first net asks for: none of them fails, and the numbers of a frame and of polynomials are lent
+pub record FirstAsked (kind p q : ℕ) (frame coefficients : List ℤ) : Type 0 where
   pub accepted : firstFailed (beforeFirst (polynomialsFrom kind p q coefficients) frame) ≡ 0
-  pub places : length out ≡ 180
   pub nine : length frame ≡ 9
   pub enough : 180 ≤ length coefficients
 
--- the rooms in which it is made have places for as many numbers as the entries are
-pub record Rooms (kind p q : ℕ) (work cur base : List ℤ) : Type 0 where
+-- the rooms in which it is made, the last of them for the entries, have places for as many numbers as the entries are
+pub record Rooms (kind p q : ℕ) (work cur base out : List ℤ) : Type 0 where
   pub work-room : numberCount (groupsOf kind p q) ≤ length work
   pub cur-room : numberCount (groupsOf kind p q) ≤ length cur
   pub base-room : numberCount (groupsOf kind p q) ≤ length base
+  pub out-room : numberCount (groupsOf kind p q) ≤ length out
+
+-- what storing a net with these entries asks for: they are there, and there are places for them
+pub record Stores (kind p q : ℕ) (lent entries : List ℤ) : Type 0 where
+  pub places : 193 ≤ length lent
+  pub fit : numberCount (groupsOf kind p q) ≤ 180
+  pub enough : numberCount (groupsOf kind p q) ≤ length entries
+
+-- the number that is answered where a net is to be stored, and the places after it: a net that is not in range is not stored
+pub record Stored (net : Net) (in-range : Bool) (lent : List ℤ) (number : ℕ) (after : List ℤ) : Type 0 where
+  pub number-is : number ≡ firstFailed (in-range else 7 ∷ [])
+  pub places-are : after ≡ unlessRefused number (put net lent) lent
+
+-- the same of a first net
+abbrev pub FirstStored : Polynomials → List ℤ → List ℤ → ℕ → List ℤ → Type 0
+FirstStored f frame lent number after = Stored (firstNet f frame) (netInRange (firstNet f frame)) lent number after

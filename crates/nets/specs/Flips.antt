@@ -1,5 +1,5 @@
 -- What the private functions that flip a vertex do to a list.
-use Prim.Native.Nat.{ℕ, zero, suc, _-_, _/_, _<_, _≤_}
+use Prim.Native.Nat.{ℕ, zero, suc, _*_, _-_, _/_, _<_, _≤_}
 use mathlib.Core.Bool.{cond}
 use mathlib.Core.List.{List, [], _∷_, _++_}
 use lib.IntN.{ℤ, pos, negℤ, natAbs}
@@ -7,7 +7,7 @@ use lib.ListN.{length, getD, drop}
 use Rattle.polar.specs.Order.{counts}
 use Rattle.entries.specs.Entries.{odd}
 use Rattle.entries.specs.Rows.{entryAt, listed, size, flipped}
-use Rattle.nets.specs.Rows.{Sized}
+use Rattle.nets.specs.Rows.{Sized, written}
 
 -- the counts of the entry with i copies of the vertices after the first, k of them of the third
 abbrev pub countsAt : ℕ → ℕ → ℕ → ℕ → List ℕ
@@ -17,6 +17,10 @@ countsAt (suc (suc n)) m i k = (m - i) ∷ (i - k) ∷ k ∷ []
 
 abbrev pub signed : ℕ → ℤ → ℤ
 signed count x = cond (odd count) (negℤ x) x
+
+-- a list with the row at place p signed by a count
+abbrev pub signedRow : ℕ → List ℤ → ℕ → ℕ → List ℤ
+signedRow w xs p count = written xs (w * p) w (λ i. signed count (getD xs i (pos 0)))
 
 -- the number at place i of a net's numbers, with vertex v flipped
 abbrev pub signedAt : ℕ → ℕ → ℕ → ℕ → List ℤ → ℕ → ℤ

@@ -41,6 +41,11 @@ pub record Sized (w n m : ℕ) : Type 0 where
   pub high : n ≤ 2
   pub room : size w n m ≤ 180
 
+-- so many numbers are those of whole entries, four to an entry
+pub record Whole (count : ℕ) : Type 0 where
+  pub entries : ℕ
+  pub four : count ≡ 4 * entries
+
 -- ---- places
 
 -- the place of the entry with i copies of the vertices after the first, k of them of the third

@@ -7,8 +7,9 @@ ghost use lib.IntN.{pos};
 ghost use lib.ListN.{length, getD};
 ghost use Rattle.integers.specs.Test.{all};
 ghost use Rattle.projection.specs.Projection.{isZero};
+ghost use Rattle.entries.specs.Entries.{numberCount};
 ghost use Rattle.entries.specs.Rows.{size};
-ghost use Rattle.kinds.specs.Kinds.{group, groupsOf, dimensionOf};
+ghost use Rattle.kinds.specs.Kinds.{group, groupsOf, dimensionOf, laterDimension};
 ghost use Rattle.machine.specs.Refusals.{_else_, firstFailed};
 ghost use Rattle.machine.specs.Calls.{weightList, beforeSize};
 ghost use Rattle.machine.specs.Nets.{handedTests};
@@ -24,8 +25,11 @@ ghost use Rattle.nets.specs.Parts.{
 ghost use Rattle.nets.specs.Calls.{
   netFrom,
   weightsFit,
+  Accepted,
   InOrder,
   Stepped,
+  FirstDescends,
+  FirstDescended,
   laterWeights,
   LaterDescends,
   LaterDescended,
@@ -38,8 +42,8 @@ use crate::levels::renamed_weights;
 use crate::rows::FEW;
 use crate::rows::PLACES;
 use crate::rows::copy;
+use crate::rows::entries_within;
 use crate::rows::numbers;
-use integers::all_within;
 use integers::is_within;
 use kinds::dimension_of;
 use kinds::known_kind;
@@ -157,20 +161,16 @@ fn judge_point(dimension: usize, weights: Weights) -> u8
     0
 }
 
-// What is refused of a move for its own arguments: it is judged in the group of its vertex. Where there is a
-// second group, the first has two vertices.
+// What is refused of a move for its own arguments, on a net of two groups: it is judged in the group of its
+// vertex. Where there is a second group, the first has two vertices.
 fn judge_vertex(kind: u8, operation: u8, vertex: u8, weights: Weights) -> u8
-    requires { ⌜ 1 ≤ dimensionOf kind ⌝ }
+    requires { ⌜ (laterDimension kind ≡ 0 → ⊥) ⌝ }
     ensures { λ k. ⌜ ((p q : ℕ) → k ≡ firstFailed (beforeSize (groupsOf kind p q) (Call.Move operation vertex weights))) ⌝ }
 {
-    let later = later_dimension(kind);
-    if later == 0 {
-        return judge_move(dimension_of(kind), operation, vertex, weights);
-    }
     if vertex <= 2 {
         return judge_move(dimension_of(kind), operation, vertex, weights);
     }
-    judge_move(later, operation, vertex - 2, weights)
+    judge_move(later_dimension(kind), operation, vertex - 2, weights)
 }
 
 // Whether two numbers are both 0.
@@ -228,7 +228,7 @@ fn judge_net(entries: &[i64], kind: u8, degree: u8, second: u8) -> u8
         return 4;
     }
     let count = number_count(kind, degree, second);
-    if !all_within(&entries[0..count], LIMIT) {
+    if !entries_within(&entries[0..count], LIMIT) {
         return 10;
     }
     0
@@ -259,8 +259,8 @@ pub(crate) fn replace_rows(
     true
 }
 
-// The same in rows of four numbers. It is said a second time for the compiler, which then knows their width
-// throughout: the rows of every net of one group are such.
+// The same in rows of four numbers, which every net of one group has. It is said a second time for the
+// compiler, which then knows the width throughout.
 pub(crate) fn replace_in(
     room: &mut [i64],
     entries: &mut [i64],
@@ -282,7 +282,7 @@ pub(crate) fn replace_in(
 }
 
 // The same in a room of its own: a small one where it is enough, which takes less time to clear.
-pub(crate) fn replace_four(
+pub(crate) fn replace_entries(
     entries: &mut [i64],
     dimension: usize,
     vertex: usize,
@@ -334,24 +334,6 @@ pub(crate) fn replace_wide(
         width,
         weights,
     )
-}
-
-// The same, by the width.
-pub(crate) fn replace_entries(
-    entries: &mut [i64],
-    dimension: usize,
-    vertex: usize,
-    degree: usize,
-    width: usize,
-    weights: Weights,
-) -> bool
-    requires { ⌜ Descends width dimension degree weights (now entries) × (vertex ≤ dimension) ⌝ }
-    ensures { λ b. ⌜ Replaces width dimension degree (weightList weights) vertex (now (entries .entry)) b (now (entries .exit)) ⌝ }
-{
-    if width == 4 {
-        return replace_four(entries, dimension, vertex, degree, weights);
-    }
-    replace_wide(entries, dimension, vertex, degree, width, weights)
 }
 
 // Replaces a vertex of the second group in each part of the numbers that one entry of the first group has,
@@ -508,7 +490,7 @@ pub(crate) fn replace_vertex(
     let m = degree as usize;
     let v = vertex as usize - 1;
     if v <= n {
-        return size_number(replace_entries(entries, n, v, m, later_count(kind, second), weights));
+        return size_number(replace_wide(entries, n, v, m, later_count(kind, second), weights));
     }
     size_number(replace_later(
         entries,
@@ -569,7 +551,56 @@ pub(crate) fn make_move(
     0
 }
 
-// A move, whatever its numbers are.
+// A move on a net of one group that is not refused itself: what is refused of it for its own arguments, or
+// what it does. The rows of such a net have four numbers.
+pub(crate) fn move_one(
+    entries: &mut [i64],
+    kind: u8,
+    degree: u8,
+    second: u8,
+    operation: u8,
+    vertex: u8,
+    weights: Weights,
+) -> u8
+    requires { ⌜ Accepted kind degree second (now entries) × (laterDimension kind ≡ 0) ⌝ }
+    ensures { λ k. ⌜ Stepped (netFrom kind degree second (now (entries .entry))) (Call.Move operation vertex weights) k (now (entries .entry)) (now (entries .exit)) ⌝ }
+{
+    let n = dimension_of(kind);
+    let number = judge_move(n, operation, vertex, weights);
+    if number != 0 {
+        return number;
+    }
+    let m = degree as usize;
+    let v = vertex as usize - 1;
+    if operation == 1 {
+        return size_number(replace_entries(entries, n, v, m, weights));
+    }
+    flip_entries(entries, n, v, m, 4);
+    0
+}
+
+// The same on a net of two groups.
+pub(crate) fn move_two(
+    entries: &mut [i64],
+    kind: u8,
+    degree: u8,
+    second: u8,
+    operation: u8,
+    vertex: u8,
+    weights: Weights,
+) -> u8
+    requires { ⌜ Accepted kind degree second (now entries) × (laterDimension kind ≡ 0 → ⊥) ⌝ }
+    ensures { λ k. ⌜ Stepped (netFrom kind degree second (now (entries .entry))) (Call.Move operation vertex weights) k (now (entries .entry)) (now (entries .exit)) ⌝ }
+{
+    let number = judge_vertex(kind, operation, vertex, weights);
+    if number != 0 {
+        return number;
+    }
+    make_move(entries, kind, degree, second, operation, vertex, weights)
+}
+
+// A move, whatever its numbers are. A net of one group goes its own way, on which the compiler knows the width
+// of its rows and leaves out all that there is of a second group.
 pub(crate) fn judge_and_move(
     entries: &mut [i64],
     kind: u8,
@@ -586,11 +617,10 @@ pub(crate) fn judge_and_move(
     if refusal != 0 {
         return refusal;
     }
-    let number = judge_vertex(kind, operation, vertex, weights);
-    if number != 0 {
-        return number;
+    if later_dimension(kind) == 0 {
+        return move_one(entries, kind, degree, second, operation, vertex, weights);
     }
-    make_move(entries, kind, degree, second, operation, vertex, weights)
+    move_two(entries, kind, degree, second, operation, vertex, weights)
 }
 
 // The weights of the second of two groups of two vertices.
@@ -603,6 +633,26 @@ fn later_weights(weights: Weights) -> Weights
         t: 0,
         u: 0,
     }
+}
+
+// Goes down the first group's levels in place. Without a second group the rows have four numbers, and the
+// compiler is told so.
+pub(crate) fn descend_first(
+    cur: &mut [i64],
+    kind: u8,
+    degree: u8,
+    second: u8,
+    weights: Weights,
+) -> bool
+    requires { ⌜ FirstDescends kind degree second weights (now cur) ⌝ }
+    ensures { λ b. ⌜ FirstDescended kind degree second weights (now (cur .entry)) b (now (cur .exit)) ⌝ }
+{
+    let n = dimension_of(kind);
+    let m = degree as usize;
+    if later_dimension(kind) == 0 {
+        return descend(cur, n, m, 4, weights);
+    }
+    descend(cur, n, m, later_count(kind, second), weights)
 }
 
 // Goes down the second group's levels in place, on the row that the first group's levels left; where there
@@ -619,7 +669,32 @@ fn descend_later(cur: &mut [i64], kind: u8, second: u8, weights: Weights) -> boo
 }
 
 // The point that weights name which are not refused: the first group's levels, and then the second group's on
-// the one row that they leave. The answer is 10, or 0 and its four numbers in `found`.
+// the one row that they leave. The answer is 10, or 0 and its four numbers in `found`. The work is done in a
+// room.
+pub(crate) fn point_in(
+    cur: &mut [i64],
+    entries: &[i64],
+    kind: u8,
+    degree: u8,
+    second: u8,
+    weights: Weights,
+    found: &mut [i64],
+) -> u8
+    requires { ⌜ InOrder kind degree second (now entries) (Call.Point weights) × (4 ≤ length (now found)) × (numberCount (groupsOf kind degree second) ≤ length (now cur)) ⌝ }
+    ensures { λ k. ⌜ Pointed (netFrom kind degree second (now (entries .entry))) (Call.Point weights) k (now (found .entry)) (now (found .exit)) ⌝ }
+{
+    copy(&mut *cur, entries, number_count(kind, degree, second));
+    if !descend_first(&mut *cur, kind, degree, second, weights) {
+        return 10;
+    }
+    if !descend_later(&mut *cur, kind, second, weights) {
+        return 10;
+    }
+    copy(found, cur, 4);
+    0
+}
+
+// The same in a room of its own: a small one where it is enough.
 pub(crate) fn make_point(
     entries: &[i64],
     kind: u8,
@@ -631,22 +706,12 @@ pub(crate) fn make_point(
     requires { ⌜ InOrder kind degree second (now entries) (Call.Point weights) × (4 ≤ length (now found)) ⌝ }
     ensures { λ k. ⌜ Pointed (netFrom kind degree second (now (entries .entry))) (Call.Point weights) k (now (found .entry)) (now (found .exit)) ⌝ }
 {
+    if number_count(kind, degree, second) <= FEW {
+        let mut cur = [0; FEW];
+        return point_in(&mut cur, entries, kind, degree, second, weights, found);
+    }
     let mut cur = [0; PLACES];
-    copy(&mut cur, entries, number_count(kind, degree, second));
-    if !descend(
-        &mut cur,
-        dimension_of(kind),
-        degree as usize,
-        later_count(kind, second),
-        weights,
-    ) {
-        return 10;
-    }
-    if !descend_later(&mut cur, kind, second, weights) {
-        return 10;
-    }
-    copy(found, &cur, 4);
-    0
+    point_in(&mut cur, entries, kind, degree, second, weights, found)
 }
 
 // A point, whatever its weights are.

@@ -3,7 +3,7 @@
 ghost use mathlib.Core.Path.{_≡_};
 ghost use Prim.Native.Nat.{_+_, _*_, _-_, _/_, _<_, _≤_};
 ghost use lib.IntN.{pos, natAbs, _*ℤ_};
-ghost use lib.ListN.{length, getD};
+ghost use lib.ListN.{length};
 ghost use Rattle.polar.specs.Order.{monomials};
 ghost use Rattle.polar.specs.Scale.{factorial, multinomial, scale};
 ghost use Rattle.entries.specs.Entries.{placeOf};
@@ -11,7 +11,11 @@ ghost use Rattle.entries.specs.Rows.{size};
 ghost use Rattle.nets.specs.Rows.{placeAt, written};
 ghost use Rattle.nets.specs.Coordinates.{
   exponentsAt,
-  NoneBeyond,
+  Monomial,
+  denominator,
+  Scales,
+  ScalesRow,
+  scaledRow,
   Limited,
   coordinateAt,
   Coordinates,
@@ -20,49 +24,51 @@ use crate::levels::next_row;
 use crate::levels::next_third;
 use crate::rows::place;
 
-// k!, for k from 0 to 10: each is read off, which takes less time than the product.
+// k!, for k from 0 to 10.
 pub(crate) fn factorial_of(k: usize) -> u64
     requires { ⌜ k ≤ 10 ⌝ }
     ensures { λ r. ⌜ r ≡ factorial k ⌝ }
 {
-    match k {
-        0 => 1,
-        1 => 1,
-        2 => 2,
-        3 => 6,
-        4 => 24,
-        5 => 120,
-        6 => 720,
-        7 => 5040,
-        8 => 40320,
-        9 => 362880,
-        _ => 3628800,
+    let mut product = 1;
+    let mut i = 0;
+    while i < k {
+        i += 1;
+        product = product * i as u64;
     }
+    product
 }
 
 // ---- scaled coefficients
 
-// The multinomial of a monomial: h of the first coordinate, l of the second where there is one.
-pub(crate) fn multinomial_of(dimension: usize, degree: usize, h: usize, l: usize) -> u64
-    requires { ⌜ (1 ≤ dimension) × (dimension ≤ 2) × (degree ≤ 10) × (h + l ≤ degree) × (l ≤ (dimension - 1) * degree) ⌝ }
-    ensures { λ r. ⌜ (r ≡ multinomial degree (exponentsAt dimension h l)) × (0 < r) ⌝ }
+// The product of the factorials that the multinomial of a monomial divides by: h of the first coordinate, l of
+// the second where there is one, and what is left of the degree.
+pub(crate) fn factorials_of(dimension: usize, degree: usize, h: usize, l: usize) -> u64
+    requires { ⌜ Monomial dimension degree h l ⌝ }
+    ensures { λ r. ⌜ (r ≡ denominator dimension degree h l) × (r ≤ 3628800) ⌝ }
 {
-    let below = factorial_of(h) * factorial_of(l) * factorial_of(degree - h - l);
-    factorial_of(degree) / below
+    factorial_of(h) * factorial_of(l) * factorial_of(degree - h - l)
 }
 
-// The scale divided by the multinomial of a monomial.
-pub(crate) fn factor(all: u64, dimension: usize, degree: usize, h: usize, l: usize) -> i64
-    requires { ⌜ (all ≤ 2520) × (1 ≤ dimension) × (dimension ≤ 2) × (degree ≤ 10) × (h + l ≤ degree) × (l ≤ (dimension - 1) * degree) ⌝ }
+// The scale divided by the multinomial of a monomial, `whole` being the degree's factorial. The multinomial
+// is `whole` divided by the smaller factorials, so one division is enough.
+pub(crate) fn factor(
+    all: u64,
+    whole: u64,
+    dimension: usize,
+    degree: usize,
+    h: usize,
+    l: usize,
+) -> i64
+    requires { ⌜ Monomial dimension degree h l × (all ≤ 2520) × (whole ≡ factorial degree) ⌝ }
     ensures { λ r. ⌜ (r ≡ pos (all / multinomial degree (exponentsAt dimension h l))) × (natAbs r ≤ 2520) ⌝ }
 {
-    let parts = multinomial_of(dimension, degree, h, l);
-    (all / parts) as i64
+    let parts = factorials_of(dimension, degree, h, l);
+    (all * parts / whole) as i64
 }
 
 // The place of a monomial among the monomials: with two coordinates they stand in rows of one h each.
 pub(crate) fn monomial_place(dimension: usize, degree: usize, h: usize, l: usize) -> usize
-    requires { ⌜ (1 ≤ dimension) × (dimension ≤ 2) × (degree ≤ 10) × (h + l ≤ degree) × (l ≤ (dimension - 1) * degree) ⌝ }
+    requires { ⌜ Monomial dimension degree h l ⌝ }
     ensures { λ r. ⌜ r ≡ placeOf (exponentsAt dimension h l) (monomials dimension degree) ⌝ }
 {
     if dimension == 1 {
@@ -89,8 +95,8 @@ pub(crate) fn scale_numbers(
     width: usize,
     factor: i64,
 )
-    requires { ⌜ (width * to + width ≤ length (now out)) × (width * from + width ≤ length (now coefficients)) × (natAbs factor ≤ 2520) × NoneBeyond 281474976710656 (width * from + width) (now coefficients) ⌝ }
-    ensures { λ _. ⌜ now (out .exit) ≡ written (now (out .entry)) (width * to) width (λ i. getD (now (coefficients .entry)) (width * from + (i - width * to)) (pos 0) *ℤ factor) ⌝ }
+    requires { ⌜ ScalesRow width to from factor (now out) (now coefficients) ⌝ }
+    ensures { λ _. ⌜ now (out .exit) ≡ scaledRow width (now (out .entry)) to (now (coefficients .entry)) from factor ⌝ }
 {
     let p = width * to;
     let q = width * from;
@@ -111,8 +117,8 @@ pub(crate) fn put_scaled(
     width: usize,
     factor: i64,
 )
-    requires { ⌜ (width * to + width ≤ length (now out)) × (width * from + width ≤ length (now coefficients)) × (natAbs factor ≤ 2520) × NoneBeyond 281474976710656 (width * from + width) (now coefficients) ⌝ }
-    ensures { λ _. ⌜ now (out .exit) ≡ written (now (out .entry)) (width * to) width (λ i. getD (now (coefficients .entry)) (width * from + (i - width * to)) (pos 0) *ℤ factor) ⌝ }
+    requires { ⌜ ScalesRow width to from factor (now out) (now coefficients) ⌝ }
+    ensures { λ _. ⌜ now (out .exit) ≡ scaledRow width (now (out .entry)) to (now (coefficients .entry)) from factor ⌝ }
 {
     if width == 4 {
         scale_numbers(out, to, coefficients, from, 4, factor);
@@ -127,6 +133,7 @@ pub(crate) fn put_scaled(
 pub(crate) fn put_entry(
     out: &mut [i64],
     all: u64,
+    whole: u64,
     dimension: usize,
     degree: usize,
     width: usize,
@@ -134,13 +141,13 @@ pub(crate) fn put_entry(
     i: usize,
     k: usize,
 )
-    requires { ⌜ Limited width dimension degree (now coefficients) × (all ≡ scale dimension degree) × (size width dimension degree ≤ length (now out)) × (i ≤ degree) × (k ≤ (dimension - 1) * i) ⌝ }
+    requires { ⌜ Limited width dimension degree (now coefficients) × Scales dimension degree all whole × (size width dimension degree ≤ length (now out)) × (i ≤ degree) × (k ≤ (dimension - 1) * i) ⌝ }
     ensures { λ _. ⌜ now (out .exit) ≡ written (now (out .entry)) (width * placeAt dimension i k) width (coordinateAt width dimension degree (now (coefficients .entry))) ⌝ }
 {
     let to = place(dimension, i, k);
     let h = i - k;
     let from = monomial_place(dimension, degree, h, k);
-    let times = factor(all, dimension, degree, h, k);
+    let times = factor(all, whole, dimension, degree, h, k);
     put_scaled(out, to, coefficients, from, width, times);
 }
 
@@ -156,10 +163,21 @@ pub(crate) fn coordinate_numbers(
     requires { ⌜ Limited width dimension degree (now coefficients) × (all ≡ scale dimension degree) × (size width dimension degree ≤ length (now out)) ⌝ }
     ensures { λ _. ⌜ Coordinates width dimension degree (now (coefficients .entry)) (now (out .exit)) × (length (now (out .exit)) ≡ length (now (out .entry))) ⌝ }
 {
+    let whole = factorial_of(degree);
     let mut i = 0;
     let mut k = 0;
     while i <= degree {
-        put_entry(&mut *out, all, dimension, degree, width, coefficients, i, k);
+        put_entry(
+            &mut *out,
+            all,
+            whole,
+            dimension,
+            degree,
+            width,
+            coefficients,
+            i,
+            k,
+        );
         let row = next_row(dimension, i, k);
         k = next_third(dimension, i, k);
         i = row;

@@ -14,6 +14,7 @@ ghost use Rattle.machine.specs.First.{firstNet};
 ghost use Rattle.machine.specs.Lent.{putAt, polynomialsFrom};
 ghost use Rattle.entries.specs.Rows.{size};
 ghost use Rattle.nets.specs.Rows.{Sized, blended, level};
+ghost use Rattle.nets.specs.Levels.{copiedRow};
 ghost use Rattle.nets.specs.FirstNet.{
   Room,
   Stepping,
@@ -35,13 +36,11 @@ ghost use Rattle.nets.specs.Calls.{beforeFirst, FirstAsked, Rooms};
 use crate::coordinates::coordinate_numbers;
 use crate::levels::copy_row;
 use crate::levels::spread;
-use crate::rows::FEW;
-use crate::rows::PLACES;
 use crate::rows::blend;
 use crate::rows::copy;
+use crate::rows::entries_within;
 use crate::rows::numbers;
 use crate::rows::place;
-use integers::all_within;
 use kinds::dimension_of;
 use kinds::frame_allowed;
 use kinds::group_scale;
@@ -118,6 +117,19 @@ pub(crate) fn blend_second(
 //
 // The contracts speak of any form G whose values a net holds: the polar value with some points fixed.
 
+// Copies the first row of `cur` into a place. Where it has four numbers, the compiler is told so: it then
+// moves them one by one, as they were written just before.
+pub(crate) fn put_front(out: &mut [i64], to: usize, cur: &[i64], width: usize)
+    requires { ⌜ (width * to + width ≤ length (now out)) × (width * 0 + width ≤ length (now cur)) ⌝ }
+    ensures { λ _. ⌜ now (out .exit) ≡ copiedRow width (now (out .entry)) to (now (cur .entry)) 0 ⌝ }
+{
+    if width == 4 {
+        copy_row(out, to, cur, 0, 4);
+        return;
+    }
+    copy_row(out, to, cur, 0, width);
+}
+
 // Puts the entry with i copies of the vertices after the first, k of them of the third, into its place.
 // `cur` is the net with the other points fixed; it is used up.
 pub(crate) fn last_entry(
@@ -134,7 +146,7 @@ pub(crate) fn last_entry(
 {
     blend_second(&mut *cur, dimension, i - k, width, frame);
     let p = place(dimension, i, k);
-    copy_row(out, p, cur, 0, width);
+    put_front(out, p, cur, width);
 }
 
 // The same, with `cur` as it was and `work` used up.
@@ -213,11 +225,11 @@ pub(crate) fn judge_first(
     kind: u8,
     degree: u8,
     second: u8,
-    frame: [i64; 9],
+    frame: &[i64; 9],
     coefficients: &[i64],
 ) -> u8
     requires { ⌜ 180 ≤ length (now coefficients) ⌝ }
-    ensures { λ k. ⌜ k ≡ firstFailed (beforeFirst (polynomialsFrom kind degree second (now (coefficients .entry))) frame) ⌝ }
+    ensures { λ k. ⌜ k ≡ firstFailed (beforeFirst (polynomialsFrom kind degree second (now (coefficients .entry))) (now (frame .entry))) ⌝ }
 {
     if !known_kind(kind, degree, second) {
         return 4;
@@ -226,7 +238,7 @@ pub(crate) fn judge_first(
         return 5;
     }
     let count = number_count(kind, degree, second);
-    if !all_within(&coefficients[0..count], COEFFICIENT) {
+    if !entries_within(&coefficients[0..count], COEFFICIENT) {
         return 6;
     }
     0
@@ -335,7 +347,7 @@ pub(crate) fn make_later(
     );
 }
 
-// Makes the entries of the first net of accepted polynomials over an accepted frame, in the first of 180
+// Makes the entries of the first net of accepted polynomials over an accepted frame, in the first of some
 // places, and says whether they are in range. The groups are gone through one after the other: the first
 // group's polar values are the coefficients of the second group's polynomials.
 pub(crate) fn make_in(
@@ -349,7 +361,7 @@ pub(crate) fn make_in(
     frame: &[i64],
     coefficients: &[i64],
 ) -> bool
-    requires { ⌜ FirstAsked kind degree second (now out) (now frame) (now coefficients) × Rooms kind degree second (now work) (now cur) (now base) ⌝ }
+    requires { ⌜ FirstAsked kind degree second (now frame) (now coefficients) × Rooms kind degree second (now work) (now cur) (now base) (now out) ⌝ }
     ensures made { λ _. ⌜ now (out .exit) ≡ putAt 0 (firstNet (polynomialsFrom kind degree second (now (coefficients .entry))) (now (frame .entry)) .entries) (now (out .entry)) ⌝ }
     ensures range { λ b. ⌜ b ≡ netInRange (firstNet (polynomialsFrom kind degree second (now (coefficients .entry))) (now (frame .entry))) ⌝ }
 {
@@ -366,50 +378,5 @@ pub(crate) fn make_in(
     );
     make_later(&mut *out, work, cur, base, kind, degree, second, frame);
     let count = number_count(kind, degree, second);
-    all_within(&out[0..count], LIMIT)
-}
-
-// The same in rooms of its own: small ones where they are enough, which take less time to clear.
-pub(crate) fn make_first(
-    out: &mut [i64],
-    kind: u8,
-    degree: u8,
-    second: u8,
-    frame: &[i64],
-    coefficients: &[i64],
-) -> bool
-    requires { ⌜ FirstAsked kind degree second (now out) (now frame) (now coefficients) ⌝ }
-    ensures made { λ _. ⌜ now (out .exit) ≡ putAt 0 (firstNet (polynomialsFrom kind degree second (now (coefficients .entry))) (now (frame .entry)) .entries) (now (out .entry)) ⌝ }
-    ensures range { λ b. ⌜ b ≡ netInRange (firstNet (polynomialsFrom kind degree second (now (coefficients .entry))) (now (frame .entry))) ⌝ }
-{
-    if number_count(kind, degree, second) <= FEW {
-        let mut work = [0; FEW];
-        let mut cur = [0; FEW];
-        let mut base = [0; FEW];
-        return make_in(
-            &mut work,
-            &mut cur,
-            &mut base,
-            out,
-            kind,
-            degree,
-            second,
-            frame,
-            coefficients,
-        );
-    }
-    let mut work = [0; PLACES];
-    let mut cur = [0; PLACES];
-    let mut base = [0; PLACES];
-    make_in(
-        &mut work,
-        &mut cur,
-        &mut base,
-        out,
-        kind,
-        degree,
-        second,
-        frame,
-        coefficients,
-    )
+    entries_within(&out[0..count], LIMIT)
 }

@@ -2,10 +2,9 @@
 // counted from 0 here.
 ghost use mathlib.Core.Path.{_≡_};
 ghost use Prim.Native.Nat.{_+_, _*_, _-_, _≤_};
-ghost use lib.IntN.{pos, natAbs};
+ghost use lib.IntN.{natAbs};
 ghost use lib.ListN.{length, getD};
-ghost use Rattle.nets.specs.Rows.{written};
-ghost use Rattle.nets.specs.Flips.{countsAt, signed, flippedList, InRange, Flips};
+ghost use Rattle.nets.specs.Flips.{countsAt, signed, signedRow, flippedList, InRange, Flips};
 use crate::levels::next_row;
 use crate::levels::next_third;
 
@@ -36,9 +35,9 @@ pub(crate) fn sign(x: i64, count: usize) -> i64
 }
 
 // Changes the sign of the numbers of a row where the count is odd.
-pub(crate) fn sign_row(xs: &mut [i64], p: usize, width: usize, count: usize)
+pub(crate) fn sign_numbers(xs: &mut [i64], p: usize, width: usize, count: usize)
     requires { ⌜ (width * p + width ≤ length (now xs)) × InRange (now xs) (width * p) (width * p + width) ⌝ }
-    ensures { λ _. ⌜ now (xs .exit) ≡ written (now (xs .entry)) (width * p) width (λ i. signed count (getD (now (xs .entry)) i (pos 0))) ⌝ }
+    ensures { λ _. ⌜ now (xs .exit) ≡ signedRow width (now (xs .entry)) p count ⌝ }
 {
     let from = width * p;
     let end = from + width;
@@ -47,6 +46,18 @@ pub(crate) fn sign_row(xs: &mut [i64], p: usize, width: usize, count: usize)
         xs[i] = sign(xs[i], count);
         i += 1;
     }
+}
+
+// The same. Where the numbers are four, the compiler is told so.
+pub(crate) fn sign_row(xs: &mut [i64], p: usize, width: usize, count: usize)
+    requires { ⌜ (width * p + width ≤ length (now xs)) × InRange (now xs) (width * p) (width * p + width) ⌝ }
+    ensures { λ _. ⌜ now (xs .exit) ≡ signedRow width (now (xs .entry)) p count ⌝ }
+{
+    if width == 4 {
+        sign_numbers(xs, p, 4, count);
+        return;
+    }
+    sign_numbers(xs, p, width, count);
 }
 
 // Flips a vertex in the rows of a net. Entry p has i copies of the vertices after the first, k of them of

@@ -16,16 +16,25 @@ ghost use lib.ListN.{length, take};
 ghost use Rattle.machine.specs.Lent.{
   byteOf,
   putAt,
+  polynomialsFrom,
   madeNumber,
   madePlaces,
   callNumber,
   callPlaces,
   callFound,
 };
+ghost use Rattle.nets.specs.Calls.{
+  netFrom,
+  FirstAsked,
+  Stores,
+  Stored,
+  FirstStored,
+};
 use crate::calls::judge_and_move;
 use crate::calls::judge_and_point;
 use crate::first::judge_first;
-use crate::first::make_first;
+use crate::first::make_in;
+use crate::rows::FEW;
 use crate::rows::PLACES;
 use crate::rows::copy;
 use kinds::number_count;
@@ -89,6 +98,72 @@ fn first_nine(frame: &[i64]) -> [i64; 9]
     ]
 }
 
+// Stores a net that is in range, or tells the number of the refusal.
+fn store(net: &mut [i64], in_range: bool, kind: u8, degree: u8, second: u8, entries: &[i64]) -> u8
+    requires { ⌜ Stores kind degree second (now net) (now entries) ⌝ }
+    ensures { λ k. ⌜ Stored (netFrom kind degree second (now (entries .entry))) in_range (now (net .entry)) k (now (net .exit)) ⌝ }
+{
+    if !in_range {
+        return 7;
+    }
+    put_head(&mut *net, kind, degree, second);
+    copy(
+        &mut net[ENTRIES..END],
+        entries,
+        number_count(kind, degree, second),
+    );
+    0
+}
+
+// Makes the first net of accepted polynomials over an accepted frame and stores it. The work is done in small
+// rooms where they are enough, which take less time to clear.
+fn make_first(
+    net: &mut [i64],
+    kind: u8,
+    degree: u8,
+    second: u8,
+    frame: &[i64],
+    coefficients: &[i64],
+) -> u8
+    requires { ⌜ FirstAsked kind degree second (now frame) (now coefficients) × (193 ≤ length (now net)) ⌝ }
+    ensures { λ k. ⌜ FirstStored (polynomialsFrom kind degree second (now (coefficients .entry))) (now (frame .entry)) (now (net .entry)) k (now (net .exit)) ⌝ }
+{
+    if number_count(kind, degree, second) <= FEW {
+        let mut work = [0; FEW];
+        let mut cur = [0; FEW];
+        let mut base = [0; FEW];
+        let mut out = [0; FEW];
+        let in_range = make_in(
+            &mut work,
+            &mut cur,
+            &mut base,
+            &mut out,
+            kind,
+            degree,
+            second,
+            frame,
+            coefficients,
+        );
+        return store(net, in_range, kind, degree, second, &out);
+    }
+    let mut work = [0; PLACES];
+    let mut cur = [0; PLACES];
+    let mut base = [0; PLACES];
+    let mut out = [0; PLACES];
+    let in_range = make_in(
+        &mut work,
+        &mut cur,
+        &mut base,
+        &mut out,
+        kind,
+        degree,
+        second,
+        frame,
+        coefficients,
+    );
+    store(net, in_range, kind, degree, second, &out)
+}
+
 // Makes the first net of polynomials over a frame, in places that the caller lends, and answers 0; or
 // answers the number of the refusal, and the places stay as they were. The frame has nine numbers or more,
 // of which a curve takes four, and the coefficients are 180 or more, of which kind and degrees take the
@@ -114,21 +189,11 @@ pub fn first_net(
         return 11;
     }
     let corners = first_nine(frame);
-    let number = judge_first(kind, degree, second, corners, coefficients);
+    let number = judge_first(kind, degree, second, &corners, coefficients);
     if number != 0 {
         return number;
     }
-    let mut made = [0; PLACES];
-    if !make_first(&mut made, kind, degree, second, &corners, coefficients) {
-        return 7;
-    }
-    put_head(net, kind, degree, second);
-    copy(
-        &mut net[ENTRIES..END],
-        &made,
-        number_count(kind, degree, second),
-    );
-    0
+    make_first(net, kind, degree, second, &corners, coefficients)
 }
 
 // Makes a move on a net; a refused one leaves every place as it was.

@@ -6,7 +6,9 @@ ghost use mathlib.Core.Path.{_≡_};
 ghost use mathlib.Core.Bool.{true};
 ghost use Prim.Native.Nat.{pred, _+_, _*_, _<_, _≤_, _^_};
 ghost use lib.IntN.{pos, natAbs, _+ℤ_, _*ℤ_};
+ghost use mathlib.Core.List.{[], _∷_};
 ghost use lib.ListN.{length, getD};
+ghost use Rattle.integers.specs.Test.{within, all};
 ghost use Rattle.polar.specs.Order.{counts};
 ghost use Rattle.entries.specs.Rows.{size, offset};
 ghost use Rattle.machine.specs.Calls.{weightList};
@@ -16,6 +18,7 @@ ghost use Rattle.nets.specs.Rows.{
   ranged,
   weightSum,
   Bounded,
+  Whole,
   Sized,
   placeAt,
   rowsBlended,
@@ -30,6 +33,45 @@ pub(crate) const PLACES: usize = 180;
 
 // How many numbers a small net has at most: a curve of degree 5 or a patch of degree 2.
 pub(crate) const FEW: usize = 24;
+
+// ---- limits
+
+// Whether four numbers are within a limit.
+pub(crate) fn four_within(a: i64, b: i64, c: i64, d: i64, limit: u64) -> bool
+    ensures { λ r. ⌜ r ≡ all (within limit) (a ∷ b ∷ c ∷ d ∷ []) ⌝ }
+{
+    if !is_within(a, limit) {
+        return false;
+    }
+    if !is_within(b, limit) {
+        return false;
+    }
+    if !is_within(c, limit) {
+        return false;
+    }
+    is_within(d, limit)
+}
+
+// Whether the numbers of whole entries are within a limit: four a turn, which takes less time than one.
+pub(crate) fn entries_within(numbers: &[i64], limit: u64) -> bool
+    requires { ⌜ Whole (length (now numbers)) ⌝ }
+    ensures { λ r. ⌜ r ≡ all (within limit) (now (numbers .entry)) ⌝ }
+{
+    let mut i = 0;
+    while i < numbers.len() {
+        if !four_within(
+            numbers[i],
+            numbers[i + 1],
+            numbers[i + 2],
+            numbers[i + 3],
+            limit,
+        ) {
+            return false;
+        }
+        i += 4;
+    }
+    true
+}
 
 // ---- copies
 

@@ -168,7 +168,7 @@ powers-ones d k [] h = refl
 powers-ones d k (n ∷ e) h =
     ap₂ _*ℤ_ (ap (λ x. power x n) (at-ones d k (omega arith)) ∙ power-one n) (powers-ones d (suc k) e (omega arith))
 
-factorial-pos : (n : ℕ) → 0 < factorial n
+pub factorial-pos : (n : ℕ) → 0 < factorial n
 factorial-pos zero = lit≤ tt
 factorial-pos (suc n) = mul-pos (suc-le-suc zero-le) (factorial-pos n)
 
@@ -208,6 +208,10 @@ module _ (n m : ℕ) (e : Exponents) (l : length e ≡ n) (t : total e ≤ m) wh
 
   multinomial-exact : factorials e * factorial left * multinomial m e ≡ factorial m
   multinomial-exact = ap (λ k. factorials e * factorial left * k) multinomial-ways ∙ ways-exact n m left e l left-is
+
+  pub multinomial-whole : factorials e * factorial (m - total e) * multinomial m e ≡ factorial m
+  unfolding left
+  multinomial-whole = multinomial-exact
 
   pub multinomial-pos : 0 < multinomial m e
   multinomial-pos = from (multinomial m e) multinomial-exact

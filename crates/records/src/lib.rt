@@ -251,7 +251,7 @@ fn value_number(tag: Tag, head: Head, value: &[u8]) -> u8
 {
     match tag {
         Tag::Kind => unless(head_allowed(value), 4),
-        Tag::Frame => unless(frame_allowed(head.kind, frame_numbers(value)), 5),
+        Tag::Frame => unless(frame_allowed(head.kind, &frame_numbers(value)), 5),
         Tag::Coefficients => {
             let count = value.len() / 4;
             unless(coefficients_within(value, count, COEFFICIENT_LIMIT), 6)

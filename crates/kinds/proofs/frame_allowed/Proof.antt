@@ -18,7 +18,7 @@ use Rattle.kinds.proofs.frame_allowed.Statement.{statement}
 use Rattle.kinds.proofs.frame_allowed.Tie as tie
 
 returns : tie.Need-returns
-returns c p q = let a = c .before .before .args in no-frame (a .kind) p q (a .t2) (sym (c .before .dimension-of .ensures) ∙ c .if1 .taken)
+returns c p q = let a = c .before .before .args in no-frame (a .kind) p q (a .numbers .now) (sym (c .before .dimension-of .ensures) ∙ c .if1 .taken)
 
 -- there is a group where the dimension is not 0
 some : (c : tie.Else1) → dimensionOf (c .before .before .args .kind) ≡ 0 → ⊥
@@ -29,25 +29,25 @@ group-allowed-requires c κs =
     let branch = c .before in
     let kind = branch .before .before .args .kind in
     let few : branch .before .dimension-of .result ≤ 2 = subst (λ n. n ≤ 2) (sym (branch .before .dimension-of .ensures)) (dimension-few kind) in
-    let long : length (branch .before .before .args .t2) ≡ 9 = search needs in
+    let long : length (branch .before .before .args .numbers .now) ≡ 9 = search needs in
     let square = mul-le-mul (suc-le-suc few) (suc-le-suc few) in
     let other = branch .if1 .left in
     (omega arith, few, subst (λ k. suc (branch .before .dimension-of .result) * suc (branch .before .dimension-of .result) ≤ k) (sym long) square)
 
 -- what the test of the first frame found
 found : (c : tie.After-group-allowed) (b : Bool) → c .group-allowed .result ≡ b
-    → let a = c .before .before .before .before .args in frameAllowed (suc (dimensionOf (a .kind))) (a .t2) ≡ b
+    → let a = c .before .before .before .before .args in frameAllowed (suc (dimensionOf (a .kind))) (a .numbers .now) ≡ b
 found c b e =
     let first = c .before .before .before in
-    ap (λ n. frameAllowed (suc n) (first .before .args .t2)) (sym (first .dimension-of .ensures)) ∙ sym (c .group-allowed .ensures) ∙ e
+    ap (λ n. frameAllowed (suc n) (first .before .args .numbers .now)) (sym (first .dimension-of .ensures)) ∙ sym (c .group-allowed .ensures) ∙ e
 
 returns-2 : tie.Need-returns-2
 returns-2 c p q =
     let branch = c .before .before .before in
     let a = branch .before .before .args in
-    first-out (a .kind) p q (a .t2) (some branch) (found (c .before) false (not-true (c .before .group-allowed .result) (c .if2 .taken)))
+    first-out (a .kind) p q (a .numbers .now) (some branch) (found (c .before) false (not-true (c .before .group-allowed .result) (c .if2 .taken)))
 
-passed : (c : tie.Else2) → let a = c .before .before .before .before .before .args in frameAllowed (suc (dimensionOf (a .kind))) (a .t2) ≡ true
+passed : (c : tie.Else2) → let a = c .before .before .before .before .before .args in frameAllowed (suc (dimensionOf (a .kind))) (a .numbers .now) ≡ true
 passed c = found (c .before) true (not-false (c .before .group-allowed .result) (c .if2 .left))
 
 returns-3 : tie.Need-returns-3
@@ -55,7 +55,7 @@ returns-3 c p q =
     let second = c .before .before in
     let branch = second .before .before .before in
     let a = branch .before .before .args in
-    no-other (a .kind) p q (a .t2) (some branch) (passed second) (sym (c .before .later-dimension .ensures) ∙ c .if3 .taken)
+    no-other (a .kind) p q (a .numbers .now) (some branch) (passed second) (sym (c .before .later-dimension .ensures) ∙ c .if3 .taken)
 
 -- what stands behind the first pair's numbers
 last-five : (xs : List ℤ) → length xs ≡ 9 → take 5 (drop 4 xs) ≡ drop 4 xs
@@ -67,26 +67,26 @@ pair c = pairs-only (c .before .before .before .before .before .before .before .
 
 group-allowed-requires-2 : tie.Need-group-allowed-requires-2
 group-allowed-requires-2 c κs =
-    let branch = c .before .before in
+    let branch = c .before in
     let later = branch .before .later-dimension in
     let one : later .result ≡ 1 = later .ensures ∙ pair branch .0 in
-    let numbers = branch .before .before .before .before .before .before .before .args .t2 in
+    let numbers = branch .before .before .before .before .before .before .before .args .numbers .now in
     let long : length numbers ≡ 9 = search needs in
     let left : length (take 5 (drop 4 numbers)) ≡ 5 = ap length (last-five numbers long) ∙ length-drop 4 numbers ∙ omega arith in
     (omega arith, omega arith, subst (λ n. suc n * suc n ≤ length (take 5 (drop 4 numbers))) (sym one) (omega arith))
 
 returns-4 : tie.Need-returns-4
 returns-4 c p q =
-    let third = c .before .before .before in
+    let third = c .before .before in
     let second = third .before .before in
     let branch = second .before .before .before in
     let a = branch .before .before .args in
-    let long : length (a .t2) ≡ 9 = search needs in
-    let rest : take 5 (drop 4 (a .t2)) ≡ drop (suc (dimensionOf (a .kind)) * suc (dimensionOf (a .kind))) (a .t2) =
-    last-five (a .t2) long ∙ ap (λ n. drop (suc n * suc n) (a .t2)) (sym (pair third .1)) in
+    let long : length (a .numbers .now) ≡ 9 = search needs in
+    let rest : take 5 (drop 4 (a .numbers .now)) ≡ drop (suc (dimensionOf (a .kind)) * suc (dimensionOf (a .kind))) (a .numbers .now) =
+    last-five (a .numbers .now) long ∙ ap (λ n. drop (suc n * suc n) (a .numbers .now)) (sym (pair third .1)) in
     c .group-allowed2 .ensures
     ∙ ap₂ (λ n xs. frameAllowed (suc n) xs) (third .before .later-dimension .ensures) rest
-    ∙ other-by (a .kind) p q (a .t2) (some branch) (passed second) (λ none. third .if3 .left (third .before .later-dimension .ensures ∙ none))
+    ∙ other-by (a .kind) p q (a .numbers .now) (some branch) (passed second) (λ none. third .if3 .left (third .before .later-dimension .ensures ∙ none))
 
 pub frame-allowed-spec : {M : Type 1} → statement M
 frame-allowed-spec =
@@ -94,7 +94,6 @@ frame-allowed-spec =
     (tie.spec
     (λ c κs. search needs)
     returns
-    (λ c. search needs)
     group-allowed-requires
     returns-2
     (λ c κs. search needs)

@@ -29,10 +29,11 @@ returns c =
 returns-2 : tie.Need-returns-2
 returns-2 c =
     let f = c .before in
-    let h = f .before .before .before .before .before .args .head in
-    rw (f .before .before .enum-told2 .given .1)
+    let numbers = f .before .before in
+    let h = numbers .before .before .before .before .args .head in
+    rw (numbers .before .enum-told2 .given .1)
     (c .unless2 .ensures
-    ∙ ap (λ (b : Bool). firstFailed (b else 5 ∷ [])) (f .frame-allowed .ensures (h .degree) (h .second) ∙ ap (framesAllowed (headGroups h)) (f .before .frame-numbers .ensures)))
+    ∙ ap (λ (b : Bool). firstFailed (b else 5 ∷ [])) (f .frame-allowed .ensures (h .degree) (h .second) ∙ ap (framesAllowed (headGroups h)) (numbers .frame-numbers .ensures)))
 
 returns-3 : tie.Need-returns-3
 unfolding coefficientsOf

@@ -1,13 +1,13 @@
 -- `flip_vertex` meets its contract: the vertex is one of the first group, whose rows it flips, or one of the second, which it flips in each part.
 use borrow.Author.Needs.{needs}
-use Prim.Native.Nat.{ℕ, _+_, _-_, _≤_, _<_}
+use Prim.Native.Nat.{_+_, _-_, _≤_, _<_}
 use native.Mathlib.Omega.{arith}
-use mathlib.Core.Path.{_≡_, sym, ap, ap₂, _∙_, subst}
+use mathlib.Core.Path.{sym, ap, _∙_, subst}
 use Rattle.entries.specs.Rows.{size}
-use Rattle.kinds.specs.Kinds.{dimensionOf, laterDimension}
-use Rattle.nets.specs.Flips.{flippedList, Flips}
+use Rattle.kinds.specs.Kinds.{dimensionOf}
+use Rattle.nets.specs.Flips.{flippedList}
 use Rattle.nets.specs.Parts.{inParts, PartsFlipped}
-use Rattle.nets.proofs.Made.{rowNumbers, net-sized, net-long, net-each, net-parts, move-low, own-high, past-two, second-group, flip-made, rows-flipped, parts-flipped}
+use Rattle.nets.proofs.Made.{net-parts, move-low, own-high, past-two, second-group, flip-asked, flip-stepped, flip-made, parts-flipped}
 use Rattle.nets.proofs.calls.flip_vertex.Statement.{statement}
 use Rattle.nets.proofs.calls.flip_vertex.Tie as tie
 
@@ -20,20 +20,16 @@ own-low c = subst (λ d. c .before .before .args .vertex - 1 ≤ d) (c .before .
 flip-entries-requires : tie.Need-flip-entries-requires
 flip-entries-requires c κs =
     let branch = c .before .before in
-    let s = branch .before .before in
-    let o = s .pre .0 in
-    subst (λ d. Flips (c .later-count .result) d (s .args .degree) (s .args .vertex - 1) (s .args .entries .now)) (sym (branch .before .dimension-of .ensures))
-    (subst (λ v. Flips v (dimensionOf (s .args .kind)) (s .args .degree) (s .args .vertex - 1) (s .args .entries .now)) (sym (c .later-count .ensures))
-    (record { sized = net-sized o; vertex = own-low branch; long = net-long o; range = net-each o }))
+    let d = branch .before in
+    flip-asked (d .before .pre .0) (own-low branch) (c .later-count .result) (d .dimension-of .result) (c .later-count .ensures) (d .dimension-of .ensures)
 
 returns : tie.Need-returns
 returns c =
-    let d = c .before in
-    let branch = d .before .before .before in
-    let s = branch .before .before in
-    flip-made (s .pre .0) (s .pre .1) (d .flip-entries .last .0)
-    (rows-flipped (s .pre .0) (own-low branch) (s .pre .1) (d .flip-entries .last .0)
-    (d .flip-entries .ensures ∙ ap₂ (λ v n. flippedList v n (s .args .degree) (s .args .vertex - 1) (s .args .entries .now)) (d .before .later-count .ensures) (branch .before .dimension-of .ensures)))
+    let r = c .before in
+    let branch = r .before .before .before in
+    let d = branch .before in
+    let s = d .before in
+    flip-stepped (s .pre .0) (own-low branch) (r .before .later-count .result) (d .dimension-of .result) (r .before .later-count .ensures) (d .dimension-of .ensures) (s .pre .1) (r .flip-entries .last .0) (r .flip-entries .ensures)
 
 past : (c : tie.Else1) → dimensionOf (c .before .before .args .kind) < c .before .before .args .vertex - 1
 past c = subst (λ d. d < c .before .before .args .vertex - 1) (c .before .dimension-of .ensures) (let over = c .if1 .left in omega arith)

@@ -1,47 +1,28 @@
 -- `replace_in` meets its contract: the net is renamed into the room, taken down the levels there, and renamed back where all of them are in range.
 use borrow.Author.Needs.{needs}
 use borrow.Author.Tests.{not-true, not-false}
-use mathlib.Core.Path.{_≡_, refl, sym, _∙_}
-use Rattle.machine.specs.Calls.{weightList}
-use Rattle.nets.specs.Levels.{allNamedAt}
-use Rattle.nets.proofs.Renaming.{replace-starts, replace-named, replace-made}
+use Rattle.nets.proofs.Renaming.{Renamed, replace-starts, replace-refused, replace-taken}
 use Rattle.nets.proofs.calls.replace_in.Statement.{statement}
 use Rattle.nets.proofs.calls.replace_in.Tie as tie
 
-descend-requires : tie.Need-descend-requires
-descend-requires c κs =
-    let s = c .before .before .before .before .before .before in
-    let a = s .args in
-    let ys = c .before .before .before .rename in
-    replace-starts 4 (a .dimension) (a .degree) (a .vertex) (a .weights) (c .before .renamed-weights .result) (a .entries .now) (a .room .now) (ys .last .0) (s .pre .0) (s .pre .1) (s .pre .2) (ys .ensures) (c .before .renamed-weights .ensures)
-
--- whether all levels are in range
-named : (d : tie.After-descend)
-    → let a = d .before .before .before .before .before .before .before .args in
-    d .descend .result ≡ allNamedAt 4 (a .dimension) (a .degree) (weightList (a .weights)) (a .entries .now)
-named d =
-    let s = d .before .before .before .before .before .before .before in
-    let a = s .args in
-    let ys = d .before .before .before .before .rename in
-    replace-named 4 (a .dimension) (a .degree) (a .vertex) (a .weights) (d .before .before .renamed-weights .result) (a .entries .now) (a .room .now) (ys .last .0) (s .pre .0) (s .pre .1) (s .pre .2) (ys .ensures) (d .before .before .renamed-weights .ensures)
-    (d .descend .result) (d .descend .last .0) (d .descend .ensures)
+renamed : (c : tie.After-renamed-weights)
+    → let put = c .before .before in
+    let a = put .before .before .before .args in
+    Renamed 4 (a .dimension) (a .degree) (a .vertex) (a .weights) (c .renamed-weights .result) (a .entries .now) (put .rename .last .0)
+renamed c =
+    let put = c .before .before in
+    let s = put .before .before .before in
+    record { start = s .pre .0; top = s .pre .1; room = s .args .room .now; free = s .pre .2; is = put .rename .ensures; exchange-is = c .renamed-weights .ensures }
 
 returns : tie.Need-returns
-returns c =
-    let d = c .before .before in
-    (sym (not-true (d .descend .result) (c .if1 .taken)) ∙ named d, refl)
+returns c = let d = c .before .before in replace-refused (renamed (d .before .before)) (d .descend .ensures) (not-true (d .descend .result) (c .if1 .taken))
 
 returns-2 : tie.Need-returns-2
 returns-2 c =
-    let d = c .before .before .before .before .before .before in
-    let s = d .before .before .before .before .before .before .before in
-    let a = s .args in
-    let ys = d .before .before .before .before .rename in
-    let ok = not-false (d .descend .result) (c .before .before .before .before .if1 .left) in (
-      sym ok ∙ named d,
-      replace-made 4 (a .dimension) (a .degree) (a .vertex) (a .weights) (d .before .before .renamed-weights .result) (a .entries .now) (a .room .now) (ys .last .0) (s .pre .0) (s .pre .1) (s .pre .2) (ys .ensures) (d .before .before .renamed-weights .ensures)
-          (d .descend .result) (d .descend .last .0) (d .descend .ensures) (c .before .rename2 .last .0) ok (c .before .rename2 .ensures),
-    )
+    let back = c .before in
+    let branch = back .before .before .before in
+    let d = branch .before .before in
+    replace-taken (renamed (d .before .before)) (d .descend .ensures) (back .rename2 .last .0) (not-false (d .descend .result) (branch .if1 .left)) (back .rename2 .ensures)
 
 pub replace-in-spec : {M : Type 1} → statement M
 replace-in-spec =
@@ -49,7 +30,7 @@ replace-in-spec =
     (tie.spec
     (λ c κs. search needs)
     (λ c κs. search needs)
-    descend-requires
+    (λ c κs. replace-starts (renamed (c .before)))
     (λ c. search needs)
     (λ c. search needs)
     returns

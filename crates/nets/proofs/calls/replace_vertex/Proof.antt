@@ -1,16 +1,13 @@
--- `replace_vertex` meets its contract: the vertex is one of the first group, whose rows it replaces, or one of the second, which it replaces in each part.
+-- `replace_vertex` meets its contract: the vertex is one of the first group, which is replaced in its rows, or one of the second, which is replaced in each part.
 use borrow.Author.Needs.{needs}
-use Prim.Native.Nat.{ℕ, _+_, _-_, _≤_, _<_}
+use Prim.Native.Nat.{_+_, _-_, _≤_, _<_}
 use native.Mathlib.Omega.{arith}
-use mathlib.Core.Path.{_≡_, sym, ap, ap₂, _∙_, subst}
-use mathlib.Core.Bool.{Bool, true, cond}
-use Rattle.integers.specs.Test.{all}
+use mathlib.Core.Path.{sym, subst}
 use Rattle.entries.specs.Rows.{size}
 use Rattle.kinds.specs.Kinds.{dimensionOf, laterDimension}
 use Rattle.machine.specs.Calls.{weightList}
-use Rattle.nets.specs.Levels.{Descends, Replaces, allNamedAt, replacedList}
-use Rattle.nets.specs.Parts.{partsOf, inParts, PartsReplaced}
-use Rattle.nets.proofs.Made.{rowNumbers, net-sized, net-long, net-ranged, net-parts, part-few, move-light, move-low, own-high, past-two, second-group, replace-made, rows-sized, rows-replaced, parts-sized, parts-replaced}
+use Rattle.nets.specs.Parts.{PartsReplaced, AllOrNone}
+use Rattle.nets.proofs.Made.{net-parts, part-few, move-light, move-low, own-high, past-two, second-group, replace-made, replace-asked, replace-stepped, parts-sized, parts-replaced}
 use Rattle.nets.proofs.calls.replace_vertex.Statement.{statement}
 use Rattle.nets.proofs.calls.replace_vertex.Tie as tie
 
@@ -19,45 +16,28 @@ sub-v c = move-low (c .before .pre .0)
 
 -- ---- a vertex of the first group
 
-replace-entries-requires : tie.Need-replace-entries-requires
-replace-entries-requires c κs =
+own-low : (c : tie.Then1) → let a = c .before .before .args in a .vertex - 1 ≤ dimensionOf (a .kind)
+own-low c = subst (λ n. c .before .before .args .vertex - 1 ≤ n) (c .before .dimension-of .ensures) (c .if1 .taken)
+
+replace-wide-requires : tie.Need-replace-wide-requires
+replace-wide-requires c κs =
     let branch = c .before .before in
-    let s = branch .before .before in
-    let o = s .pre .0 in
-    subst (λ d. Descends (c .later-count .result) d (s .args .degree) (s .args .weights) (s .args .entries .now) × (s .args .vertex - 1 ≤ d)) (sym (branch .before .dimension-of .ensures)) (
-      subst (λ v. Descends v (dimensionOf (s .args .kind)) (s .args .degree) (s .args .weights) (s .args .entries .now)) (sym (c .later-count .ensures))
-          (record { sized = net-sized o; long = net-long o; range = net-ranged o; light = move-light o }),
-      subst (λ d. s .args .vertex - 1 ≤ d) (branch .before .dimension-of .ensures) (branch .if1 .taken),
-    )
-
--- what the replace says, by the kind's rows
-replaced-is : (c : tie.After-replace-entries)
-    → let s = c .before .before .before .before .before in
-    Replaces (rowNumbers (s .args .kind) (s .args .second)) (dimensionOf (s .args .kind)) (s .args .degree) (weightList (s .args .weights)) (s .args .vertex - 1) (s .args .entries .now) (c .replace-entries .result) (c .replace-entries .last .0)
-replaced-is c =
-    let s = c .before .before .before .before .before in
-    subst (λ n. Replaces (rowNumbers (s .args .kind) (s .args .second)) n (s .args .degree) (weightList (s .args .weights)) (s .args .vertex - 1) (s .args .entries .now) (c .replace-entries .result) (c .replace-entries .last .0))
-    (c .before .before .before .before .dimension-of .ensures)
-    (subst (λ v. Replaces v (c .before .before .before .before .dimension-of .result) (s .args .degree) (weightList (s .args .weights)) (s .args .vertex - 1) (s .args .entries .now) (c .replace-entries .result) (c .replace-entries .last .0))
-    (c .before .later-count .ensures) (c .replace-entries .ensures))
-
-own-low : (c : tie.Then1) → c .before .before .args .vertex - 1 ≤ dimensionOf (c .before .before .args .kind)
-own-low c = subst (λ d. c .before .before .args .vertex - 1 ≤ d) (c .before .dimension-of .ensures) (c .if1 .taken)
+    let d = branch .before in
+    replace-asked (d .before .pre .0) (own-low branch) (c .later-count .result) (d .dimension-of .result) (c .later-count .ensures) (d .dimension-of .ensures)
 
 returns : tie.Need-returns
 returns c =
-    let d = c .before .before in
-    let branch = d .before .before .before in
-    let s = branch .before .before in
-    let o = s .pre .0 in
-    let is = replaced-is d in
-    replace-made o (s .pre .1) (d .replace-entries .result) (c .size-number .result) (d .replace-entries .last .0) (c .size-number .ensures)
-    (rows-sized o (own-low branch) (s .pre .1) (d .replace-entries .result) (is .0)) (rows-replaced o (own-low branch) (s .pre .1) (d .replace-entries .result) (d .replace-entries .last .0) (is .1))
+    let r = c .before .before in
+    let branch = r .before .before .before in
+    let d = branch .before in
+    let s = d .before in
+    replace-stepped (s .pre .0) (own-low branch) (r .before .later-count .result) (d .dimension-of .result) (r .before .later-count .ensures) (d .dimension-of .ensures)
+    (s .pre .1) (r .replace-wide .result) (c .size-number .result) (r .replace-wide .last .0) (c .size-number .ensures) (r .replace-wide .ensures)
 
 -- ---- a vertex of the second group
 
-past : (c : tie.Else1) → dimensionOf (c .before .before .args .kind) < c .before .before .args .vertex - 1
-past c = subst (λ d. d < c .before .before .args .vertex - 1) (c .before .dimension-of .ensures) (let over = c .if1 .left in omega arith)
+past : (c : tie.Else1) → let a = c .before .before .args in dimensionOf (a .kind) < a .vertex - 1
+past c = subst (λ n. n < c .before .before .args .vertex - 1) (c .before .dimension-of .ensures) (let over = c .if1 .left in omega arith)
 
 sub-replace-later : tie.Need-sub-replace-later
 sub-replace-later c = let branch = c .before .before in past-two (branch .before .before .pre .0) (past branch)
@@ -74,30 +54,17 @@ replace-later-requires c κs =
     let s = branch .before .before in
     subst (λ d. PartsReplaced d (s .args .second) (s .args .vertex - 1 - 2) (s .args .degree + 1) (s .args .weights) (s .args .entries .now) × (size 4 d (s .args .second) ≤ 24)) (sym (c .later-dimension .ensures)) (asked branch)
 
--- what the replace says, by the kind's second group
-parts-are : (c : tie.After-replace-later)
-    → let s = c .before .before .before .before .before in
-    let l = laterDimension (s .args .kind) in
-    (c .replace-later .result ≡ all (allNamedAt 4 l (s .args .second) (weightList (s .args .weights))) (partsOf (size 4 l (s .args .second)) (s .args .degree + 1) (s .args .entries .now)))
-    × (c .replace-later .last .0
-    ≡ cond (c .replace-later .result) (inParts (replacedList 4 l (s .args .second) (weightList (s .args .weights)) (s .args .vertex - 1 - 2)) (size 4 l (s .args .second)) (s .args .degree + 1) (s .args .entries .now)) (s .args .entries .now))
-parts-are c =
-    let s = c .before .before .before .before .before in
-    subst
-    (λ d. (c .replace-later .result ≡ all (allNamedAt 4 d (s .args .second) (weightList (s .args .weights))) (partsOf (size 4 d (s .args .second)) (s .args .degree + 1) (s .args .entries .now)))
-    × (c .replace-later .last .0
-    ≡ cond (c .replace-later .result) (inParts (replacedList 4 d (s .args .second) (weightList (s .args .weights)) (s .args .vertex - 1 - 2)) (size 4 d (s .args .second)) (s .args .degree + 1) (s .args .entries .now)) (s .args .entries .now)))
-    (c .before .later-dimension .ensures) (c .replace-later .ensures)
-
 returns-2 : tie.Need-returns-2
 returns-2 c =
-    let d = c .before .before in
-    let branch = d .before .before .before in
+    let r = c .before .before in
+    let later = r .before in
+    let branch = later .before .before in
     let s = branch .before .before in
     let o = s .pre .0 in
-    let is = parts-are d in
-    replace-made o (s .pre .1) (d .replace-later .result) (c .size-number2 .result) (d .replace-later .last .0) (c .size-number2 .ensures)
-    (parts-sized o (past branch) (s .pre .1) (d .replace-later .result) (is .0)) (parts-replaced o (past branch) (s .pre .1) (d .replace-later .result) (d .replace-later .last .0) (is .1))
+    let is =
+    subst (λ d. AllOrNone d (s .args .second) (weightList (s .args .weights)) (s .args .vertex - 1 - 2) (s .args .degree + 1) (s .args .entries .now) (r .replace-later .result) (r .replace-later .last .0)) (later .later-dimension .ensures) (r .replace-later .ensures) in
+    replace-made o (s .pre .1) (r .replace-later .result) (c .size-number2 .result) (r .replace-later .last .0) (c .size-number2 .ensures)
+    (parts-sized o (past branch) (s .pre .1) (r .replace-later .result) (is .0)) (parts-replaced o (past branch) (s .pre .1) (r .replace-later .result) (r .replace-later .last .0) (is .1))
 
 pub replace-vertex-spec : {M : Type 1} → statement M
 replace-vertex-spec =
@@ -106,7 +73,7 @@ replace-vertex-spec =
     (λ c κs. search needs)
     sub-v
     (λ c κs. search needs)
-    replace-entries-requires
+    replace-wide-requires
     (λ c κs. search needs)
     (λ c. search needs)
     returns

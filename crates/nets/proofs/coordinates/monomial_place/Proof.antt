@@ -15,29 +15,29 @@ use Rattle.nets.proofs.coordinates.monomial_place.Tie as tie
 returns : tie.Need-returns
 returns c =
     let s = c .before in
-    sym (place-one (s .args .degree) (s .args .h) (omega (arith, s .pre .3)))
+    sym (place-one (s .args .degree) (s .args .h) (omega (arith, s .pre .whole)))
     ∙ ap (λ k. placeOf (exponentsAt k (s .args .h) (s .args .l)) (monomials k (s .args .degree))) (sym (c .if1 .taken))
 
 mul-result-2 : tie.Need-mul-result-2
 mul-result-2 c =
     let s = c .before in
-    let a : s .args .h ≤ 10 = omega (arith, s .pre .2, s .pre .3) in
-    let b : s .args .h + 2 * (s .args .degree - s .args .h) + 3 ≤ 33 = omega (arith, s .pre .2, s .pre .3) in
+    let a : s .args .h ≤ 10 = omega (arith, s .pre .ten, s .pre .whole) in
+    let b : s .args .h + 2 * (s .args .degree - s .args .h) + 3 ≤ 33 = omega (arith, s .pre .ten, s .pre .whole) in
     omega (arith, mul-le-mul a b)
 
 add-result-3 : tie.Need-add-result-3
 add-result-3 c =
     let s = c .before in
-    let a : s .args .h ≤ 10 = omega (arith, s .pre .2, s .pre .3) in
-    let b : s .args .h + 2 * (s .args .degree - s .args .h) + 3 ≤ 33 = omega (arith, s .pre .2, s .pre .3) in
-    let l : s .args .l ≤ 10 = omega (arith, s .pre .2, s .pre .3) in
+    let a : s .args .h ≤ 10 = omega (arith, s .pre .ten, s .pre .whole) in
+    let b : s .args .h + 2 * (s .args .degree - s .args .h) + 3 ≤ 33 = omega (arith, s .pre .ten, s .pre .whole) in
+    let l : s .args .l ≤ 10 = omega (arith, s .pre .ten, s .pre .whole) in
     omega (arith, mul-le-mul a b)
 
 returns-2 : tie.Need-returns-2
 returns-2 c =
     let s = c .before in
-    let two : 2 ≡ s .args .dimension = omega (arith, s .pre .0, s .pre .1, c .if1 .left) in
-    patch-place (s .args .degree) (s .args .h) (s .args .l) (s .pre .3)
+    let two : 2 ≡ s .args .dimension = omega (arith, s .pre .low, s .pre .high, c .if1 .left) in
+    patch-place (s .args .degree) (s .args .h) (s .args .l) (s .pre .whole)
     ∙ ap (λ k. placeOf (exponentsAt k (s .args .h) (s .args .l)) (monomials k (s .args .degree))) two
 
 pub monomial-place-spec : {M : Type 1} → statement M

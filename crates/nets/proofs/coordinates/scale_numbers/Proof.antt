@@ -45,8 +45,8 @@ scaled-requires c κs =
     let s = c .before .before .before in
     let l = c .before .before .loop in (
       subst (λ v. natAbs v ≤ 281474976710656) (sym (element (getD (s .args .coefficients .now) (s .args .width * s .args .from + l .c) (pos 0)) (c .scaled-arg .given)))
-          (s .pre .3 (s .args .width * s .args .from + l .c) (omega (arith, c .before .loop-test .taken))),
-      subst (λ v. natAbs v ≤ 2520) (sym (back-fits (s .fits .factor))) (s .pre .2),
+          (s .pre .each (s .args .width * s .args .from + l .c) (omega (arith, c .before .loop-test .taken))),
+      subst (λ v. natAbs v ≤ 2520) (sym (back-fits (s .fits .factor))) (s .pre .few),
     )
 
 add-t16 : tie.Need-add-t16 Inv-loop μ-loop
@@ -57,7 +57,7 @@ mul-t17 c = search needs
 
 slice-set-from-out : tie.Need-slice-set-from-out Inv-loop μ-loop
 slice-set-from-out c =
-    omega (arith, c .before .before .before .loop .inv .2, c .before .before .before .before .pre .0, c .before .before .loop-test .taken)
+    omega (arith, c .before .before .before .loop .inv .2, c .before .before .before .before .pre .room, c .before .before .loop-test .taken)
 
 add-c : tie.Need-add-c Inv-loop μ-loop
 add-c c = search needs

@@ -30,8 +30,8 @@ place-requires c κs =
     let few = degree-below (s .args .width) (s .args .dimension) (s .args .i) (s .pre .0) in
     (s .pre .0 .low, s .pre .0 .high, omega (arith, few), third-most s)
 
-copy-row-requires : tie.Need-copy-row-requires
-copy-row-requires c κs =
+put-front-requires : tie.Need-put-front-requires
+put-front-requires c κs =
     let s = c .before .before .before .before .before .before in
     let a = s .args in
     let y = c .before .before .before .before .blend-second in
@@ -47,7 +47,7 @@ returns c G holds =
     let a = s .args in
     let left = a .i - a .k in
     let y = c .before .before .before .before .before .before .blend-second in
-    c .before .copy-row .ensures
+    c .before .put-front .ensures
     ∙ ap (λ p. copiedRow (a .width) (a .out .now) p (y .last .0) 0) (c .before .before .before .before .place .ensures)
     ∙ copied-written (a .width) (placeAt (a .dimension) (a .i) (a .k)) (a .out .now) (y .last .0) (λ j. G j (replicate left (vertexOf (a .dimension) (a .frame .now) 1)))
     (λ j b.
@@ -55,4 +55,4 @@ returns c G holds =
     ∙ level-front (a .width) (a .dimension) left 1 (a .frame .now) (a .cur .now) (s .pre .3 .sized) (s .pre .0 .low) (s .pre .3 .long) G holds j b)
 
 pub last-entry-spec : {M : Type 1} → statement M
-last-entry-spec = tie.close (tie.spec sub-blend-second blend-second-requires place-requires copy-row-requires (λ c. search needs) (λ c. search needs) returns)
+last-entry-spec = tie.close (tie.spec sub-blend-second blend-second-requires place-requires put-front-requires (λ c. search needs) (λ c. search needs) returns)

@@ -1,6 +1,6 @@
 -- `make_in` meets its contract: the first group's net over its frame is made, then the second group's in each part of it, and what is left is the net over the frames.
 use borrow.Author.Needs.{needs}
-use Prim.Native.Nat.{ℕ, _+_, _≤_, _<_}
+use Prim.Native.Nat.{ℕ, _≤_, _<_}
 use native.Mathlib.Nat.{sub-zero, le-trans, le-of-eq, le-mul-of-pos-right, not-suc-le-zero}
 use native.Mathlib.Omega.{arith}
 use native.Mathlib.Decide.{decLt}
@@ -8,17 +8,17 @@ use mathlib.Core.Path.{_≡_, sym, ap, ap₂, _∙_, subst}
 use mathlib.Core.Bool.{true}
 use mathlib.Core.List.{List}
 use lib.IntN.{ℤ}
-use lib.ListN.{length, take, drop}
+use lib.ListN.{length, take}
 use Rattle.integers.specs.Test.{within, all}
-use Rattle.polar.specs.Order.{counts}
 use Rattle.entries.specs.Entries.{numberCount}
 use Rattle.entries.specs.Rows.{size}
 use Rattle.kinds.specs.Kinds.{dimensionOf, laterGroups, laterDimension, known, groupsOf}
-use Rattle.kinds.proofs.Counts.{known-size, entries-fit, size-fits}
+use Rattle.kinds.proofs.Counts.{known-size}
 use Rattle.machine.specs.Comparison.{Polynomials}
 use Rattle.machine.specs.First.{firstNet}
 use Rattle.machine.specs.Lent.{putAt, polynomialsFrom}
 use Rattle.nets.specs.FirstNet.{Room, Framing, Spare, framedList}
+use Rattle.nets.proofs.Steps.{entries-whole}
 use Rattle.nets.proofs.FirstMoves.{counts-some}
 use Rattle.nets.proofs.FirstSteps.{first-known, first-framed, first-within, first-framing, later-framing, part-size, one-made, two-made, first-ranged}
 use Rattle.nets.proofs.first.make_in.Statement.{statement}
@@ -62,7 +62,7 @@ module _ (s : tie.Start) where
   room-in xs enough = subst (λ k. k ≤ length xs) (known-size kind p q right) enough
 
   places : size w n p ≤ length (s .args .out .now)
-  places = subst (λ k. size w n p ≤ k) (sym (s .pre .0 .places)) (size-fits kind p q right)
+  places = room-in (s .args .out .now) (s .pre .1 .out-room)
 
 make-rows-requires : tie.Need-make-rows-requires
 make-rows-requires c κs =
@@ -119,14 +119,21 @@ made-is c = by (decLt 0 (laterDimension (kind s)))
         let none : laterDimension (kind s) ≡ 0 = omega arith in
         one-made (kind s) (p s) (q s) (right s) (frame s) (coefficients s) none (s .args .out .now) (c .make-later .last .0) (c .make-later .ensures .none none ∙ rows-are m)
 
-part-all-within-end : tie.Need-part-all-within-end
-part-all-within-end c =
+part-entries-within-end : tie.Need-part-entries-within-end
+part-entries-within-end c =
     let m = c .before .before .before .before .before .before in
     let s = m .before .before .before .before .before .before .before .before .before .before .before .before .before .before .before .before in
-    let few = entries-fit (kind s) (p s) (q s) (right s) in
     let count = c .before .number-count .ensures .entries in
-    let long = m .make-later .kept .0 ∙ m .before .before .before .before .before .before .before .before .before .make-rows .kept .0 ∙ s .pre .0 .places in
-    search needs
+    let long = m .make-later .kept .0 ∙ m .before .before .before .before .before .before .before .before .before .make-rows .kept .0 in
+    let enough = s .pre .1 .out-room in
+    omega arith
+
+entries-within-requires : tie.Need-entries-within-requires
+entries-within-requires c κs =
+    let d = c .before in
+    let m = d .before .before .before .before .before .before in
+    let s = m .before .before .before .before .before .before .before .before .before .before .before .before .before .before .before .before in
+    entries-whole (groupsOf (kind s) (p s) (q s)) (d .before .number-count .result) (m .make-later .last .0) (d .before .number-count .ensures .entries) (part-entries-within-end d)
 
 returns : tie.Need-returns
 returns c =
@@ -134,8 +141,8 @@ returns c =
     let s = m .before .before .before .before .before .before .before .before .before .before .before .before .before .before .before .before in
     let count = c .before .before .before .number-count in (
       made-is m,
-      first-ranged (kind s) (p s) (q s) (right s) (frame s) (coefficients s) (s .args .out .now) (m .make-later .last .0) (count .result) (c .all-within .result) (count .ensures .entries) (made-is m)
-          (c .all-within .ensures ∙ ap (λ k. all (within 281474976710656) (take k (m .make-later .last .0))) (sub-zero (count .result))),
+      first-ranged (kind s) (p s) (q s) (right s) (frame s) (coefficients s) (s .args .out .now) (m .make-later .last .0) (count .result) (c .entries-within .result) (count .ensures .entries) (made-is m)
+          (c .entries-within .ensures ∙ ap (λ k. all (within 281474976710656) (take k (m .make-later .last .0))) (sub-zero (count .result))),
     )
 
 pub make-in-spec : {M : Type 1} → statement M
@@ -149,8 +156,8 @@ make-in-spec =
     (λ c κs. search needs)
     (λ c. search needs)
     (λ c. search needs)
-    part-all-within-end
-    (λ c κs. search needs)
+    part-entries-within-end
+    entries-within-requires
     (λ c. search needs)
     (λ c. search needs)
     (λ c. search needs)
