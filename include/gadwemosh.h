@@ -31,10 +31,15 @@
  *   0          kind: 1 curve, 2 triangular patch, 3 rectangular patch
  *   1          degree: m, 1 to 10 for a curve, 1 to 8 for a triangular patch; p, 1 to 5, of a rectangular one
  *   2          second degree: q, 1 to 5, of a rectangular patch; 0 of the others
- *   3 to 11    kept free for the frame: not read, not written
+ *   3 to 11    the frame that the net has reached: 4, 9 or 8 numbers by the kind, as below
  *   12 on      x, y, z, w of each entry, in order
  *   192        kept free for the largest component: not read, not written
  *   193 on     the caller's, where the run is longer
+ *
+ *   kind           the frame's places   what stands there
+ *   1 curve        3 to 6               T, Z of r, then of s
+ *   2 triangular   3 to 11              U, V, Z of r, then of s, then of t
+ *   3 rectangular  3 to 10              T1, Z1 of r1, then of s1; T2, Z2 of r2, then of s2
  *
  *   kind           entries              the entry's first place
  *   1 curve        m + 1                12 + 4 j, with j copies of s and m - j of r
@@ -52,12 +57,20 @@
  * In a rectangular patch's the copies of s1 rise, and for each of them those of s2 rise: (0, 0), (0, 1), (1, 0),
  * (1, 1), (2, 0), (2, 1) of s1, s2 in degrees 2 and 1.
  *
- * Only kind, degrees and the numbers of the entries are read and written. All other places, those between the
- * last entry and 192 too, hold anything and keep their values.
+ * Only kind, degrees, the numbers of the frame and those of the entries are read and written. All other places,
+ * those between the frame's last number and 12 and those between the last entry and 192 too, hold anything and
+ * keep their values.
  *
- * LIMITS. Numbers of a net and of a point are at most GADWEMOSH_LARGEST, weights at most 4096, numbers of a
- * first frame at most 4, coefficients at most 1048576, all of either sign. docs/RECORDS.md says more of
- * all this, and what the bytes of a record mean. */
+ * THE FRAME of a first net is that of the record, or the one handed to gadwemosh_first. A replace that is taken
+ * puts the point at its weights in the vertex's place, a flip that is taken puts -v in the place of v. A point
+ * and a refused call leave the frame as it was. So the frame says which stretch of the curve, or which part of
+ * the patch, a net covers, and whoever passes on all places of a net passes on its frame. The frame of a net
+ * that is handed over is taken as it is: the size of its numbers is tested, and nothing else. A determinant 0 is
+ * no refusal there, and entries alone do not say what their frame is.
+ *
+ * LIMITS. Numbers of a net, of its frame and of a point are at most GADWEMOSH_LARGEST, weights at most 4096,
+ * numbers of a first frame at most 4, coefficients at most 1048576, all of either sign. docs/RECORDS.md says more
+ * of all this, and what the bytes of a record mean. */
 #ifndef GADWEMOSH_H
 #define GADWEMOSH_H
 
@@ -68,9 +81,13 @@
 extern "C" {
 #endif
 
-/* How many places a net has at least, and where its entries begin. */
+/* How many places a net has at least, where the numbers of its frame begin, and where its entries do. */
 #define GADWEMOSH_NET 193
+#define GADWEMOSH_FRAME_PLACE 3
 #define GADWEMOSH_ENTRIES 12
+
+/* How many numbers the frame of a net of this kind has: 4, 9 or 8. */
+#define GADWEMOSH_FRAME_NUMBERS(kind) ((kind) == GADWEMOSH_CURVE ? 4 : (kind) == GADWEMOSH_PATCH ? 9 : 8)
 
 /* How many entries a net of degree m, or of degrees p and q, has; this is also the number of monomials. PATCH
  * is a triangular patch, RECT a rectangular one. */
@@ -88,12 +105,12 @@ extern "C" {
 #define GADWEMOSH_FRAME 9
 #define GADWEMOSH_COEFFICIENTS 180
 
-/* The largest number of a net or a point, 2 to the 48th. */
+/* The largest number of a net, of its frame or of a point, 2 to the 48th. */
 #define GADWEMOSH_LARGEST INT64_C(281474976710656)
 
 /* No accepted record and no text has more bytes, and no call takes more bytes of stack. */
 #define GADWEMOSH_LONGEST_RECORD 1017
-#define GADWEMOSH_LONGEST_TEXT 4096
+#define GADWEMOSH_LONGEST_TEXT 4183
 #define GADWEMOSH_STACK 16384
 
 /* Kinds. */
@@ -121,28 +138,30 @@ extern "C" {
 #define GADWEMOSH_FIELD_MOVES 4
 #define GADWEMOSH_FIELD_POINT 5
 
-/* Refusals: 1 to 7 of a record, 4 to 7 of a first net, 4 and 8 to 10 of a call on a net, 10 of a projection,
+/* Refusals: 1 to 7 of a record, 4 to 7 of a first net, 4, 8 to 10 and 12 of a call on a net, 10 of a projection,
  * 11 of every function but gadwemosh_field. Where several causes hold, 11 goes first; a record is judged from
- * front to back, a first net in the order 4, 5, 6, 7, a call in the order 4, 10 of the net, 8, 9, 10. */
-#define GADWEMOSH_REFUSED_CUT_SHORT 1   /* the bytes end within a field */
-#define GADWEMOSH_REFUSED_TAG 2         /* a field that must not stand there, or a missing one */
-#define GADWEMOSH_REFUSED_LENGTH 3      /* a length that the field cannot have */
-#define GADWEMOSH_REFUSED_KIND 4        /* kind or a degree outside, or field 1 not of its kind's length */
-#define GADWEMOSH_REFUSED_FRAME 5       /* a number of the frame beyond 4, or a determinant 0 */
-#define GADWEMOSH_REFUSED_COEFFICIENT 6 /* a coefficient beyond 1048576 */
-#define GADWEMOSH_REFUSED_FIRST_NET 7   /* a first net with a number beyond GADWEMOSH_LARGEST */
-#define GADWEMOSH_REFUSED_ARGUMENT 8    /* operation, vertex or weight outside, or an unused weight not 0 */
-#define GADWEMOSH_REFUSED_NO_WEIGHT 9   /* weight 0 for the replaced vertex, or all weights of a point or pair 0 */
-#define GADWEMOSH_REFUSED_RANGE 10      /* a number handed over, or a polar value, beyond GADWEMOSH_LARGEST */
-#define GADWEMOSH_REFUSED_SHORT 11      /* a buffer with too few places */
+ * front to back, a first net in the order 4, 5, 6, 7, a call in the order 4, 10 of the net's entries, 8, 9, 12,
+ * 10 of its polar values. */
+#define GADWEMOSH_REFUSED_CUT_SHORT 1    /* the bytes end within a field */
+#define GADWEMOSH_REFUSED_TAG 2          /* a field that must not stand there, or a missing one */
+#define GADWEMOSH_REFUSED_LENGTH 3       /* a length that the field cannot have */
+#define GADWEMOSH_REFUSED_KIND 4         /* kind or a degree outside, or field 1 not of its kind's length */
+#define GADWEMOSH_REFUSED_FRAME 5        /* a number of the frame beyond 4, or a determinant 0 */
+#define GADWEMOSH_REFUSED_COEFFICIENT 6  /* a coefficient beyond 1048576 */
+#define GADWEMOSH_REFUSED_FIRST_NET 7    /* a first net with a number beyond GADWEMOSH_LARGEST */
+#define GADWEMOSH_REFUSED_ARGUMENT 8     /* operation, vertex or weight outside, or an unused weight not 0 */
+#define GADWEMOSH_REFUSED_NO_WEIGHT 9    /* weight 0 for the replaced vertex, or all weights of a point or pair 0 */
+#define GADWEMOSH_REFUSED_RANGE 10       /* a handed entry or component, or a polar value, beyond GADWEMOSH_LARGEST */
+#define GADWEMOSH_REFUSED_SHORT 11       /* a buffer with too few places */
+#define GADWEMOSH_REFUSED_FRAME_RANGE 12 /* a number of the net's frame or of a new vertex beyond GADWEMOSH_LARGEST */
 
 /* Outcomes of a projection. */
 #define GADWEMOSH_FINITE 1
 #define GADWEMOSH_DIRECTION 2
 #define GADWEMOSH_NOWHERE 3
 
-/* Opens a record. The first net is written where the answer is 0. A refused record writes no net, and
- * `offset` says where in the record the cause stands; it is 0 where the answer is 0 or 11. */
+/* Opens a record. The first net, over the record's frame, is written where the answer is 0. A refused record
+ * writes no net, and `offset` says where in the record the cause stands; it is 0 where the answer is 0 or 11. */
 uint8_t gadwemosh_open(const uint8_t *record, size_t record_length, int64_t *net, size_t net_length,
                        uint64_t *offset);
 
@@ -153,7 +172,8 @@ uint8_t gadwemosh_open(const uint8_t *record, size_t record_length, int64_t *net
  *
  *   tag            value, numbers with the high byte first, in two's complement
  *   1 kind         a byte for the kind and a byte for the degree, or for each degree of a rectangular patch
- *   2 frame        4, 9 or 8 numbers by the kind, as gadwemosh_first takes them, of two bytes each
+ *   2 frame        4, 9 or 8 numbers by the kind, as gadwemosh_first takes them, of two bytes each: the frame of
+ *                  the first net
  *   3 coefficients x, y, z, w of each monomial, as gadwemosh_first takes them, of four bytes each
  *   4 moves        for each of up to 32 moves a byte for the operation, a byte for the vertex, and the first
  *                  three weights that gadwemosh_move takes, of two bytes each; the fourth is 0
@@ -178,22 +198,26 @@ uint8_t gadwemosh_field(const uint8_t *record, size_t record_length, uint8_t tag
  *
  * The determinant of the frame, for a rectangular patch that of each pair, must not be 0. The coefficients are
  * x, y, z, w of each monomial. The buffers have GADWEMOSH_FRAME and GADWEMOSH_COEFFICIENTS numbers or more; what
- * kind and degrees do not use holds anything. A refusal is 4, 5, 6 or 7, or 11 where one of the three buffers
- * is too short, and writes nothing. */
+ * kind and degrees do not use holds anything. The frame's numbers are written into the net, before its entries. A
+ * refusal is 4, 5, 6 or 7, or 11 where one of the three buffers is too short, and writes nothing. */
 uint8_t gadwemosh_first(uint8_t kind, uint8_t degree, uint8_t second, const int64_t *frame,
                         size_t frame_length, const int64_t *coefficients, size_t coefficients_length,
                         int64_t *net, size_t net_length);
 
 /* Replaces (1) a vertex by the point at the weights, or flips (2) it. The weights are those of r, s and t; for
  * a rectangular patch the first two are those of the vertex's own pair, r1 and s1 or r2 and s2. Unused ones are
- * 0: the third of all but a triangular patch, the fourth, all of a flip. A refused move leaves the net as it
- * was. */
+ * 0: the third of all but a triangular patch, the fourth, all of a flip.
+ *
+ * A move that is taken writes the entries and the vertex's own numbers in the frame. It is refused 12 where a
+ * number of the net's frame, or for a replace a number of the point at the weights, is beyond GADWEMOSH_LARGEST,
+ * and then it does not matter how large the polar values are. A refused move leaves the net as it was. */
 uint8_t gadwemosh_move(int64_t *net, size_t net_length, uint8_t operation, uint8_t vertex, int64_t r,
                        int64_t s, int64_t t, int64_t u);
 
 /* Finds the point at the weights: x, y, z, w go into the first four places of `found`. The weights are those
  * of r, s and t, or of r1, s1, r2 and s2; unused ones are 0: the third of a curve, the fourth of all but a
- * rectangular patch. A refusal writes nothing. */
+ * rectangular patch. It is refused 12 where a number of the net's frame is beyond GADWEMOSH_LARGEST; those of the
+ * parameter point at the weights may be. A refusal writes nothing. */
 uint8_t gadwemosh_point(const int64_t *net, size_t net_length, int64_t r, int64_t s, int64_t t, int64_t u,
                         int64_t *found, size_t found_length);
 

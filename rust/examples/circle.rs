@@ -1,6 +1,7 @@
 //! Splits a curve: reads its record from standard input, opens it, and makes its two halves at the weights
-//! (1, 1), by replacing s in one copy of the net and r in another. Then takes the record's own moves and
-//! finds its own point. `tests/callers/circle.c` does the same in C.
+//! (1, 1), by replacing s in one copy of the net and r in another; each half has a line with the frame that
+//! it has reached. Then takes the record's own moves and finds its own point. `tests/callers/circle.c` does
+//! the same in C.
 //!
 //! In this folder: `cargo run --example circle < ../crates/netprint/stdin`.
 
@@ -11,6 +12,11 @@ use std::process::ExitCode;
 
 fn print_net(name: &str, net: &Net) {
     println!("{name}");
+    print!("frame");
+    for number in net.frame() {
+        print!(" {number}");
+    }
+    println!();
     for [x, y, z, w] in net.entries() {
         println!("{x} {y} {z} {w}");
     }

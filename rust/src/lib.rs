@@ -1,9 +1,10 @@
 //! Exact control nets of rational curves, triangular patches and rectangular patches.
 //!
 //! A control net is made from a record ([`Net::open`]), from polynomials and a frame ([`Net::first`]) or
-//! from its own entries ([`Net::of_entries`]). It is moved to other frames by [`Net::replace`] and
-//! [`Net::flip`], and asked for points by [`Net::point`]; [`project`] says where a point lies. All numbers
-//! are whole, and nothing is rounded before the projection.
+//! from its own frame and entries ([`Net::of_entries`]). It is moved to other frames by [`Net::replace`] and
+//! [`Net::flip`], carries the frame that it has reached ([`Net::frame`]), and is asked for points by
+//! [`Net::point`]; [`project`] says where a point lies. All numbers are whole, and nothing is rounded before the
+//! projection.
 //!
 //! What each call answers is proved, for all inputs: the functions here pass on what a proved static
 //! library says. A call is refused ([`Refused`]) or it is not, and what is refused changes nothing.
@@ -20,6 +21,7 @@
 //! let middle = net.point([1, 1, 0, 0])?;
 //! assert_eq!(project(middle)?, Projection::Finite([0.6, 0.8, 0.0]));
 //! net.replace(Vertex::S, [1, 1, 0, 0])?;
+//! assert_eq!(net.frame(), [0, 1, 1, 2]);
 //! assert!(net.entries().eq([[2, 0, 0, 2], [4, 2, 0, 4], [6, 8, 0, 10]]));
 //! # Ok::<(), gadwemosh::Refused>(())
 //! ```
@@ -38,6 +40,7 @@
 //! let middle = net.point([1, 1, 1, 1])?;
 //! assert_eq!(project(middle)?, Projection::Finite([0.5, 0.5, 0.25]));
 //! net.replace(Vertex::S2, [1, 1, 0, 0])?;
+//! assert_eq!(net.frame(), [0, 1, 1, 1, 0, 1, 1, 2]);
 //! assert!(net.entries().eq([[0, 0, 0, 1], [0, 1, 0, 2], [1, 0, 0, 1], [2, 1, 1, 2]]));
 //! # Ok::<(), gadwemosh::Refused>(())
 //! ```

@@ -3,6 +3,7 @@
 use crate::raw;
 use crate::refused::{answer, RecordRefused, Refused};
 use crate::{Components, Weights};
+use std::fmt::{Debug, Formatter, Result as Written};
 
 /// What a net is a net of.
 #[derive(Clone, Copy, Debug, PartialEq, Eq, Hash)]
@@ -31,6 +32,11 @@ impl Kind {
             Kind::Curve | Kind::Rectangular => 2,
             Kind::Triangular => 3,
         }
+    }
+
+    /// How many numbers a frame has.
+    pub fn frame_numbers(self) -> usize {
+        self.vertices().len() * self.coordinates()
     }
 
     /// The largest degree, for both degrees of a rectangular patch; the smallest is 1.
@@ -141,15 +147,28 @@ pub struct Move {
     pub weights: Weights,
 }
 
-/// A control net. Two nets are equal where kind, degrees and every entry are.
-#[derive(Clone, Debug, PartialEq, Eq, Hash)]
+/// A control net over the frame that it has reached. Two nets are equal where kind, degrees, every number of the
+/// frame, signs included, and every entry are.
+#[derive(Clone, PartialEq, Eq, Hash)]
 pub struct Net {
     /// What `include/gadwemosh.h` says; the places that are not in use are 0.
     places: [i64; raw::NET],
 }
 
+/// Says what is in use, and nothing of the other places.
+impl Debug for Net {
+    fn fmt(&self, f: &mut Formatter) -> Written {
+        f.debug_struct("Net")
+            .field("kind", &self.kind())
+            .field("degrees", &self.degrees())
+            .field("frame", &self.frame())
+            .field("entries", &self.entries().collect::<Vec<_>>())
+            .finish()
+    }
+}
+
 impl Net {
-    /// The first net of a record.
+    /// The first net of a record, over the record's frame.
     pub fn open(record: &[u8]) -> Result<Net, RecordRefused> {
         let mut net = Net::blank();
         let mut offset = 0;
@@ -181,8 +200,7 @@ impl Net {
         let degrees = degrees.into();
         // a degree outside uses nothing here, and is refused below
         let monomials = kind.entries(degrees).unwrap_or(0);
-        let frame_numbers = kind.vertices().len() * kind.coordinates();
-        let frame: [i64; raw::FRAME] = filled(frame, frame_numbers)?;
+        let frame: [i64; raw::FRAME] = filled(frame, kind.frame_numbers())?;
         let coefficients: [i64; raw::COEFFICIENTS] =
             filled(coefficients.as_flattened(), 4 * monomials)?;
         let number = raw::first(
@@ -196,30 +214,41 @@ impl Net {
         answer(number).map(|()| net)
     }
 
-    /// The net with these entries, in the order of [`Net::entries`]. Too few entries are refused
-    /// ([`Refused::SHORT`]), and entries past those of kind and degrees are not looked at.
+    /// The net with this frame and these entries, in the order of [`Net::frame`] and [`Net::entries`]. A net that
+    /// somebody passed on is made again so:
+    ///
+    /// ```
+    /// use gadwemosh::{Kind, Net, Refused, Vertex};
+    ///
+    /// let entries = [[2, 0, 0, 2], [4, 2, 0, 4], [6, 8, 0, 10]];
+    /// let mut net = Net::of_entries(Kind::Curve, 2, &[0, 1, 1, 2], &entries)?;
+    /// net.flip(Vertex::S)?;
+    /// assert_eq!(net.frame(), [0, 1, -1, -2]);
+    /// # Ok::<(), Refused>(())
+    /// ```
+    ///
+    /// Nothing is guessed: entries alone do not say over which frame they stand, so the frame must be there, and
+    /// it is taken as it is. Its determinant may be 0, and its numbers may be up to 2 to the 48th; one beyond is
+    /// refused ([`Refused::FRAME_RANGE`]), as is such a number of an entry ([`Refused::RANGE`]), which is judged
+    /// first. Too few numbers or entries are refused ([`Refused::SHORT`]), and those past what kind and degrees
+    /// use are not looked at.
     pub fn of_entries(
         kind: Kind,
         degrees: impl Into<Degrees>,
+        frame: &[i64],
         entries: &[Components],
     ) -> Result<Net, Refused> {
         let degrees = degrees.into();
         let count = kind.entries(degrees).ok_or(Refused::KIND)?;
+        let vertices = frame.get(..kind.frame_numbers()).ok_or(Refused::SHORT)?;
         let used = entries.get(..count).ok_or(Refused::SHORT)?.as_flattened();
         let mut net = Net::blank();
         let head = [kind as u8, degrees.first, degrees.second];
         net.places[..3].copy_from_slice(&head.map(i64::from));
+        net.places[raw::FRAME_PLACE..][..vertices.len()].copy_from_slice(vertices);
         net.places[raw::ENTRIES..][..used.len()].copy_from_slice(used);
-        // a move of no operation is judged after the net, so what it is refused for says how the net is
-        let no_operation = Move {
-            operation: 0,
-            vertex: 0,
-            weights: [0; 4],
-        };
-        match net.take(no_operation) {
-            Err(Refused::ARGUMENT) | Ok(()) => Ok(net),
-            Err(refused) => Err(refused),
-        }
+        // a flip is refused for nothing but the net that it gets, so a copy's flip says how the net is
+        net.clone().flip(kind.vertices()[0]).map(|()| net)
     }
 
     fn blank() -> Net {
@@ -243,6 +272,29 @@ impl Net {
             first: self.places[1] as u8,
             second: self.places[2] as u8,
         }
+    }
+
+    /// The frame that the net has reached, vertex by vertex in the order of [`Kind::vertices`]: T, Z of r and s
+    /// for a curve, U, V, Z of r, s and t for a triangular patch, T₁, Z₁ of r1 and s1 and T₂, Z₂ of r2 and s2 for a
+    /// rectangular one. These are 4, 9 or 8 numbers ([`Kind::frame_numbers`]), none of them beyond 2 to the 48th.
+    ///
+    /// The frame of a first net is that of its record, or the one that it was made over. A replace that is taken
+    /// puts the point at its weights in the vertex's place, and a flip puts the vertex's negative there; a refused
+    /// call leaves the frame as it was.
+    ///
+    /// ```
+    /// use gadwemosh::{Kind, Net, Vertex};
+    ///
+    /// let mut net = Net::first(Kind::Curve, 1, &[0, 1, 1, 1], &[[0, 0, 0, 1], [1, 0, 0, 0]])?;
+    /// net.replace(Vertex::S, [1, 1, 0, 0])?;
+    /// net.flip(Vertex::R)?;
+    /// assert_eq!(net.frame(), [0, -1, 1, 2]);
+    /// let mut vertices = net.frame().chunks(net.kind().coordinates());
+    /// assert_eq!(vertices.next(), Some(&[0, -1][..]));
+    /// # Ok::<(), gadwemosh::Refused>(())
+    /// ```
+    pub fn frame(&self) -> &[i64] {
+        &self.places[raw::FRAME_PLACE..][..self.kind().frame_numbers()]
     }
 
     /// The entries in their order. For a curve the copies of s rise; for a triangular patch the copies of r
@@ -272,7 +324,7 @@ impl Net {
     }
 
     /// Puts the point at the weights in a vertex's place. A vertex that the kind does not have is refused
-    /// ([`Refused::ARGUMENT`]).
+    /// ([`Refused::ARGUMENT`]), and so is a point with a number beyond 2 to the 48th ([`Refused::FRAME_RANGE`]).
     pub fn replace(&mut self, vertex: Vertex, weights: Weights) -> Result<(), Refused> {
         self.take(Move {
             operation: raw::REPLACE,

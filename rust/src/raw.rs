@@ -80,6 +80,10 @@ mod c {
 /// How many places a net has at least.
 pub const NET: usize = 193;
 
+/// At which place of a net the numbers of its frame begin; [`Kind::frame_numbers`](crate::Kind::frame_numbers)
+/// says how many there are.
+pub const FRAME_PLACE: usize = 3;
+
 /// At which place of a net its entries begin.
 pub const ENTRIES: usize = 12;
 
@@ -91,7 +95,7 @@ pub const FRAME: usize = 9;
 pub const COEFFICIENTS: usize = 180;
 
 /// No text of a record has more bytes.
-pub const LONGEST_TEXT: usize = 4096;
+pub const LONGEST_TEXT: usize = 4183;
 
 /// The operation of [`make_move`] that replaces a vertex.
 pub const REPLACE: u8 = 1;
@@ -127,7 +131,8 @@ pub fn open(record: &[u8], net: &mut [i64], offset: &mut u64) -> u8 {
 
 /// Makes the first net of polynomials over a frame, without a record (`gadwemosh_first`). The second degree
 /// is that of a rectangular patch, and 0 for the other kinds. The frame wants [`FRAME`] numbers and the
-/// coefficients want [`COEFFICIENTS`]; those that kind and degrees do not use may be anything.
+/// coefficients want [`COEFFICIENTS`]; those that kind and degrees do not use may be anything. The frame's
+/// numbers are written into the net too, from [`FRAME_PLACE`] on.
 #[inline]
 #[must_use]
 pub fn first(
@@ -154,8 +159,9 @@ pub fn first(
     }
 }
 
-/// Replaces or flips a vertex of a lent net (`gadwemosh_move`). The weights are those of r, s and t; for a
-/// rectangular patch the first two are those of the vertex's own pair. The others are 0.
+/// Replaces or flips a vertex of a lent net (`gadwemosh_move`): a move that is taken writes the entries and the
+/// vertex's numbers in the frame. The weights are those of r, s and t; for a rectangular patch the first two are
+/// those of the vertex's own pair. The others are 0.
 #[inline]
 #[must_use]
 pub fn make_move(net: &mut [i64], operation: u8, vertex: u8, weights: [i64; 4]) -> u8 {

@@ -10,7 +10,7 @@ use crate::Weights;
 pub enum Field {
     /// Kind and degree, a byte each, and a byte for the second degree of a rectangular patch.
     Kind = 1,
-    /// The frame.
+    /// The frame of the first net.
     Frame = 2,
     /// The coefficients.
     Coefficients = 3,

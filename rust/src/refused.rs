@@ -17,7 +17,7 @@ impl Refused {
     pub const LENGTH: Refused = Refused(3);
     /// A kind or a degree that no net has, or a record's field 1 that is not of its kind's length.
     pub const KIND: Refused = Refused(4);
-    /// A number of the frame beyond 4, or a determinant 0.
+    /// A number of a first frame beyond 4, or a determinant 0.
     pub const FRAME: Refused = Refused(5);
     /// A coefficient beyond 1048576.
     pub const COEFFICIENT: Refused = Refused(6);
@@ -27,10 +27,14 @@ impl Refused {
     pub const ARGUMENT: Refused = Refused(8);
     /// The replaced vertex, or every vertex of a point or of one of its pairs, has weight 0.
     pub const NO_WEIGHT: Refused = Refused(9);
-    /// A number that was handed over, or a polar value that the call names, is beyond 2 to the 48th.
+    /// An entry or a component that was handed over, or a polar value that the call names, is beyond 2 to the
+    /// 48th.
     pub const RANGE: Refused = Refused(10);
     /// A lent buffer has too few places.
     pub const SHORT: Refused = Refused(11);
+    /// A number of a frame that was handed over, or of the point that a replace would put in a vertex's place, is
+    /// beyond 2 to the 48th.
+    pub const FRAME_RANGE: Refused = Refused(12);
 
     /// The number of the refusal.
     pub fn number(self) -> u8 {
@@ -43,7 +47,7 @@ impl Refused {
             Refused::TAG => "a field must not stand there, or one is missing",
             Refused::LENGTH => "a length that the field cannot have",
             Refused::KIND => "a kind or degree that no net has",
-            Refused::FRAME => "a number of the frame beyond 4, or determinant 0",
+            Refused::FRAME => "a number of the first frame beyond 4, or determinant 0",
             Refused::COEFFICIENT => "a coefficient beyond 1048576",
             Refused::FIRST_NET => "a number of the first net beyond 2 to the 48th",
             Refused::ARGUMENT => {
@@ -52,8 +56,9 @@ impl Refused {
             Refused::NO_WEIGHT => {
                 "weight 0 for the replaced vertex, or for every vertex of a point or of a pair"
             }
-            Refused::RANGE => "a number or a polar value beyond 2 to the 48th",
+            Refused::RANGE => "an entry, a component or a polar value beyond 2 to the 48th",
             Refused::SHORT => "a buffer with too few places",
+            Refused::FRAME_RANGE => "a number of the frame or of a new vertex beyond 2 to the 48th",
             _ => "a cause that this package does not know",
         }
     }

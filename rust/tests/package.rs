@@ -2,7 +2,7 @@
 //! (`tests/compare`); here are the things that this package adds.
 
 use gadwemosh::{
-    project, text, write_text, Components, Degrees, Field, Kind, Move, Net, Projection,
+    project, raw, text, write_text, Components, Degrees, Field, Kind, Move, Net, Projection,
 };
 use gadwemosh::{Record, RecordRefused, Refused, Vertex};
 use std::error::Error;
@@ -10,6 +10,7 @@ use std::error::Error;
 /// The circle of document 01, and its net.
 const CIRCLE: [Components; 3] = [[1, 0, 0, 1], [0, 2, 0, 0], [-1, 0, 0, 1]];
 const CIRCLE_NET: [Components; 3] = [[2, 0, 0, 2], [2, 2, 0, 2], [0, 4, 0, 4]];
+const CIRCLE_FRAME: [i64; 4] = [0, 1, 1, 1];
 
 /// The triangular patch of sample B8, Z², VZ, V², UZ, UV, U², and its net.
 const PATCH: [Components; 6] = [
@@ -50,8 +51,15 @@ const RECT_NET: [Components; 6] = [
 ];
 const RECT_FRAME: [i64; 8] = [0, 1, 1, 1, 1, 1, -1, 2];
 
+/// The largest number of a net, of its frame or of a point.
+const LARGEST: i64 = 1 << 48;
+
 fn circle() -> Net {
-    Net::first(Kind::Curve, 2, &[0, 1, 1, 1], &CIRCLE).unwrap()
+    Net::first(Kind::Curve, 2, &CIRCLE_FRAME, &CIRCLE).unwrap()
+}
+
+fn patch() -> Net {
+    Net::first(Kind::Triangular, 2, &PATCH_FRAME, &PATCH).unwrap()
 }
 
 fn rect() -> Net {
@@ -97,21 +105,28 @@ fn both_halves_of_the_circle() {
     ];
     assert!(first.entries().eq(halves[0]) && second.entries().eq(halves[1]));
     assert_eq!(first.entries().next_back(), second.entries().next());
+    // they meet at r + s = (1, 2)
+    assert_eq!(first.frame(), [0, 1, 1, 2]);
+    assert_eq!(second.frame(), [1, 2, 1, 1]);
     first.flip(Vertex::R).unwrap();
     assert_eq!(first.entries().nth(1), Some([-4, -2, 0, -4]));
+    assert_eq!(first.frame(), [0, -1, 1, 2]);
 }
 
 #[test]
 fn a_net_from_numbers() {
-    let patch = Net::first(Kind::Triangular, 2, &PATCH_FRAME, &PATCH).unwrap();
+    let patch = patch();
     assert_eq!(
         (patch.kind(), patch.degrees()),
         (Kind::Triangular, 2.into())
     );
+    assert_eq!(patch.frame(), PATCH_FRAME);
     assert!(patch.entries().eq(PATCH_NET));
     assert_eq!(patch.point([1, 1, 1, 0]), Ok([6, 6, 2, 18]));
-    assert_eq!(patch.places()[..4], [2, 2, 0, 0]);
-    assert_eq!(patch.places()[12..16], [2, 0, 0, 2]);
+    assert_eq!(
+        patch.places()[..16],
+        [2, 2, 0, 1, 0, 1, 0, 1, 1, 0, 0, 1, 2, 0, 0, 2]
+    );
 
     // fewer numbers than are in use are refused, and further ones are not looked at
     let short = Err(Refused::SHORT);
@@ -125,16 +140,21 @@ fn a_net_from_numbers() {
     );
     let (frame, mut further) = ([0, 1, 1, 1, i64::MAX], CIRCLE.to_vec());
     further.push([i64::MIN; 4]);
-    assert_eq!(Net::first(Kind::Curve, 2, &frame, &further), Ok(circle()));
+    let circle = Net::first(Kind::Curve, 2, &frame, &further).unwrap();
+    assert_eq!(circle.frame(), CIRCLE_FRAME);
+    assert!(circle.entries().eq(CIRCLE_NET));
+    // what the kind does not use of the frame's places is 0
+    assert_eq!(circle.places()[..12], [1, 2, 0, 0, 1, 1, 1, 0, 0, 0, 0, 0]);
 
     let ones = [[1; 4]; 45];
     for (kind, frame) in [
-        (Kind::Curve, &[0, 1, 1, 1][..]),
+        (Kind::Curve, &CIRCLE_FRAME[..]),
         (Kind::Triangular, &PATCH_FRAME),
     ] {
         for degree in 1..=kind.largest_degree() {
             let net = Net::first(kind, degree, frame, &ones).unwrap();
             assert_eq!(Some(net.entries().len()), kind.entries(degree));
+            assert_eq!(net.frame(), frame);
         }
         for degree in [0, kind.largest_degree() + 1, 255] {
             assert_eq!(Net::first(kind, degree, frame, &ones), Err(Refused::KIND));
@@ -147,8 +167,9 @@ fn a_rectangular_patch_from_numbers() {
     let net = rect();
     assert_eq!(net.kind(), Kind::Rectangular);
     assert_eq!(net.degrees(), Degrees::from([2, 1]));
+    assert_eq!(net.frame(), RECT_FRAME);
     assert!(net.entries().eq(RECT_NET));
-    assert_eq!(net.places()[..4], [3, 2, 1, 0]);
+    assert_eq!(net.places()[..12], [3, 2, 1, 0, 1, 1, 1, 1, 1, -1, 2, 0]);
     assert_eq!(net.point([1, 2, 3, -1]), Ok([8, 48, 72, 18]));
 
     let make = |degrees: [u8; 2], frame: &[i64], coefficients: &[Components]| {
@@ -172,7 +193,7 @@ fn two_degrees() {
     for p in 0..=6 {
         for q in 0..=6 {
             let made = Net::first(Kind::Rectangular, [p, q], &RECT_FRAME, &ones);
-            let of_entries = Net::of_entries(Kind::Rectangular, [p, q], &ones);
+            let of_entries = Net::of_entries(Kind::Rectangular, [p, q], &RECT_FRAME, &ones);
             if (1..=5).contains(&p) && (1..=5).contains(&q) {
                 let count = usize::from(p + 1) * usize::from(q + 1);
                 assert_eq!(made.unwrap().entries().len(), count);
@@ -184,21 +205,26 @@ fn two_degrees() {
         }
     }
     // the other kinds have one degree
-    let curve = Net::first(Kind::Curve, [2, 1], &[0, 1, 1, 1], &CIRCLE);
+    let curve = Net::first(Kind::Curve, [2, 1], &CIRCLE_FRAME, &CIRCLE);
     assert_eq!(curve, Err(Refused::KIND));
-    let patch = Net::of_entries(Kind::Triangular, [2, 1], &PATCH_NET);
+    let patch = Net::of_entries(Kind::Triangular, [2, 1], &PATCH_FRAME, &PATCH_NET);
     assert_eq!(patch, Err(Refused::KIND));
 }
 
 #[test]
 fn moves_in_each_pair() {
-    let moved = |make: fn(&mut Net) -> Result<(), Refused>| {
+    let moved = |make: fn(&mut Net) -> Result<(), Refused>, frame: [i64; 8]| {
         let mut net = rect();
         make(&mut net).unwrap();
+        assert_eq!(net.frame(), frame);
         net.entries().collect::<Vec<_>>()
     };
+    // s1 becomes r1 + s1, and r2 becomes 2 r2 - s2
     assert_eq!(
-        moved(|net| net.replace(Vertex::S1, [1, 1, 0, 0])),
+        moved(
+            |net| net.replace(Vertex::S1, [1, 1, 0, 0]),
+            [0, 1, 1, 2, 1, 1, -1, 2]
+        ),
         [
             [0, 0, 2, 2],
             [0, 0, -2, 4],
@@ -209,7 +235,10 @@ fn moves_in_each_pair() {
         ]
     );
     assert_eq!(
-        moved(|net| net.replace(Vertex::R2, [2, -1, 0, 0])),
+        moved(
+            |net| net.replace(Vertex::R2, [2, -1, 0, 0]),
+            [0, 1, 1, 1, 3, 0, -1, 2]
+        ),
         [
             [0, 0, 6, 0],
             [0, 0, -2, 4],
@@ -219,7 +248,7 @@ fn moves_in_each_pair() {
             [4, -2, -2, 4],
         ]
     );
-    // a flip changes the sign of the entries that have an odd number of copies of the vertex
+    // a flip changes the sign of the vertex, and of the entries that have an odd number of copies of it
     let signs_changed = |odd: &[usize]| {
         let mut net = RECT_NET;
         for &entry in odd {
@@ -227,10 +256,51 @@ fn moves_in_each_pair() {
         }
         net
     };
-    assert_eq!(moved(|net| net.flip(Vertex::R1)), signs_changed(&[2, 3]));
-    assert_eq!(moved(|net| net.flip(Vertex::S1)), signs_changed(&[2, 3]));
-    assert_eq!(moved(|net| net.flip(Vertex::R2)), signs_changed(&[0, 2, 4]));
-    assert_eq!(moved(|net| net.flip(Vertex::S2)), signs_changed(&[1, 3, 5]));
+    assert_eq!(
+        moved(|net| net.flip(Vertex::R1), [0, -1, 1, 1, 1, 1, -1, 2]),
+        signs_changed(&[2, 3])
+    );
+    assert_eq!(
+        moved(|net| net.flip(Vertex::S1), [0, 1, -1, -1, 1, 1, -1, 2]),
+        signs_changed(&[2, 3])
+    );
+    assert_eq!(
+        moved(|net| net.flip(Vertex::R2), [0, 1, 1, 1, -1, -1, -1, 2]),
+        signs_changed(&[0, 2, 4])
+    );
+    assert_eq!(
+        moved(|net| net.flip(Vertex::S2), [0, 1, 1, 1, 1, 1, 1, -2]),
+        signs_changed(&[1, 3, 5])
+    );
+}
+
+/// A triangular patch's frame along a list of calls: moves that are taken, refused ones and a point.
+#[test]
+fn the_frame_along_a_list() {
+    let mut net = patch();
+    net.replace(Vertex::T, [1, 2, 3, 0]).unwrap();
+    // r + 2s + 3t = (1, 0, 1) + (0, 2, 2) + (0, 0, 3)
+    assert_eq!(net.frame(), [1, 0, 1, 0, 1, 1, 1, 2, 6]);
+    net.flip(Vertex::S).unwrap();
+    assert_eq!(net.frame(), [1, 0, 1, 0, -1, -1, 1, 2, 6]);
+    assert_eq!(
+        net.replace(Vertex::T, [1, 1, 0, 0]),
+        Err(Refused::NO_WEIGHT)
+    );
+    assert_eq!(net.flip(Vertex::R1), Err(Refused::ARGUMENT));
+    assert!(net.point([1, 1, 1, 0]).is_ok());
+    assert_eq!(net.frame(), [1, 0, 1, 0, -1, -1, 1, 2, 6]);
+    // the weights are those of the frame reached: (1, 0, 1) - (0, -1, -1) + (1, 2, 6)
+    net.replace(Vertex::R, [1, -1, 1, 0]).unwrap();
+    assert_eq!(net.frame(), [2, 3, 8, 0, -1, -1, 1, 2, 6]);
+
+    // another way to the same frame, and to the same net
+    let mut other = patch();
+    other.flip(Vertex::S).unwrap();
+    other.replace(Vertex::T, [1, -2, 3, 0]).unwrap();
+    other.flip(Vertex::R).unwrap();
+    other.replace(Vertex::R, [-1, -1, 1, 0]).unwrap();
+    assert_eq!(other, net);
 }
 
 #[test]
@@ -254,21 +324,20 @@ fn refused_calls_on_a_rectangular_patch() {
     assert_eq!(net, rect());
 
     let mut entries = [[0; 4]; 6];
-    entries[5][3] = 1 << 48;
-    let large = Net::of_entries(Kind::Rectangular, [2, 1], &entries).unwrap();
+    entries[5][3] = LARGEST;
+    let large = Net::of_entries(Kind::Rectangular, [2, 1], &RECT_FRAME, &entries).unwrap();
     let mut moved = large.clone();
     assert_eq!(moved.replace(Vertex::S2, [0, 2, 0, 0]), Err(Refused::RANGE));
     assert_eq!(moved, large);
     entries[5][3] += 1;
-    let beyond = Net::of_entries(Kind::Rectangular, [2, 1], &entries);
+    let beyond = Net::of_entries(Kind::Rectangular, [2, 1], &RECT_FRAME, &entries);
     assert_eq!(beyond, Err(Refused::RANGE));
 }
 
 /// A vertex of another kind is refused, though its number may be that of a vertex here.
 #[test]
 fn vertices_of_other_kinds() {
-    let patch = Net::first(Kind::Triangular, 2, &PATCH_FRAME, &PATCH).unwrap();
-    for mut net in [circle(), patch] {
+    for mut net in [circle(), patch()] {
         for vertex in [Vertex::R1, Vertex::S1, Vertex::R2, Vertex::S2] {
             assert_eq!(net.flip(vertex), Err(Refused::ARGUMENT));
         }
@@ -278,36 +347,163 @@ fn vertices_of_other_kinds() {
     for kind in [Kind::Curve, Kind::Triangular, Kind::Rectangular] {
         let numbers: Vec<_> = kind.vertices().iter().map(|v| v.number()).collect();
         assert_eq!(numbers, [1, 2, 3, 4][..numbers.len()]);
+        assert_eq!(kind.frame_numbers(), numbers.len() * kind.coordinates());
     }
 }
 
 #[test]
-fn a_net_from_its_entries() {
-    let rectangular = Net::of_entries(Kind::Rectangular, [2, 1], &RECT_NET);
+fn a_net_from_its_frame_and_entries() {
+    let rectangular = Net::of_entries(Kind::Rectangular, [2, 1], &RECT_FRAME, &RECT_NET);
     assert_eq!(rectangular, Ok(rect()));
-    assert_eq!(Net::of_entries(Kind::Curve, 2, &CIRCLE_NET), Ok(circle()));
-    let patch = Net::first(Kind::Triangular, 2, &PATCH_FRAME, &PATCH);
-    assert_eq!(Net::of_entries(Kind::Triangular, 2, &PATCH_NET), patch);
-    let limit = 1 << 48;
-    assert!(Net::of_entries(Kind::Curve, 1, &[[limit; 4], [-limit; 4]]).is_ok());
-    for outside in [limit + 1, -limit - 1, i64::MIN] {
+    let curve = |frame: &[i64], entries: &[Components]| {
+        let degree = entries.len() as u8 - 1;
+        Net::of_entries(Kind::Curve, degree, frame, entries)
+    };
+    assert_eq!(curve(&CIRCLE_FRAME, &CIRCLE_NET), Ok(circle()));
+    assert_eq!(
+        Net::of_entries(Kind::Triangular, 2, &PATCH_FRAME, &PATCH_NET),
+        Ok(patch())
+    );
+    assert!(curve(&CIRCLE_FRAME, &[[LARGEST; 4], [-LARGEST; 4]]).is_ok());
+    for outside in [LARGEST + 1, -LARGEST - 1, i64::MIN] {
         let entries = [[0; 4], [0, 0, 0, outside]];
-        assert_eq!(
-            Net::of_entries(Kind::Curve, 1, &entries),
-            Err(Refused::RANGE)
-        );
+        assert_eq!(curve(&CIRCLE_FRAME, &entries), Err(Refused::RANGE));
+    }
+    let of =
+        |kind, degree, entries: &[Components]| Net::of_entries(kind, degree, &PATCH_FRAME, entries);
+    assert_eq!(of(Kind::Curve, 3, &CIRCLE_NET), Err(Refused::SHORT));
+    assert_eq!(of(Kind::Curve, 0, &CIRCLE_NET), Err(Refused::KIND));
+    assert_eq!(of(Kind::Triangular, 9, &[[0; 4]; 55]), Err(Refused::KIND));
+
+    // fewer numbers of a frame than the kind has are refused, and further ones are not looked at
+    assert_eq!(curve(&CIRCLE_FRAME[..3], &CIRCLE_NET), Err(Refused::SHORT));
+    assert_eq!(curve(&[], &CIRCLE_NET), Err(Refused::SHORT));
+    let further = [0, 1, 1, 1, i64::MIN];
+    assert_eq!(curve(&further, &CIRCLE_NET), Ok(circle()));
+}
+
+/// A frame that is handed over is taken as it is: no determinant is asked for, and no number is too large but
+/// one beyond 2 to the 48th.
+#[test]
+fn a_handed_frame_is_taken_as_it_is() {
+    for frame in [[0; 4], [1, 2, 2, 4], [LARGEST, -LARGEST, 5, -7]] {
+        let mut net = Net::of_entries(Kind::Curve, 2, &frame, &CIRCLE_NET).unwrap();
+        assert_eq!(net.frame(), frame);
+        net.flip(Vertex::R).unwrap();
+        assert_eq!(net.frame(), [-frame[0], -frame[1], frame[2], frame[3]]);
+        assert!(net
+            .entries()
+            .eq([[2, 0, 0, 2], [-2, -2, 0, -2], [0, 4, 0, 4]]));
+    }
+    let entries = [[0; 4]; 6];
+    let of =
+        |kind, degrees: Degrees, frame: &[i64]| Net::of_entries(kind, degrees, frame, &entries);
+    for (kind, degrees) in [
+        (Kind::Curve, 2.into()),
+        (Kind::Triangular, 2.into()),
+        (Kind::Rectangular, [2, 1].into()),
+    ] {
+        for place in 0..kind.frame_numbers() {
+            let mut frame = [0; 9];
+            for inside in [LARGEST, -LARGEST] {
+                frame[place] = inside;
+                assert!(of(kind, degrees, &frame).is_ok());
+            }
+            for outside in [LARGEST + 1, -LARGEST - 1, i64::MAX, i64::MIN] {
+                frame[place] = outside;
+                assert_eq!(of(kind, degrees, &frame), Err(Refused::FRAME_RANGE));
+            }
+        }
+    }
+    // an entry is judged before the frame
+    let entries = [[0; 4], [0, 0, LARGEST + 1, 0]];
+    let both = Net::of_entries(Kind::Curve, 1, &[i64::MIN; 4], &entries);
+    assert_eq!(both, Err(Refused::RANGE));
+}
+
+/// The zero curve's frame grows until it is refused, 12, while no polar value does.
+#[test]
+fn a_new_vertex_beyond_the_limit() {
+    let mut net = Net::first(Kind::Curve, 2, &CIRCLE_FRAME, &[[0; 4]; 3]).unwrap();
+    for _ in 0..4 {
+        net.replace(Vertex::S, [0, -4096, 0, 0]).unwrap();
+    }
+    assert_eq!(net.frame(), [0, 1, LARGEST, LARGEST]);
+    let before = net.clone();
+    // s + r has 1 more in its second number only
+    for weights in [[1, 1, 0, 0], [-1, -1, 0, 0], [0, 2, 0, 0]] {
+        assert_eq!(net.replace(Vertex::S, weights), Err(Refused::FRAME_RANGE));
     }
     assert_eq!(
-        Net::of_entries(Kind::Curve, 3, &CIRCLE_NET),
-        Err(Refused::SHORT)
+        net.replace(Vertex::R, [1, 1, 0, 0]),
+        Err(Refused::FRAME_RANGE)
+    );
+    // a weight outside, and a vertex without weight, are judged before
+    assert_eq!(
+        net.replace(Vertex::S, [0, 4097, 0, 0]),
+        Err(Refused::ARGUMENT)
     );
     assert_eq!(
-        Net::of_entries(Kind::Curve, 0, &CIRCLE_NET),
-        Err(Refused::KIND)
+        net.replace(Vertex::R, [0, 2, 0, 0]),
+        Err(Refused::NO_WEIGHT)
     );
+    assert_eq!(net, before);
+    // the parameter point of a point is not judged
+    assert_eq!(net.point([0, 4096, 0, 0]), Ok([0; 4]));
+    // 2 to the 48th itself passes, of either sign
+    net.replace(Vertex::S, [0, -1, 0, 0]).unwrap();
+    net.flip(Vertex::S).unwrap();
+    assert_eq!(net, before);
+    // only the sum is judged, and not its parts: 4096 r is far beyond, 4096 r + 4096 s is (0, 4096)
+    net.replace(Vertex::S, [-4096, 1, 0, 0]).unwrap();
+    net.replace(Vertex::R, [1, -1, 0, 0]).unwrap();
     assert_eq!(
-        Net::of_entries(Kind::Triangular, 9, &[[0; 4]; 55]),
-        Err(Refused::KIND)
+        net.frame(),
+        [-LARGEST, 4097 - LARGEST, LARGEST, LARGEST - 4096]
+    );
+    net.replace(Vertex::R, [4096, 4096, 0, 0]).unwrap();
+    assert_eq!(net.frame(), [0, 4096, LARGEST, LARGEST - 4096]);
+
+    // 12 comes before the size
+    let large = [[LARGEST; 4], [0; 4]];
+    let of = |first: i64| Net::of_entries(Kind::Curve, 1, &[first, 0, 0, 1], &large).unwrap();
+    let twice = |mut net: Net| net.replace(Vertex::R, [2, 0, 0, 0]);
+    assert_eq!(twice(of(LARGEST / 2)), Err(Refused::RANGE));
+    assert_eq!(twice(of(LARGEST / 2 + 1)), Err(Refused::FRAME_RANGE));
+}
+
+/// A lent net may have any frame: every call on one with a number beyond 2 to the 48th is 12.
+#[test]
+fn a_lent_frame_beyond_the_limit() {
+    let mut lent = rect().places().to_vec();
+    lent[raw::FRAME_PLACE + 7] = i64::MIN;
+    let before = lent.clone();
+    let mut found = [5; 4];
+    let number = Refused::FRAME_RANGE.number();
+    assert_eq!(raw::make_move(&mut lent, raw::REPLACE, 1, [1; 4]), 8);
+    assert_eq!(raw::make_move(&mut lent, raw::REPLACE, 1, [0, 1, 0, 0]), 9);
+    assert_eq!(
+        raw::make_move(&mut lent, raw::REPLACE, 1, [1, 1, 0, 0]),
+        number
+    );
+    for vertex in 1..=4 {
+        assert_eq!(raw::make_move(&mut lent, raw::FLIP, vertex, [0; 4]), number);
+    }
+    assert_eq!(raw::point(&lent, [1, 1, 0, 0], &mut found), 9);
+    assert_eq!(raw::point(&lent, [1, 1, 1, 1], &mut found), number);
+    assert_eq!((lent, found), (before, [5; 4]));
+}
+
+/// The frame is part of a net: it tells nets apart, and is shown with them.
+#[test]
+fn frames_are_compared_and_shown() {
+    let other = Net::of_entries(Kind::Curve, 2, &[0, 1, 1, -1], &CIRCLE_NET).unwrap();
+    assert_ne!(other, circle());
+    assert!(other.entries().eq(circle().entries()));
+    assert_eq!(
+        format!("{other:?}"),
+        "Net { kind: Curve, degrees: Degrees { first: 2, second: 0 }, frame: [0, 1, 1, -1], \
+         entries: [[2, 0, 0, 2], [2, 2, 0, 2], [0, 4, 0, 4]] }"
     );
 }
 
@@ -331,7 +527,8 @@ fn refused_calls_change_nothing() {
     );
     assert_eq!(net.point([0; 4]), Err(Refused::NO_WEIGHT));
     assert_eq!(net, circle());
-    let mut large = Net::of_entries(Kind::Curve, 1, &[[1 << 48; 4], [0; 4]]).unwrap();
+    let large = [[LARGEST; 4], [0; 4]];
+    let mut large = Net::of_entries(Kind::Curve, 1, &CIRCLE_FRAME, &large).unwrap();
     let before = large.clone();
     assert_eq!(large.replace(Vertex::R, [2, 0, 0, 0]), Err(Refused::RANGE));
     assert_eq!(large, before);
@@ -383,10 +580,11 @@ fn a_record_with_moves_of_its_own() {
     assert!(net
         .entries()
         .eq([[2, 0, 0, 2], [4, 2, 0, 4], [6, 8, 0, 10]]));
+    assert_eq!(net.frame(), [0, 1, 1, 2]);
     assert_eq!(record.point(), Some([1, -1, 0, 0]));
     let found = net.point([1, -1, 0, 0]).unwrap();
     assert_eq!(project(found), Ok(Projection::Finite([0.0, 1.0, 0.0])));
-    let lines = "curve 2 2\nmove 2 refused 9\n0 2 0 0 2\n1 4 2 0 4\n2 6 8 0 10\n\
+    let lines = "curve 2 2\nmove 2 refused 9\nframe 0 1 1 2\n0 2 0 0 2\n1 4 2 0 4\n2 6 8 0 10\n\
                  at 0000000000000000 3ff0000000000000 0000000000000000\n";
     assert_eq!(text(&bytes), lines);
     let mut out = [b'-'; 200];
@@ -433,7 +631,8 @@ fn the_record_of_a_rectangular_patch() {
         .collect();
     assert_eq!(taken, [Ok(()), Err(Refused::NO_WEIGHT)]);
     assert_eq!(net.point([1, -1, 2, 1]), Ok([8, 2, 2, 8]));
-    let lines = "rect 2 1 2\nmove 2 refused 9\n\
+    assert_eq!(net.frame(), [0, 1, 1, 2, 1, 1, -1, 2]);
+    let lines = "rect 2 1 2\nmove 2 refused 9\nframe 0 1 1 2 1 1 -1 2\n\
                  0 0 0 0 2 2\n0 1 0 0 -2 4\n1 0 0 1 4 4\n1 1 0 -1 -4 8\n2 0 2 4 8 8\n2 1 4 -4 -8 16\n\
                  at 3ff0000000000000 3fd0000000000000 3fd0000000000000\n";
     assert_eq!(text(&bytes), lines);
@@ -465,12 +664,11 @@ fn the_three_projections() {
             length: 9
         })
     );
-    let largest = 1 << 48;
     assert_eq!(
-        project([0, -largest, largest, 0]),
+        project([0, -LARGEST, LARGEST, 0]),
         Ok(Projection::Direction {
             vector: [0, 1, -1],
-            length: largest
+            length: LARGEST
         })
     );
     assert_eq!(project([0; 4]), Ok(Projection::Nowhere));
@@ -503,6 +701,7 @@ fn errors_say_why() {
         Refused::NO_WEIGHT,
         Refused::RANGE,
         Refused::SHORT,
+        Refused::FRAME_RANGE,
     ];
     for (refused, number) in all.into_iter().zip(1..) {
         assert!(refused

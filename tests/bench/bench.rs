@@ -121,7 +121,7 @@ fn main() {
             ),
         );
         assert_eq!(f, g);
-        let (mut o, mut p) = ([0u8; 4096], [0u8; 4096]);
+        let (mut o, mut p) = ([0u8; plain::LONGEST_TEXT], [0u8; plain::LONGEST_TEXT]);
         let mut n = 0u64;
         row(
             &format!("text {name}"),

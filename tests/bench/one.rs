@@ -53,7 +53,7 @@ fn main() {
     let (mut frame, mut coefficients) = ([0; 9], [0; PLACES]);
     assert_eq!(plain::read(&s, &mut frame, &mut coefficients).0, 0);
 
-    let (mut lent, mut made, mut found, mut out) = ([0i64; NET], [0i64; NET], [0i64; 4], [0u8; 4096]);
+    let (mut lent, mut made, mut found, mut out) = ([0i64; NET], [0i64; NET], [0i64; 4], [0u8; plain::LONGEST_TEXT]);
     let (mut offset, mut length) = (0u64, 0u64);
     let number = raw::open(&s, &mut lent, &mut offset)
         + raw::first(kind, degree, second, &frame, &coefficients, &mut made)
@@ -62,7 +62,7 @@ fn main() {
         + raw::text(&s, &mut out, &mut length);
     assert_eq!(number, 0);
 
-    let (mut net, mut first, mut same, mut text) = ([0i64; NET], [0i64; NET], [0i64; 4], [0u8; 4096]);
+    let (mut net, mut first, mut same, mut text) = ([0i64; NET], [0i64; NET], [0i64; 4], [0u8; plain::LONGEST_TEXT]);
     let mut layout = plain::Layout::default();
     let number = plain_open(black_box(&s), black_box(&mut net), &mut layout)
         + plain_first(black_box(shape), black_box(&frame), black_box(&coefficients), black_box(&mut first))

@@ -5,10 +5,14 @@
 
 pub const LIMIT: i64 = 1 << 48;
 
-/// How many places a net has at least, and which of them its entries have at most.
+/// How many places a net has at least, where its frame begins, and which of them its entries have at most.
 pub const NET: usize = 193;
+const FRAME: usize = 3;
 const ENTRIES: std::ops::Range<usize> = 12..192;
 pub const PLACES: usize = 180;
+
+/// No text has more bytes.
+pub const LONGEST_TEXT: usize = 4183;
 
 const CURVE_SCALES: [i64; 10] = [1, 2, 3, 12, 10, 60, 105, 280, 252, 2520];
 const PATCH_SCALES: [i64; 8] = [1, 2, 6, 12, 60, 180, 420, 1680];
@@ -43,6 +47,11 @@ impl Shape {
             2 => 9,
             _ => 8,
         }
+    }
+
+    /// How many numbers a vertex has.
+    fn vertex_numbers(self) -> usize {
+        if self.kind == 2 { 3 } else { 2 }
     }
 
     /// How many numbers the entries have, four each.
@@ -119,8 +128,10 @@ fn entries_mut(net: &mut [i64]) -> &mut [i64; PLACES] {
 }
 
 /// Puts a net into lent places; those that it does not use stay.
-fn put(net: &mut [i64], shape: Shape, made: &[i64; PLACES]) {
+fn put(net: &mut [i64], shape: Shape, frame: &[i64; 9], made: &[i64; PLACES]) {
     net[..3].copy_from_slice(&[shape.kind as i64, shape.degree as i64, shape.second as i64]);
+    let n = shape.frame_numbers();
+    net[FRAME..FRAME + n].copy_from_slice(&frame[..n]);
     let n = shape.numbers();
     entries_mut(net)[..n].copy_from_slice(&made[..n]);
 }
@@ -199,6 +210,24 @@ fn handed(net: &[i64]) -> Result<Shape, u8> {
     Ok(shape)
 }
 
+/// The frame that the net carries.
+fn frame_of(net: &[i64], shape: Shape) -> &[i64] {
+    &net[FRAME..FRAME + shape.frame_numbers()]
+}
+
+/// q: the vertices of a group, each with its weight. They begin at place `at`, have n numbers each, are n
+/// and in range.
+#[inline(always)]
+fn mixed(net: &[i64], at: usize, n: usize, w: [i64; 4]) -> [i64; 3] {
+    let mut q = [0; 3];
+    for v in 0..n {
+        for c in 0..n {
+            q[c] += w[v] * net[at + n * v + c];
+        }
+    }
+    q
+}
+
 /// Whether all weights are within their limits and those past the used ones are 0.
 fn weights_in(w: [i64; 4], used: usize) -> bool {
     let unused = match used {
@@ -265,6 +294,15 @@ pub fn replace(net: &mut [i64], vertex: u8, w: [i64; 4]) -> u8 {
     if w[v] == 0 {
         return 9;
     }
+    if !all_in_range(frame_of(net, shape)) {
+        return 12;
+    }
+    let size = shape.vertex_numbers();
+    let place = FRAME + size * (vertex as usize - 1);
+    let q = mixed(net, place - size * v, size, w);
+    if !all_in_range(&q) {
+        return 12;
+    }
     let mut first = [w[0], w[1], w[2]];
     first.swap(0, v);
     let n = shape.numbers();
@@ -282,6 +320,7 @@ pub fn replace(net: &mut [i64], vertex: u8, w: [i64; 4]) -> u8 {
         rename(entries_mut(net), &room, at, g, v);
         at += g.numbers();
     }
+    net[place..place + size].copy_from_slice(&q[..size]);
     0
 }
 
@@ -293,6 +332,14 @@ pub fn flip(net: &mut [i64], vertex: u8) -> u8 {
     };
     if vertex < 1 || vertex > shape.vertices() {
         return 8;
+    }
+    if !all_in_range(frame_of(net, shape)) {
+        return 12;
+    }
+    let size = shape.vertex_numbers();
+    let place = FRAME + size * (vertex as usize - 1);
+    for number in &mut net[place..place + size] {
+        *number = -*number;
     }
     let (g, v) = seat(shape, vertex);
     for xs in entries_mut(net)[..shape.numbers()].chunks_exact_mut(g.numbers()) {
@@ -333,6 +380,9 @@ pub fn point(net: &[i64], w: [i64; 4], found: &mut [i64]) -> u8 {
     if first == [0, 0, 0] || (shape.kind == 3 && second == [0, 0, 0]) {
         return 9;
     }
+    if !all_in_range(frame_of(net, shape)) {
+        return 12;
+    }
     let n = shape.numbers();
     let mut room = [0; PLACES];
     room[..n].copy_from_slice(&entries(net)[..n]);
@@ -367,7 +417,7 @@ fn first(shape: Shape, frame: &[i64; 9], coefficients: &[i64; PLACES], net: &mut
     if !all_in_range(&made[..n]) {
         return 7;
     }
-    put(net, shape, &made);
+    put(net, shape, frame, &made);
     0
 }
 
@@ -656,10 +706,10 @@ fn quotient(v: i64, w: i64) -> u64 {
 /// The text of a record: straight into the lent buffer where that has room for every text, or into a
 /// buffer of its own and then into the lent one. The number of bytes, or nothing where it is too short.
 pub fn text(s: &[u8], lent: &mut [u8]) -> Option<usize> {
-    if lent.len() >= 4096 {
+    if lent.len() >= LONGEST_TEXT {
         return Some(make(s, lent));
     }
-    let mut buffer = [0u8; 4096];
+    let mut buffer = [0u8; LONGEST_TEXT];
     let n = make(s, &mut buffer);
     if lent.len() < n {
         return None;
@@ -739,6 +789,12 @@ fn accepted(s: &[u8], out: &mut Out, net: &mut [i64; NET], l: &Layout) {
             out.word(b"\n");
         }
     }
+    out.word(b"frame");
+    for &v in frame_of(net, shape) {
+        out.word(b" ");
+        out.signed(v);
+    }
+    out.word(b"\n");
     lines(out, shape, entries(net));
     if l.fields[4].1 != 0 {
         let mut w = [0; 4];

@@ -1,6 +1,7 @@
 /* Splits a curve: reads its record from standard input, opens it, and makes its two halves at the weights
- * (1, 1), by replacing s in one copy of the net and r in another. Then takes the record's own moves and finds
- * its own point. rust/examples/circle.rs does the same in Rust. */
+ * (1, 1), by replacing s in one copy of the net and r in another; each half has a line with the frame that it
+ * has reached. Then takes the record's own moves and finds its own point. rust/examples/circle.rs does the same
+ * in Rust. */
 #include "gadwemosh.h"
 
 #include <inttypes.h>
@@ -12,7 +13,10 @@ static void print_four(const int64_t *four) {
 }
 
 static void print_net(const char *name, const int64_t *net) {
-    printf("%s\n", name);
+    printf("%s\nframe", name);
+    for (int i = 0; i < GADWEMOSH_FRAME_NUMBERS(net[0]); i++)
+        printf(" %" PRId64, net[GADWEMOSH_FRAME_PLACE + i]);
+    printf("\n");
     for (int64_t j = 0; j <= net[1]; j++)
         print_four(net + GADWEMOSH_CURVE_PLACE(j));
 }

@@ -45,14 +45,16 @@ static int same(const int64_t *a, const int64_t *b) {
     return memcmp(a, b, MORE * sizeof *a) == 0;
 }
 
-/* The net of the numbers stands in the places, and every place that is not in use holds what it held. */
-static int holds(const int64_t *net, const int64_t *old, int kind, int degree, int second, const int64_t *entries,
-                 int count) {
+/* The net of the numbers stands in the places, and every place that is not in use holds what it held: of the
+ * places for a frame those past the numbers that the kind has. */
+static int holds(const int64_t *net, const int64_t *old, int kind, int degree, int second, const int64_t *frame,
+                 const int64_t *entries, int count) {
     int64_t wanted[MORE];
     memcpy(wanted, old, sizeof wanted);
     wanted[0] = kind;
     wanted[1] = degree;
     wanted[2] = second;
+    memcpy(wanted + GADWEMOSH_FRAME_PLACE, frame, (size_t)GADWEMOSH_FRAME_NUMBERS(kind) * sizeof *frame);
     memcpy(wanted + GADWEMOSH_ENTRIES, entries, (size_t)count * sizeof *entries);
     return same(net, wanted);
 }
@@ -91,10 +93,10 @@ static void test_open(void) {
     EXPECT(gadwemosh_open(record, 30, net, MORE, &offset) == 1);
     EXPECT(offset == 16 && same(net, old));
     EXPECT(gadwemosh_open(record, length, net, MORE, &offset) == 0);
-    EXPECT(offset == 0 && holds(net, old, 1, 2, 0, circle_net, 12));
+    EXPECT(offset == 0 && holds(net, old, 1, 2, 0, circle_frame, circle_net, 12));
     fill(net);
     EXPECT(gadwemosh_open(record, length, net, GADWEMOSH_NET, &offset) == 0);
-    EXPECT(offset == 0 && holds(net, old, 1, 2, 0, circle_net, 12));
+    EXPECT(offset == 0 && holds(net, old, 1, 2, 0, circle_frame, circle_net, 12));
 }
 
 static void test_open_rect(void) {
@@ -108,7 +110,7 @@ static void test_open_rect(void) {
     /* the coefficients are cut short: field 3 begins at byte 25 */
     EXPECT(gadwemosh_open(bytes, 30, net, MORE, &offset) == 1 && offset == 25 && same(net, old));
     EXPECT(gadwemosh_open(bytes, 146, net, MORE, &offset) == 0 && offset == 0);
-    EXPECT(holds(net, old, 3, 2, 1, rect_net, 24));
+    EXPECT(holds(net, old, 3, 2, 1, rect_frame, rect_net, 24));
     memcpy(old, net, sizeof net);
     /* s2 is -2 times r2 */
     memcpy(bytes + 21, "\377\376\377\376", 4);
@@ -143,10 +145,10 @@ static void test_first(void) {
         coefficients[i] = 1048576;
     EXPECT(gadwemosh_first(1, 10, 0, far, 9, coefficients, 180, net, MORE) == 7 && same(net, old));
     EXPECT(gadwemosh_first(1, 2, 0, circle_frame, 9, circle, 180, net, MORE) == 0);
-    EXPECT(holds(net, old, 1, 2, 0, circle_net, 12));
+    EXPECT(holds(net, old, 1, 2, 0, circle_frame, circle_net, 12));
     fill(net);
     EXPECT(gadwemosh_first(2, 2, 0, patch_frame, 9, patch, 180, net, GADWEMOSH_NET) == 0);
-    EXPECT(holds(net, old, 2, 2, 0, patch_net, 24));
+    EXPECT(holds(net, old, 2, 2, 0, patch_frame, patch_net, 24));
     /* of frame and coefficients only what the kind and degree take is looked at, and more is taken */
     for (int i = 0; i < 9; i++)
         frame[i] = i < 4 ? circle_frame[i] : INT64_MAX - i;
@@ -154,7 +156,7 @@ static void test_first(void) {
         coefficients[i] = i < 12 ? circle[i] : INT64_MIN + i;
     fill(net);
     EXPECT(gadwemosh_first(1, 2, 0, frame, 9, coefficients, 182, net, MORE) == 0);
-    EXPECT(holds(net, old, 1, 2, 0, circle_net, 12));
+    EXPECT(holds(net, old, 1, 2, 0, circle_frame, circle_net, 12));
 }
 
 static void test_first_rect(void) {
@@ -185,13 +187,13 @@ static void test_first_rect(void) {
     EXPECT(gadwemosh_first(3, 2, 1, rect_frame, 9, coefficients, 180, net, MORE) == 6 && same(net, old));
     coefficients[23] = 0, coefficients[24] = INT64_MIN;
     EXPECT(gadwemosh_first(3, 2, 1, rect_frame, 9, coefficients, 180, net, MORE) == 0);
-    EXPECT(holds(net, old, 3, 2, 1, rect_net, 24));
+    EXPECT(holds(net, old, 3, 2, 1, rect_frame, rect_net, 24));
     /* the places past the last entry, for all degrees */
     for (int p = 1; p <= 5; p++)
         for (int q = 1; q <= 5; q++) {
             fill(net);
             EXPECT(gadwemosh_first(3, (uint8_t)p, (uint8_t)q, rect_frame, 9, none, 180, net, GADWEMOSH_NET) == 0);
-            EXPECT(holds(net, old, 3, p, q, none, 4 * GADWEMOSH_RECT_ENTRIES(p, q)));
+            EXPECT(holds(net, old, 3, p, q, rect_frame, none, 4 * GADWEMOSH_RECT_ENTRIES(p, q)));
         }
 }
 
@@ -245,6 +247,8 @@ static void test_heads_rect(void) {
 }
 
 static void test_move(void) {
+    const int64_t flipped_frame[4] = {0, -1, 1, 1}, halved_frame[4] = {0, 1, 1, 2};
+    const int64_t patch_flipped_frame[9] = {1, 0, 1, 0, 1, 1, 0, 0, -1};
     const int64_t flipped[12] = {2, 0, 0, 2, -2, -2, 0, -2, 0, 4, 0, 4};
     const int64_t halved[12] = {2, 0, 0, 2, 4, 2, 0, 4, 6, 8, 0, 10};
     const int64_t patch_flipped[24] = {2, 0, 0, 2, 1, 1, 1, 2, -1, 0, 0, -2, 0, 2, 0, 2, 0, -1, 0, -2, 0, 0, 0, 2};
@@ -263,11 +267,11 @@ static void test_move(void) {
     EXPECT(gadwemosh_move(net, MORE, 1, 2, 1, 0, 0, 0) == 9 && same(net, old));
     /* B4: flip r. The places that are not in use hold numbers out of range, which nobody looks at */
     EXPECT(gadwemosh_move(net, MORE, 2, 1, 0, 0, 0, 0) == 0);
-    EXPECT(holds(net, old, 1, 2, 0, flipped, 12));
+    EXPECT(holds(net, old, 1, 2, 0, flipped_frame, flipped, 12));
     EXPECT(gadwemosh_move(net, GADWEMOSH_NET, 2, 1, 0, 0, 0, 0) == 0 && same(net, old));
     /* B3: replace s */
     EXPECT(gadwemosh_move(net, GADWEMOSH_NET, 1, 2, 1, 1, 0, 0) == 0);
-    EXPECT(holds(net, old, 1, 2, 0, halved, 12));
+    EXPECT(holds(net, old, 1, 2, 0, halved_frame, halved, 12));
     /* the last number in use is looked at */
     net[23] = INT64_C(281474976710657);
     memcpy(old, net, sizeof net);
@@ -284,17 +288,20 @@ static void test_move(void) {
     EXPECT(gadwemosh_move(net, MORE, 1, 4, 1, 1, 1, 0) == 8 && same(net, old));
     EXPECT(gadwemosh_move(net, MORE, 1, 3, 1, 1, 1, 1) == 8 && same(net, old));
     EXPECT(gadwemosh_move(net, MORE, 2, 3, 0, 0, 0, 0) == 0);
-    EXPECT(holds(net, old, 2, 2, 0, patch_flipped, 24));
+    EXPECT(holds(net, old, 2, 2, 0, patch_flipped_frame, patch_flipped, 24));
 }
 
-/* A move of the rectangular patch that is taken: the net that it leaves. */
-static void test_rect_moved(uint8_t operation, uint8_t vertex, int64_t r, int64_t s, const int64_t *entries) {
-    int64_t net[MORE], old[MORE];
+/* A move of the rectangular patch that is taken: the net that it leaves, with the vertex (T, Z) in its place. */
+static void test_rect_moved(uint8_t operation, uint8_t vertex, int64_t r, int64_t s, int64_t T, int64_t Z,
+                            const int64_t *entries) {
+    int64_t frame[8], net[MORE], old[MORE];
+    memcpy(frame, rect_frame, sizeof frame);
+    frame[2 * vertex - 2] = T, frame[2 * vertex - 1] = Z;
     fill(net);
     gadwemosh_first(3, 2, 1, rect_frame, 9, rect, 180, net, MORE);
     memcpy(old, net, sizeof net);
     EXPECT(gadwemosh_move(net, GADWEMOSH_NET, operation, vertex, r, s, 0, 0) == 0);
-    EXPECT(holds(net, old, 3, 2, 1, entries, 24));
+    EXPECT(holds(net, old, 3, 2, 1, frame, entries, 24));
 }
 
 static void test_move_rect(void) {
@@ -321,13 +328,14 @@ static void test_move_rect(void) {
         EXPECT(gadwemosh_move(net, MORE, 2, vertex, 0, 0, 0, 1) == 8 && same(net, old));
         EXPECT(gadwemosh_move(net, MORE, 1, vertex, vertex % 2 == 0, vertex % 2, 0, 0) == 9 && same(net, old));
     }
-    test_rect_moved(GADWEMOSH_FLIP, GADWEMOSH_R1, 0, 0, r1_flipped);
-    test_rect_moved(GADWEMOSH_FLIP, GADWEMOSH_S1, 0, 0, r1_flipped);
-    test_rect_moved(GADWEMOSH_FLIP, GADWEMOSH_R2, 0, 0, r2_flipped);
-    test_rect_moved(GADWEMOSH_FLIP, GADWEMOSH_S2, 0, 0, s2_flipped);
-    test_rect_moved(GADWEMOSH_REPLACE, GADWEMOSH_S1, 1, 1, s1_replaced);
-    test_rect_moved(GADWEMOSH_REPLACE, GADWEMOSH_R2, 2, -1, r2_replaced);
-    test_rect_moved(GADWEMOSH_REPLACE, GADWEMOSH_S2, 1, 1, s2_replaced);
+    test_rect_moved(GADWEMOSH_FLIP, GADWEMOSH_R1, 0, 0, 0, -1, r1_flipped);
+    test_rect_moved(GADWEMOSH_FLIP, GADWEMOSH_S1, 0, 0, -1, -1, r1_flipped);
+    test_rect_moved(GADWEMOSH_FLIP, GADWEMOSH_R2, 0, 0, -1, -1, r2_flipped);
+    test_rect_moved(GADWEMOSH_FLIP, GADWEMOSH_S2, 0, 0, 1, -2, s2_flipped);
+    /* (0, 1) + (1, 1), 2 (1, 1) - (-1, 2) and (1, 1) + (-1, 2) */
+    test_rect_moved(GADWEMOSH_REPLACE, GADWEMOSH_S1, 1, 1, 1, 2, s1_replaced);
+    test_rect_moved(GADWEMOSH_REPLACE, GADWEMOSH_R2, 2, -1, 3, 0, r2_replaced);
+    test_rect_moved(GADWEMOSH_REPLACE, GADWEMOSH_S2, 1, 1, 0, 3, s2_replaced);
     /* the last number in use, out of range and in range */
     net[35] = GADWEMOSH_LARGEST + 1;
     memcpy(old, net, sizeof net);
@@ -384,6 +392,166 @@ static void test_point_rect(void) {
         EXPECT(gadwemosh_point(net, MORE, 1, 1, 1, 1, found, 5) == (way == 0 ? 0 : 10));
         EXPECT(found[0] == (way == 0 ? 0 : -1));
     }
+}
+
+/* The nets of the circle, of the triangular and of the rectangular patch, all other places filled. */
+static void make_nets(int64_t nets[3][MORE]) {
+    for (int i = 0; i < 3; i++)
+        fill(nets[i]);
+    gadwemosh_first(1, 2, 0, circle_frame, 9, circle, 180, nets[0], MORE);
+    gadwemosh_first(2, 2, 0, patch_frame, 9, patch, 180, nets[1], MORE);
+    gadwemosh_first(3, 2, 1, rect_frame, 9, rect, 180, nets[2], MORE);
+}
+
+static int vertices_of(const int64_t *net) {
+    return GADWEMOSH_FRAME_NUMBERS(net[0]) / (net[0] == GADWEMOSH_PATCH ? 3 : 2);
+}
+
+/* Replaces a vertex by itself: its own weight is 1. */
+static uint8_t replace_by_itself(int64_t *net, int vertex) {
+    int place = net[0] == GADWEMOSH_RECT ? (vertex - 1) % 2 : vertex - 1;
+    return gadwemosh_move(net, MORE, GADWEMOSH_REPLACE, (uint8_t)vertex, place == 0, place == 1, place == 2, 0);
+}
+
+static uint8_t point_of_ones(const int64_t *net, int64_t *found) {
+    return gadwemosh_point(net, MORE, 1, 1, net[0] != GADWEMOSH_CURVE, net[0] == GADWEMOSH_RECT, found, 4);
+}
+
+/* A number in one place of a handed net, for every call on it: `answer` is 12 where it is a number of the frame
+ * that is beyond the limit, and else 0. A point and a vertex replaced by itself leave the net as it was. */
+static void test_frame_number(const int64_t *good, int place, int64_t number, int answer) {
+    int64_t net[MORE], old[MORE], found[4] = {-1, -1, -1, -1};
+    memcpy(old, good, sizeof old);
+    old[place] = number;
+    memcpy(net, old, sizeof net);
+    EXPECT(point_of_ones(net, found) == answer && same(net, old) && (found[3] == -1) == (answer != 0));
+    for (int vertex = 1; vertex <= vertices_of(net); vertex++) {
+        EXPECT(replace_by_itself(net, vertex) == answer && same(net, old));
+        EXPECT(gadwemosh_move(net, MORE, GADWEMOSH_FLIP, (uint8_t)vertex, 0, 0, 0, 0) == answer);
+        EXPECT(same(net, old) == (answer != 0));
+        if (answer == 0)
+            EXPECT(gadwemosh_move(net, MORE, GADWEMOSH_FLIP, (uint8_t)vertex, 0, 0, 0, 0) == 0 && same(net, old));
+    }
+}
+
+/* Each number of a handed frame at the limit and beyond it, and the places behind the frame, which hold
+ * anything. */
+static void test_handed_frames(void) {
+    const int64_t inside[] = {GADWEMOSH_LARGEST, -GADWEMOSH_LARGEST};
+    const int64_t outside[] = {GADWEMOSH_LARGEST + 1, -GADWEMOSH_LARGEST - 1, INT64_MAX, INT64_MIN};
+    int64_t nets[3][MORE];
+    make_nets(nets);
+    for (int kind = 1; kind <= 3; kind++)
+        for (int place = GADWEMOSH_FRAME_PLACE; place < GADWEMOSH_ENTRIES; place++) {
+            int used = place < GADWEMOSH_FRAME_PLACE + GADWEMOSH_FRAME_NUMBERS(kind);
+            for (int i = 0; i < 2; i++)
+                test_frame_number(nets[kind - 1], place, inside[i], 0);
+            for (int i = 0; i < 4; i++)
+                test_frame_number(nets[kind - 1], place, outside[i], used ? 12 : 0);
+        }
+}
+
+/* With every cause at once, and one taken away after the other: 11, 4, 10 of the entries, 8, 9, 12, 10 of the
+ * size. */
+static void test_frame_order(void) {
+    int64_t nets[3][MORE], net[MORE], old[MORE], found[4] = {-1, -1, -1, -1};
+    make_nets(nets);
+    memcpy(net, nets[0], sizeof net);
+    net[1] = 0, net[3] = INT64_MIN, net[12] = GADWEMOSH_LARGEST + 1;
+    memcpy(old, net, sizeof net);
+    EXPECT(gadwemosh_move(net, 192, 1, 3, 0, 4096, 0, 0) == 11 && same(net, old));
+    EXPECT(gadwemosh_point(net, MORE, 0, 0, 1, 0, found, 3) == 11 && found[0] == -1);
+    EXPECT(gadwemosh_move(net, MORE, 1, 3, 0, 4096, 0, 0) == 4 && same(net, old));
+    EXPECT(gadwemosh_point(net, MORE, 0, 0, 1, 0, found, 4) == 4 && found[0] == -1);
+    net[1] = 2;
+    memcpy(old, net, sizeof net);
+    EXPECT(gadwemosh_move(net, MORE, 1, 3, 0, 4096, 0, 0) == 10 && same(net, old));
+    EXPECT(gadwemosh_point(net, MORE, 0, 0, 1, 0, found, 4) == 10 && found[0] == -1);
+    net[12] = GADWEMOSH_LARGEST;
+    memcpy(old, net, sizeof net);
+    EXPECT(gadwemosh_move(net, MORE, 1, 3, 0, 4096, 0, 0) == 8 && same(net, old));
+    EXPECT(gadwemosh_point(net, MORE, 0, 0, 1, 0, found, 4) == 8 && found[0] == -1);
+    EXPECT(gadwemosh_move(net, MORE, 1, 1, 0, 4096, 0, 0) == 9 && same(net, old));
+    EXPECT(gadwemosh_point(net, MORE, 0, 0, 0, 0, found, 4) == 9 && found[0] == -1);
+    EXPECT(gadwemosh_move(net, MORE, 1, 1, 2, 0, 0, 0) == 12 && same(net, old));
+    EXPECT(gadwemosh_point(net, MORE, 2, 0, 0, 0, found, 4) == 12 && found[0] == -1);
+    /* 2 r is beyond the limit: a replace is refused for that, and a point for its size */
+    net[3] = GADWEMOSH_LARGEST;
+    memcpy(old, net, sizeof net);
+    EXPECT(gadwemosh_move(net, MORE, 1, 1, 2, 0, 0, 0) == 12 && same(net, old));
+    EXPECT(gadwemosh_point(net, MORE, 2, 0, 0, 0, found, 4) == 10 && found[0] == -1);
+    net[3] = GADWEMOSH_LARGEST / 2;
+    memcpy(old, net, sizeof net);
+    EXPECT(gadwemosh_move(net, MORE, 1, 1, 2, 0, 0, 0) == 10 && same(net, old));
+}
+
+/* A replace on a net whose entries are all 0, so that no size refuses it: 0 and the new vertex's numbers in the
+ * frame, or 12 and the net as it was. */
+static void test_replace(const int64_t *zero, uint8_t vertex, const int64_t *w, int answer, const int64_t *numbers) {
+    int64_t net[MORE], wanted[MORE];
+    int coordinates = zero[0] == GADWEMOSH_PATCH ? 3 : 2;
+    int64_t *place = wanted + GADWEMOSH_FRAME_PLACE + coordinates * (vertex - 1);
+    memcpy(net, zero, sizeof net);
+    memcpy(wanted, zero, sizeof wanted);
+    if (answer == 0)
+        memcpy(place, numbers, (size_t)coordinates * sizeof *numbers);
+    EXPECT(gadwemosh_move(net, MORE, GADWEMOSH_REPLACE, vertex, w[0], w[1], w[2], 0) == answer);
+    EXPECT(same(net, wanted));
+}
+#define WEIGHTS(r, s, t) ((const int64_t[]){r, s, t})
+#define VERTEX(...) ((const int64_t[]){__VA_ARGS__})
+
+/* A net of the kind with entries 0 over a frame of any numbers. */
+static void make_zero(int64_t *net, uint8_t kind, const int64_t *frame) {
+    const int64_t none[180] = {0}, *first = kind == 1 ? circle_frame : kind == 2 ? patch_frame : rect_frame;
+    fill(net);
+    gadwemosh_first(kind, 1, kind == GADWEMOSH_RECT, first, 9, none, 180, net, MORE);
+    memcpy(net + GADWEMOSH_FRAME_PLACE, frame, (size_t)GADWEMOSH_FRAME_NUMBERS(kind) * sizeof *frame);
+}
+
+static void test_new_vertices(void) {
+    const int64_t L = GADWEMOSH_LARGEST;
+    const int64_t line[4] = {0, 1, L, -L}, triangle[9] = {1, 0, 1, 0, 1, 1, 0, 0, L};
+    const int64_t even[9] = {L, L, L, L, L, L, L, L, L}, pairs[8] = {L, L, L, L - 1, L, L, -1, -2};
+    int64_t net[MORE], found[4];
+    make_zero(net, 1, line);
+    test_replace(net, 2, WEIGHTS(1, 1, 0), 0, VERTEX(L, 1 - L));
+    test_replace(net, 2, WEIGHTS(-1, -1, 0), 0, VERTEX(-L, L - 1));
+    test_replace(net, 2, WEIGHTS(0, -1, 0), 0, VERTEX(-L, L));
+    test_replace(net, 2, WEIGHTS(-1, 1, 0), 12, NULL);
+    test_replace(net, 2, WEIGHTS(1, -1, 0), 12, NULL);
+    test_replace(net, 2, WEIGHTS(0, 2, 0), 12, NULL);
+    test_replace(net, 2, WEIGHTS(0, -4096, 0), 12, NULL);
+    test_replace(net, 1, WEIGHTS(4096, -1, 0), 12, NULL);
+    test_replace(net, 1, WEIGHTS(4096, 1, 0), 0, VERTEX(L, 4096 - L));
+    /* the parameter point of a point is not judged */
+    EXPECT(gadwemosh_point(net, MORE, 4096, 4096, 0, 0, found, 4) == 0 && found[0] == 0 && found[3] == 0);
+    make_zero(net, 2, triangle);
+    test_replace(net, 3, WEIGHTS(1, -1, 1), 0, VERTEX(1, -1, L));
+    test_replace(net, 3, WEIGHTS(-1, 0, 1), 0, VERTEX(-1, 0, L - 1));
+    test_replace(net, 3, WEIGHTS(1, 0, 1), 12, NULL);
+    test_replace(net, 3, WEIGHTS(0, 1, 1), 12, NULL);
+    test_replace(net, 1, WEIGHTS(1, 0, 1), 12, NULL);
+    test_replace(net, 1, WEIGHTS(1, 1, -1), 0, VERTEX(1, 1, 2 - L));
+    /* the largest sums: only the whole of one is judged, and it does not wrap. The new frame is no frame any more,
+     * which nobody asks of a handed one */
+    make_zero(net, 2, even);
+    test_replace(net, 1, WEIGHTS(4096, 4096, 4096), 12, NULL);
+    test_replace(net, 2, WEIGHTS(-4096, -4096, -4096), 12, NULL);
+    test_replace(net, 3, WEIGHTS(4096, -4096, 1), 0, VERTEX(L, L, L));
+    test_replace(net, 3, WEIGHTS(-4096, 4096, -1), 0, VERTEX(-L, -L, -L));
+    test_replace(net, 3, WEIGHTS(4096, -4096, 2), 12, NULL);
+    test_replace(net, 2, WEIGHTS(4096, -4095, -1), 0, VERTEX(0, 0, 0));
+    /* the vertex's own pair is taken */
+    make_zero(net, 3, pairs);
+    test_replace(net, 1, WEIGHTS(1, 1, 0), 12, NULL);
+    test_replace(net, 1, WEIGHTS(1, -1, 0), 0, VERTEX(0, 1));
+    test_replace(net, 2, WEIGHTS(-4096, 4096, 0), 0, VERTEX(0, -4096));
+    test_replace(net, 3, WEIGHTS(1, 1, 0), 0, VERTEX(L - 1, L - 2));
+    test_replace(net, 3, WEIGHTS(1, -1, 0), 12, NULL);
+    test_replace(net, 4, WEIGHTS(-1, 1, 0), 12, NULL);
+    test_replace(net, 4, WEIGHTS(-1, -1, 0), 0, VERTEX(1 - L, 2 - L));
+    test_replace(net, 4, WEIGHTS(0, 4096, 0), 0, VERTEX(-4096, -8192));
 }
 
 /* A refused projection: the number, outcome 0, and every other place as it was. */
@@ -530,7 +698,7 @@ static void test_fields_rect(void) {
 }
 
 static void test_text(void) {
-    const char *text = "curve 2 2\n0 2 0 0 2\n1 2 2 0 2\n2 0 4 0 4\n"
+    const char *text = "curve 2 2\nframe 0 1 1 1\n0 2 0 0 2\n1 2 2 0 2\n2 0 4 0 4\n"
                        "at 3fe3333333333333 3fe999999999999a 0000000000000000\n";
     uint8_t out[200];
     uint64_t size = 7;
@@ -551,7 +719,7 @@ static void test_text(void) {
 }
 
 static void test_text_rect(void) {
-    const char *text = "rect 2 1 2\n"
+    const char *text = "rect 2 1 2\nframe 0 1 1 1 1 1 0 3\n"
                        "0 0 0 0 2 2\n0 1 0 0 0 6\n1 0 0 1 2 2\n1 1 0 0 0 6\n2 0 2 2 2 2\n2 1 6 0 0 6\n"
                        "far 1 0 0 10\n";
     uint8_t bytes[146], out[200];
@@ -563,8 +731,30 @@ static void test_text_rect(void) {
     EXPECT(size == strlen(text) && memcmp(out, text, size) == 0 && out[size] == '-');
 }
 
-/* The header's own arithmetic: entries follow each other in order, four places each. */
+/* The zero curve of degree 1 with five moves: 4096 s four times, which is 2 to the 48th, and then 2 s. */
+static void test_text_frame(void) {
+    const char *text = "curve 1 1\nmove 5 refused 12\nframe 0 1 281474976710656 281474976710656\n"
+                       "0 0 0 0 0\n1 0 0 0 0\nnowhere\n";
+    uint8_t bytes[101], out[200], *at = bytes;
+    uint64_t size = 7;
+    memcpy(at, "\1\0\2\1\1\2\0\10\0\0\0\1\0\1\0\1\3\0\40", 19), at += 19;
+    memset(at, 0, 32), at += 32;
+    memcpy(at, "\4\0\50", 3), at += 3;
+    for (int i = 0; i < 5; i++)
+        at = put(put(put(put(at, 2, 0x0102), 2, 0), 2, i < 4 ? 4096 : 2), 2, 0);
+    memcpy(at, "\5\0\4\0\1\0\1", 7);
+    memset(out, '-', sizeof out);
+    EXPECT(gadwemosh_text(bytes, sizeof bytes, out, sizeof out, &size) == 0);
+    EXPECT(size == strlen(text) && memcmp(out, text, size) == 0 && out[size] == '-');
+}
+
+/* The header's own arithmetic: the frame's numbers and the entries follow each other in order, four places for an
+ * entry. */
 static void test_places(void) {
+    EXPECT(GADWEMOSH_FRAME_NUMBERS(GADWEMOSH_CURVE) == 4);
+    EXPECT(GADWEMOSH_FRAME_NUMBERS(GADWEMOSH_PATCH) == GADWEMOSH_FRAME);
+    EXPECT(GADWEMOSH_FRAME_NUMBERS(GADWEMOSH_RECT) == 8);
+    EXPECT(GADWEMOSH_FRAME_PLACE + GADWEMOSH_FRAME == GADWEMOSH_ENTRIES);
     for (int m = 1; m <= 10; m++) {
         EXPECT(GADWEMOSH_CURVE_PLACE(m) == GADWEMOSH_ENTRIES + 4 * (GADWEMOSH_CURVE_ENTRIES(m) - 1));
         int place = GADWEMOSH_ENTRIES;
@@ -596,11 +786,15 @@ int main(void) {
     test_move_rect();
     test_point();
     test_point_rect();
+    test_handed_frames();
+    test_frame_order();
+    test_new_vertices();
     test_project();
     test_fields();
     test_fields_rect();
     test_text();
     test_text_rect();
+    test_text_frame();
     test_places();
     printf("%d right, %d wrong\n", right, wrong);
     return wrong != 0;

@@ -19,19 +19,19 @@ static uint8_t stack[SIZE];
 static uint8_t *begin;
 static ucontext_t here, there;
 
-/* A kind with its largest degrees: a frame, how many monomials and vertices it has, and the weights that replace
+/* A kind with its largest degrees: how many monomials and vertices it has, a frame, and the weights that replace
  * the last vertex by itself. */
 struct shape {
     const char *name;
     uint8_t kind, degree, second;
-    int frame_numbers, monomials, vertices;
+    int monomials, vertices;
     int64_t frame[GADWEMOSH_FRAME];
     int64_t last[3];
 };
 
 static const struct shape shapes[] = {
-    {"triangular", GADWEMOSH_PATCH, 8, 0, 9, GADWEMOSH_PATCH_ENTRIES(8), 3, {1, 0, 1, 0, 1, 1, 0, 0, 1}, {0, 0, 1}},
-    {"rectangular", GADWEMOSH_RECT, 5, 5, 8, GADWEMOSH_RECT_ENTRIES(5, 5), 4, {0, 1, 1, 1, 1, 1, -1, 2}, {0, 1, 0}},
+    {"triangular", GADWEMOSH_PATCH, 8, 0, GADWEMOSH_PATCH_ENTRIES(8), 3, {1, 0, 1, 0, 1, 1, 0, 0, 1}, {0, 0, 1}},
+    {"rectangular", GADWEMOSH_RECT, 5, 5, GADWEMOSH_RECT_ENTRIES(5, 5), 4, {0, 1, 1, 1, 1, 1, -1, 2}, {0, 1, 0}},
 };
 
 static const struct shape *shape;
@@ -63,8 +63,8 @@ static void make_record(void) {
     put(1, shape->kind), put(1, shape->degree);
     if (shape->second != 0)
         put(1, shape->second);
-    put(1, GADWEMOSH_FIELD_FRAME), put(2, 2 * shape->frame_numbers);
-    for (int i = 0; i < shape->frame_numbers; i++)
+    put(1, GADWEMOSH_FIELD_FRAME), put(2, 2 * GADWEMOSH_FRAME_NUMBERS(shape->kind));
+    for (int i = 0; i < GADWEMOSH_FRAME_NUMBERS(shape->kind); i++)
         put(2, shape->frame[i]);
     put(1, GADWEMOSH_FIELD_COEFFICIENTS), put(2, 16 * shape->monomials);
     for (int i = 0; i < 4 * shape->monomials; i++)
@@ -112,7 +112,7 @@ static void call_text(void) {
     answer = gadwemosh_text(record, record_length, out, sizeof out, &length);
 }
 
-/* With fewer bytes than any text needs, the text is made elsewhere first. */
+/* With fewer bytes than the longest text has, the text is made elsewhere first. */
 static void call_text_made_elsewhere(void) {
     answer = gadwemosh_text(record, record_length, out, sizeof out - 1, &length);
 }
@@ -129,7 +129,7 @@ static const struct {
     {"point", call_point},
     {"project", call_project},
     {"text", call_text},
-    {"text into 4095 bytes", call_text_made_elsewhere},
+    {"text, made elsewhere", call_text_made_elsewhere},
 };
 
 static void make_call(int which) {

@@ -1,6 +1,6 @@
 #!/usr/bin/env python3
-"""An independent calculator for document 01 (01-scope.md) with request E3
-(rectangular patches), exact integers only.
+"""An independent calculator for document 01 (01-scope.md) with requests E2 (length of a
+direction), E3 (rectangular patches) and E5 (the net knows its frame), exact integers only.
 
     python3 calculator.py netprint  < record.bin     the text of netprint
     python3 calculator.py netprint -x < record.hex   the same, record in hex
@@ -151,6 +151,7 @@ def net(kind, degrees, coeffs, frame):
 
 
 def in_range(p):
+    """Of a point's four components, or of a vertex's numbers."""
     return all(abs(c) <= RANGE for c in p)
 
 
@@ -206,7 +207,8 @@ def point_too_large(kind, degrees, coeffs, frame, qs):
 # ------------------------------------------------------------- moves and point
 
 def judge_move(kind, degrees, coeffs, frame, op, vertex, weights):
-    """(number, new frame).  Order 8, 9, 10.  weights: the three of the record."""
+    """(number, new frame).  Order 8, 9, 12, 10.  weights: the three of the record.
+    The frame itself needs no test: it is a record's, or was reached by moves that were taken."""
     if op not in (1, 2) or not 1 <= vertex <= len(frame):
         return 8, frame
     if any(abs(w) > WEIGHT for w in weights):
@@ -224,6 +226,8 @@ def judge_move(kind, degrees, coeffs, frame, op, vertex, weights):
     if weights[place] == 0:
         return 9, frame
     q = combine(vertices, weights)
+    if not in_range(q):
+        return 12, frame
     if replace_too_large(kind, degrees, coeffs, frame, own, q):
         return 10, frame
     new[vertex - 1] = q
@@ -231,7 +235,7 @@ def judge_move(kind, degrees, coeffs, frame, op, vertex, weights):
 
 
 def judge_point(kind, degrees, coeffs, frame, weights):
-    """(number, point)."""
+    """(number, point).  The q of a point may be of any size; only its values are tested."""
     if any(abs(w) > WEIGHT for w in weights):
         return 8, None
     if not all(any(ws) for ws in parts(kind, weights)):
@@ -346,6 +350,11 @@ def first_line(kind, degrees):
     return " ".join([WORD[kind]] + [str(m) for m in degrees] + [str(scale(kind, degrees))])
 
 
+def frame_line(frame):
+    """The numbers of the frame reached, vertex by vertex."""
+    return " ".join(["frame"] + [str(c) for v in frame for c in v])
+
+
 def run(r):
     """The list a record asks for: refusals of moves, frame and net reached,
     and the point's line."""
@@ -356,6 +365,7 @@ def run(r):
         number, frame = judge_move(kind, degrees, coeffs, frame, op, vertex, (a, b, c))
         if number:
             lines.append("move %d refused %d" % (k, number))
+    lines.append(frame_line(frame))
     for e, p in zip(entries(kind, degrees), net(kind, degrees, coeffs, frame)):
         lines.append(" ".join(str(n) for n in tuple(e) + p))
     if r["point"] is not None:
@@ -511,7 +521,7 @@ def selftest():
     check("4097", judge_move(1, (2,), circle, cf, 1, 1, (4097, 1, 0))[0], 8)
     check("empty", netprint(b""), "refused 2 at 0\n")
     check("circle record", netprint(record(1, (2,), cf, circle, None, (1, 1))),
-          "curve 2 2\n0 2 0 0 2\n1 2 2 0 2\n2 0 4 0 4\n"
+          "curve 2 2\nframe 0 1 1 1\n0 2 0 0 2\n1 2 2 0 2\n2 0 4 0 4\n"
           "at 3fe3333333333333 3fe999999999999a 0000000000000000\n")
     # x = T1 Z2, y = Z1 T2, z = T1 T2, w = Z1 Z2 over (0, 1), (1, 1) twice: entry i j is the
     # point at u = i, v = j; q = (1, 2) in both pairs is the point at 1/2, 1/2, times 4
@@ -521,7 +531,23 @@ def selftest():
     check("rect point", judge_point(3, (1, 1), saddle, cf + cf, (1, 1, 1, 1)), (0, (2, 2, 1, 4)))
     check("rect pair", judge_point(3, (1, 1), saddle, cf + cf, (1, 1, 0, 0))[0], 9)
     check("rect record", netprint(record(3, (1, 1), cf + cf, saddle, [(1, 4, 1, 1, 0)])),
-          "rect 1 1 1\n0 0 0 0 0 1\n0 1 0 1 0 2\n1 0 1 0 0 1\n1 1 2 1 1 2\n")
+          "rect 1 1 1\nframe 0 1 1 1 0 1 1 2\n0 0 0 0 0 1\n0 1 0 1 0 2\n1 0 1 0 0 1\n1 1 2 1 1 2\n")
+    # x = T over r = (0, 1): replaces of r by multiples of r leave every entry as it is
+    still, f = [(0, 0, 0, 0), (1, 0, 0, 0)], cf
+    for n in range(4):
+        k, f = judge_move(1, (1,), still, f, 1, 1, (4096, 0, 0))
+        check("frame grows", (k, f[0]), (0, (0, 4096 ** (n + 1))))
+    check("2^48", f[0][1], RANGE)
+    check("2^48 + 1", judge_move(1, (1,), still, f, 1, 2, (1, 1, 0)), (12, f))
+    check("2^48 - 1", judge_move(1, (1,), still, f, 1, 2, (-1, 1, 0)), (0, (f[0], (1, 1 - RANGE))))
+    check("9 before 12", judge_move(1, (1,), still, f, 1, 2, (2, 0, 0))[0], 9)
+    check("8 before 12", judge_move(1, (1,), still, f, 1, 2, (2, 1, 1))[0], 8)
+    # x of s is 2^44, so 17 s has too large a value; with r in it q is too large besides
+    steep, g = [(0, 0, 0, 0), (COEFF, 0, 0, 0)], ((0, RANGE), (2 ** 24, 1))
+    check("10 alone", judge_move(1, (1,), steep, g, 1, 2, (0, 17, 0))[0], 10)
+    check("12 before 10", judge_move(1, (1,), steep, g, 1, 2, (1, 17, 0))[0], 12)
+    check("a flip at 2^48", judge_move(1, (1,), still, f, 2, 1, (0, 0, 0)), (0, ((0, -RANGE), (1, 1))))
+    check("a point's q", judge_point(1, (1,), still, f, (4096, 1)), (0, (1, 0, 0, 0)))
     # frame-based moves against net-based moves, and L x F(q), on random records
     rnd = random.Random(1)
     for _ in range(300):

@@ -106,7 +106,7 @@ def main(argv):
             rows.append((e, row))
         verdict = "misprint" if diff else "equal"
         assert b["verdict"] == verdict, b["net"]
-        text = calc.first_line(kind, degrees) + "\n"
+        text = calc.first_line(kind, degrees) + "\n" + calc.frame_line(reached) + "\n"
         for e, row in rows:
             text += " ".join(str(int(v)) for v in tuple(e) + tuple(row)) + "\n"
         want = load("expected" if verdict == "equal" else "expected-misprints", b["net"], ".txt")

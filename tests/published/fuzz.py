@@ -51,6 +51,36 @@ def whole(rnd):
     return calc.record(kind, degrees, frame, coeffs, moves, point)
 
 
+def growing(rnd):
+    """A frame that grows to 2^48 and past it under entries that stay small: the polynomials are 0, or
+    they are the last monomial alone, which does not see the first vertex of a group, (0, 1) or (0, 0, 1)."""
+    kind = rnd.choice((1, 2, 3))
+    degrees = tuple(rnd.randint(1, min(top, 4)) for top in calc.TOP[kind])
+    d = 3 if kind == 2 else 2
+    vertices = 4 if kind == 3 else d
+    while True:
+        frame = tuple((0,) * (d - 1) + (rnd.choice((1, -1, 4)),) if v % d == 0
+                      else tuple(rnd.randint(-2, 2) for _ in range(d)) for v in range(vertices))
+        if not calc.flat(kind, frame):
+            break
+    coeffs = [(0, 0, 0, 0) for _ in calc.monomials(kind, degrees)]
+    if rnd.random() < 0.7:
+        coeffs[-1] = tuple(rnd.choice((0, 1, -3, 1048576)) for _ in range(4))
+
+    def move():
+        vertex = rnd.randint(1, vertices) if rnd.random() < 0.5 else 1
+        seat = (vertex - 1) % d
+        if rnd.random() < 0.1:
+            return (2, vertex, 0, 0, 0)
+        weights = [0] * 3
+        if rnd.random() < 0.5:
+            weights[:d] = (rnd.choice((0, 1, -1)) for _ in range(d))
+        weights[seat] = rnd.choice((1, -1, 2, 16, 4096, 4096, 4096, -4096))
+        return (1, vertex) + tuple(weights)
+    point = tuple(rnd.choice((0, 1, -1, 4096)) for _ in range(vertices))
+    return calc.record(kind, degrees, frame, coeffs, [move() for _ in range(rnd.randint(4, 32))], point)
+
+
 def broken(rnd, b):
     b = bytearray(b)
     for _ in range(rnd.randint(1, 2)):
@@ -75,7 +105,7 @@ def main(argv):
     rnd = random.Random(int(argv[2]) if len(argv) > 2 else 1)
     tally = {}
     for n in range(count):
-        rec = whole(rnd)
+        rec = growing(rnd) if rnd.random() < 0.15 else whole(rnd)
         if rnd.random() < 0.35:
             rec = broken(rnd, rec)
         want = calc.netprint(rec)

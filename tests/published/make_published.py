@@ -14,6 +14,7 @@ from math import gcd
 
 sys.path.insert(0, os.path.dirname(os.path.abspath(__file__)))
 import calculator as calc
+import frames
 
 HERE = os.path.dirname(os.path.abspath(__file__))
 SHARED = os.environ.get("SHARED", "/work/shared")
@@ -470,8 +471,9 @@ def judge(n):
 
 
 def text(n, rows, atbits):
-    """netprint's text from printed rows times the factor."""
-    ls = [calc.first_line(n["kind"], n["degrees"])]
+    """netprint's text from printed rows times the factor, with the frame that the flips and
+    replaces reach; all of them are taken."""
+    ls = [calc.first_line(n["kind"], n["degrees"]), frames.line(n["kind"], n["frame"], n["moves"]).rstrip("\n")]
     for e, p, x in zip(calc.entries(n["kind"], n["degrees"]), rows, n["mult"]):
         vals = [n["factor"] * c * x for c in p]
         assert all(Fr(y).denominator == 1 for y in vals), n["label"]

@@ -27,7 +27,7 @@ import calculator as calc
 from check import HERE, SAMPLES, blocks, hexbytes, load, shape
 
 CRATE = os.path.join(HERE, "..", "..", "crates", "vectors")
-MOST = 4096          # the program's buffers for a record and for a text
+RECORD, TEXT = 4096, 4183          # the program's buffers for a record and for a text
 
 
 def index():
@@ -43,11 +43,12 @@ def published():
 
 
 def as_printed(b):
-    """The text with the printed net, numbers times the factor, as if it were right."""
+    """The text with the printed net, numbers times the factor, as if it were right.  No move, so
+    the frame is the record's."""
     assert b["moves"] == "none" and "point" not in b and "vertex-scale" not in b
     kind, degrees = shape(b)
     factor = Fraction(b["factor"])
-    text = calc.first_line(kind, degrees) + "\n"
+    text = calc.first_line(kind, degrees) + "\nframe " + b["frame"] + "\n"
     for e, numbers in zip(calc.entries(kind, degrees), b["e"]):
         row = [factor * n for n in numbers]
         assert all(v.denominator == 1 for v in row)
@@ -79,8 +80,8 @@ def vectors():
         yield name + "-corrected", record, load("expected-misprints", name, ".txt"), "equal"
 
 
-def packed(data, width):
-    assert len(data) < 256 ** width and len(data) <= MOST
+def packed(data, width, most):
+    assert len(data) < 256 ** width and len(data) <= most
     return len(data).to_bytes(width, "big") + data
 
 
@@ -91,7 +92,8 @@ def made():
     for label, record, text, verdict in vectors():
         assert label and label not in labels and text
         labels.add(label)
-        stdin += packed(label.encode("ascii"), 1) + packed(record, 2) + packed(text.encode("ascii"), 2)
+        stdin += packed(label.encode("ascii"), 1, 255) + packed(record, 2, RECORD)
+        stdin += packed(text.encode("ascii"), 2, TEXT)
         stdout += "%s %s\n" % (label, verdict)
         if verdict == "equal":
             equal += 1

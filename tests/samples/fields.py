@@ -1,4 +1,4 @@
-"""The fields of a record, for make_samples.py and rect_samples.py.  Nothing is tested."""
+"""The fields of a record, for the samples' scripts.  Nothing is tested."""
 import struct
 
 REPL, FLP = 1, 2

@@ -3,7 +3,10 @@
 
 The expected texts are written out here by hand from document 01, and from request
 E2 for the length of a direction; those of rectangular patches (request E3) are in
-rect_samples.py.  The calculator is only asked afterwards whether it agrees, and a
+rect_samples.py.  They stand here without the line `frame` (request E5), which
+published/frames.py puts in: the record's frame after the moves that the text does not
+call refused.  The samples of that request itself are in frame_samples.py and have the
+line from the start.  The calculator is only asked afterwards whether it agrees, and a
 disagreement stops the run.
 """
 import math
@@ -15,6 +18,8 @@ OUT = os.path.dirname(os.path.abspath(__file__))
 sys.path.insert(0, os.path.join(OUT, "..", "published"))
 import calculator as calc
 import edge_samples
+import frame_samples
+import frames
 import rect_samples
 from fields import FLP, REPL, f1, f2, f3, f4, f5, field
 
@@ -587,11 +592,11 @@ for m, L in ((4, 12), (5, 60), (6, 180), (7, 420)):
 LONGEST = ("patch 8 1680\n" + "".join("move %d refused 10\n" % k for k in range(1, 33))
            + "".join("%s%s\n" % (e, " -115448720916480" * 4) for e in E8)
            + "at 3ff0000000000000 3ff0000000000000 3ff0000000000000\n")
-assert len(LONGEST) == 3996
+assert len(LONGEST) + len("frame 4 4 4 4 4 3 4 3 4\n") == 4020
 S("ok-longest-text", f1(2, 8) + f2(4, 4, 4, 4, 4, 3, 4, 3, 4)
   + f3(*(PZ[:44] + [(-1048576, -1048576, -1048576, -1048576)]))
   + f4(*([(REPL, 1, 4096, 0, 0)] * 32)) + f5(1, 0, 0),
-  LONGEST, "a text of 3996 bytes: 32 moves refused 10, 180 numbers of 16 characters, a point")
+  LONGEST, "a text of 4020 bytes: 32 moves refused 10, 180 numbers of 16 characters, a point")
 
 # ------------------------------------------------------------------------------
 group("Scales, to be checked with a pencil: each multinomial divides L, and the quotients have no common divisor")
@@ -678,9 +683,11 @@ S("len-widest", f1(1, 1) + f2(1, 0, 0, 1) + f3((-1, 1, 2, 0), (1048576, -1048576
 
 
 def main():
-    for s in edge_samples.samples() + rect_samples.samples():
-        assert s[0] is None or all(a[0] != s[0] for a in ALL), s[0]
-        ALL.append(s)
+    old = ALL + edge_samples.samples() + rect_samples.samples()
+    every = [(name, comment, rec, name and frames.with_frame(rec, text)) for name, comment, rec, text in old]
+    every += frame_samples.samples()
+    names = [s[0] for s in every if s[0]]
+    assert len(names) == len(set(names)), [name for name in names if names.count(name) > 1]
     for f in os.listdir(OUT):
         if f.endswith((".hex", ".txt")):
             os.remove(os.path.join(OUT, f))
@@ -690,14 +697,15 @@ def main():
              "# line of text, comment.  Texts were written by hand from document 01, those of a",
              "# direction from request E2 too and those of rectangular patches from E3, the longer ones",
              "# by a rule that stands beside them in make_samples.py or rect_samples.py (scale-*: L",
-             "# divided by the multinomial), and then compared with calculator.py (r7-edge-passes: 44",
-             "# numbers from calculator.py).",
+             "# divided by the multinomial), the line `frame` of request E5 by hand in frame_samples.py",
+             "# and by the rule in published/frames.py elsewhere, and then compared with calculator.py",
+             "# (r7-edge-passes: 44 numbers from calculator.py).",
              "# Which refusal wins where several hold: the earlier field's; within a field a cut",
              "# header (1), then tag (2), length (3), a cut value (1), what the value says (4, 5,",
-             "# 6); only then a missing field (2, at the length) and 7.  Calls: 8, 9, 10."]
+             "# 6); only then a missing field (2, at the length) and 7.  Calls: 8, 9, 12, 10."]
     bad = 0
     count = 0
-    for name, comment, rec, text in ALL:
+    for name, comment, rec, text in every:
         if name is None:
             index += ["", "# " + comment]
             continue

@@ -532,7 +532,8 @@ LONGEST = ("rect 5 5 100\n" + "".join("move %d refused 10\n" % k for k in range(
            + at(1, 1, 1, 1))
 S("ok-rect-longest-text", f1(3, 5, 5) + f2(*(4, 4, 4, 3) * 2) + f3(*[(0, 0, 0, 0)] * 35, (-M, -M, -M, -M))
   + f4(*[(REPL, 4, 0, 4096, 0)] * 32) + f5(1, 0, 1, 0), LONGEST,
-  "32 moves refused 10, 144 numbers of 16 characters, a point: a text of %d bytes" % len(LONGEST))
+  "32 moves refused 10, 144 numbers of 16 characters, a point: a text of %d bytes"
+  % (len(LONGEST) + len("frame 4 4 4 3 4 4 4 3\n")))
 
 # ------------------------------------------------------------------------------
 group("the 25 scales; x is L in every entry, w is L divided by the product of the binomials")

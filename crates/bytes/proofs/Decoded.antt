@@ -12,7 +12,7 @@ use Rattle.kinds.specs.Kinds.{groupsOf, mostVertices}
 use Rattle.kinds.specs.Frames.{vertexCount}
 use Rattle.kinds.proofs.Counts.{vertices-few}
 use Rattle.machine.specs.Refusals.{firstFailed}
-use Rattle.machine.specs.Calls.{beforeSize}
+use Rattle.machine.specs.Calls.{ownTests}
 use Rattle.machine.specs.declared.Weights.{Weights}
 use Rattle.machine.specs.declared.Call.the-variants as call
 use Rattle.bytes.specs.Numbers.{item}
@@ -48,8 +48,8 @@ move-call value k =
 -- ---- improper moves
 
 -- the first two tests of a move are of its operation and its vertex: one of them fails
-no-call : (kind p q o v : ℕ) (w : Weights) → proper o v ≡ false → firstFailed (beforeSize (groupsOf kind p q) (call.Move o v w)) ≡ 8
-unfolding beforeSize
+no-call : (kind p q o v : ℕ) (w : Weights) → proper o v ≡ false → firstFailed (ownTests (groupsOf kind p q) (call.Move o v w)) ≡ 8
+unfolding ownTests
 no-call kind p q o v w improper = by-operation (eqb o 1 || eqb o 2) refl
   where
     count : ℕ
@@ -62,11 +62,11 @@ no-call kind p q o v w improper = by-operation (eqb o 1 || eqb o 2) refl
         let few = vertices-few kind p q in
         and-true (parts .0) (le-leb v mostVertices (omega arith))
 
-    by-vertex : (t : Bool) → (leb 1 v && leb v count) ≡ t → (eqb o 1 || eqb o 2) ≡ true → firstFailed (beforeSize (groupsOf kind p q) (call.Move o v w)) ≡ 8
+    by-vertex : (t : Bool) → (leb 1 v && leb v count) ≡ t → (eqb o 1 || eqb o 2) ≡ true → firstFailed (ownTests (groupsOf kind p q) (call.Move o v w)) ≡ 8
     by-vertex true h e = absurd (clash (and-true (vertex-some h) e) improper)
     by-vertex false h e = rw (e, h) refl
 
-    by-operation : (t : Bool) → (eqb o 1 || eqb o 2) ≡ t → firstFailed (beforeSize (groupsOf kind p q) (call.Move o v w)) ≡ 8
+    by-operation : (t : Bool) → (eqb o 1 || eqb o 2) ≡ t → firstFailed (ownTests (groupsOf kind p q) (call.Move o v w)) ≡ 8
     by-operation true e = by-vertex (leb 1 v && leb v count) refl e
     by-operation false e = rw e refl
 
@@ -78,7 +78,7 @@ improper-is false o v w e h = ((cc), (cc), refl)
 
 -- Where a record's move is improper, its call is refused 8 by every kind.
 pub improper-refused : (value : List ℕ) (k : ℕ) {o v : ℕ} {w : Weights} (kind p q : ℕ) → moveAt value k ≡ Improper o v w
-    → firstFailed (beforeSize (groupsOf kind p q) (call.Move o v w)) ≡ 8
+    → firstFailed (ownTests (groupsOf kind p q) (call.Move o v w)) ≡ 8
 unfolding moveAt
 improper-refused value k {o} {v} {w} kind p q e =
     let bytes = item 8 value k in

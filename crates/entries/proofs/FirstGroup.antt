@@ -3,8 +3,8 @@
 use Prim.Native.Nat.{ℕ, zero, suc, _+_, _*_, _/_, _∣_, _<_, zero-le, suc-le-suc}
 use native.Mathlib.Nat.{mul-comm, mul-one, mul-assoc, mul-mul-mul-comm, zero-mul, suc-mul, add-zero, not-suc-le-zero, le-of-suc-le-suc, div-mul-cancel, div-eq-of-eq-mul-right, mul-pos, pos-of-dvd-of-pos}
 use native.Mathlib.Omega.{arith}
-use mathlib.Core.Path.{_≡_, refl, sym, ap, ap₂, _∙_, subst}
-use mathlib.Core.List.{List, [], _∷_, map, List·Memᴰ, List·Memᴰ·head, List·Memᴰ·tail}
+use mathlib.Core.Path.{_≡_, refl, sym, ap, ap₂, _∙_}
+use mathlib.Core.List.{List, [], _∷_, List·Memᴰ, List·Memᴰ·head, List·Memᴰ·tail}
 use lib.IntN.{ℤ, pos, _+ℤ_, _*ℤ_, +ℤ-idr, +ℤ-assoc}
 use lib.ListN.{length, getD, drop}
 use lib.Seq.{getD-drop}
@@ -16,7 +16,7 @@ use Rattle.polar.specs.Sigma.{Point, Exponents, σ}
 use Rattle.polar.specs.Order.{monomials}
 use Rattle.polar.specs.Groups.{Group, pairs, monomialsOver}
 use Rattle.polar.specs.Scale.{multinomial, multinomialOver, scale, scaleOver}
-use Rattle.polar.specs.Polar.{Term, σOver, polarOver, columnTerms, terms}
+use Rattle.polar.specs.Polar.{σOver, polarOver, columnTerms, terms}
 use Rattle.polar.proofs.Scale.{scale-pos, multinomial-divides}
 use Rattle.polar.proofs.Value.{multinomial-divides-over}
 use Rattle.entries.proofs.Listed.{next-digit, first-digit}

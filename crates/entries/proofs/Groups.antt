@@ -18,7 +18,7 @@ use Rattle.polar.specs.Groups.{Group, head, tail}
 use Rattle.polar.specs.Scale.{scaleOver, multinomialOver}
 use Rattle.polar.specs.Polar.{Term, σOver, polarOver}
 use Rattle.polar.proofs.Value.{copies}
-use Rattle.entries.specs.Frame.{taken, combination, vertexAt, takenOver, pointsOver, before}
+use Rattle.entries.specs.Frame.{taken, combination, vertexAt, takenOver, pointsOver, before, putOver}
 use Rattle.entries.specs.Entries.{fixed, odd, fixedOver, noneOfQ, asQ, onlyQ}
 use Rattle.entries.specs.Form.{Form}
 use Rattle.entries.proofs.Form.{fixes, put, putting, flipping}
@@ -41,12 +41,17 @@ withQ g = record { dimension = suc (g .dimension); degree = g .degree }
 abbrev pub Named : List Group → List (List ℕ) → Type 0
 Named gs es = Counted (map withQ gs) es
 
--- a frame for each group, with all its vertices
+-- each of some points has d numbers
+abbrev pub Wide : ℕ → List Point → Type 0
+Wide d [] = Unit {0}
+Wide d (p ∷ ps) = (length p ≡ d) × Wide d ps
+
+-- a frame for each group, with all its vertices, each with all its numbers
 abbrev pub Framed : List Group → List (List Point) → Type 0
 Framed [] [] = Unit {0}
 Framed [] (frame ∷ frames) = ⊥
 Framed (g ∷ gs) [] = ⊥
-Framed (g ∷ gs) (frame ∷ frames) = (length frame ≡ suc (g .dimension)) × Framed gs frames
+Framed (g ∷ gs) (frame ∷ frames) = (length frame ≡ suc (g .dimension)) × Wide (suc (g .dimension)) frame × Framed gs frames
 
 -- ---- forms over groups
 
@@ -96,7 +101,7 @@ fixes-over (g ∷ gs) G F (frame ∷ frames) long weights f agrees ([] ∷ es) n
     wrong w = omega arith
 fixes-over (g ∷ gs) G F (frame ∷ frames) long weights f agrees ((h ∷ e) ∷ es) named =
     let q = combination (suc (g .dimension)) (head weights) (vertexAt frame) in
-    fixes-over gs (λ pss. G ((replicate h q ++ taken (vertexAt frame) e) ∷ pss)) (F .1 (replicate h q ++ taken (vertexAt frame) e)) frames (long .1) (tail weights)
+    fixes-over gs (λ pss. G ((replicate h q ++ taken (vertexAt frame) e) ∷ pss)) (F .1 (replicate h q ++ taken (vertexAt frame) e)) frames (long .2) (tail weights)
     (λ rest. fixed (suc (g .dimension)) (head weights) (λ r. f (r ∷ rest)) h e)
     (λ rest p.
     fixes (F .0 (takenOver frames rest)) (vertexAt frame) (head weights) (λ r. f (r ∷ rest)) (λ r l t. agrees (r ∷ rest) (l, t, p)) h e (shorter (named .0)) (named .1))
@@ -142,13 +147,9 @@ none-taken (g ∷ gs) [] frames es l long counted = absurd (zero-one l)
 none-taken (g ∷ gs) (q ∷ qs) [] es l long counted = absurd long
 none-taken (g ∷ gs) (q ∷ qs) (frame ∷ frames) [] l long counted = absurd counted
 none-taken (g ∷ gs) (q ∷ qs) (frame ∷ frames) (e ∷ es) l long counted =
-    ap (λ r. taken (vertexAt frame) e ∷ r) (none-taken gs qs frames es (down l) (long .1) (counted .2))
+    ap (λ r. taken (vertexAt frame) e ∷ r) (none-taken gs qs frames es (down l) (long .2) (counted .2))
 
--- the frames with q in the place of vertex v of group i
-abbrev pub putOver : ℕ → ℕ → Point → List (List Point) → List (List Point)
-putOver i v q frames = set frames i (set (getD frames i []) v q)
-
--- over them the copies of that vertex are copies of q
+-- over the frames with q in the place of vertex v of group i the copies of that vertex are copies of q
 pub putting-over : (gs : List Group) (G : List (List Point) → ℤ) → Forms gs G → (frames : List (List Point)) → Framed gs frames → (qs : List Point) → length qs ≡ length gs
     → (i v : ℕ) → v < length (getD frames i []) → (es : List (List ℕ)) → Counted gs es
     → G (takenOver (putOver i v (getD qs i []) frames) es) ≡ G (takenOver (before qs frames) (asQ i v es))
@@ -160,9 +161,9 @@ putting-over (g ∷ gs) G F (frame ∷ frames) long (q ∷ qs) l i v h [] counte
 putting-over (g ∷ gs) G F (frame ∷ frames) long (q ∷ qs) l zero v h (e ∷ es) counted =
     ap (λ fr. G (taken fr e ∷ takenOver frames es)) (fun-ext (vertex-set frame v q h))
     ∙ putting (F .0 (takenOver frames es)) (vertexAt frame) q v e
-    ∙ ap (λ pss. G ((replicate (getD e v 0) q ++ taken (vertexAt frame) (set e v 0)) ∷ pss)) (sym (none-taken gs qs frames es (down l) (long .1) (counted .2)))
+    ∙ ap (λ pss. G ((replicate (getD e v 0) q ++ taken (vertexAt frame) (set e v 0)) ∷ pss)) (sym (none-taken gs qs frames es (down l) (long .2) (counted .2)))
 putting-over (g ∷ gs) G F (frame ∷ frames) long (q ∷ qs) l (suc i) v h (e ∷ es) counted =
-    putting-over gs (λ pss. G (taken (vertexAt frame) e ∷ pss)) (F .1 (taken (vertexAt frame) e)) frames (long .1) qs (down l) i v h es (counted .2)
+    putting-over gs (λ pss. G (taken (vertexAt frame) e ∷ pss)) (F .1 (taken (vertexAt frame) e)) frames (long .2) qs (down l) i v h es (counted .2)
 
 -- over the frames with −v in the place of v the sign changes where v is taken an odd number of times
 pub flipping-over : (gs : List Group) (G : List (List Point) → ℤ) → Forms gs G → (frames : List (List Point)) → Framed gs frames
@@ -177,7 +178,7 @@ flipping-over (g ∷ gs) G F (frame ∷ frames) long zero v h (e ∷ es) counted
     ap (λ fr. G (taken fr e ∷ takenOver frames es)) (fun-ext (vertex-set frame v (map negℤ (vertexAt frame v)) h))
     ∙ flipping (F .0 (takenOver frames es)) (vertexAt frame) v e
 flipping-over (g ∷ gs) G F (frame ∷ frames) long (suc i) v h (e ∷ es) counted =
-    flipping-over gs (λ pss. G (taken (vertexAt frame) e ∷ pss)) (F .1 (taken (vertexAt frame) e)) frames (long .1) i v h es (counted .2)
+    flipping-over gs (λ pss. G (taken (vertexAt frame) e ∷ pss)) (F .1 (taken (vertexAt frame) e)) frames (long .2) i v h es (counted .2)
 
 -- ---- the counts that calls name
 

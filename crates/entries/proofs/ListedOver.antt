@@ -9,6 +9,7 @@ use lib.Dec.{lit≤}
 use lib.IntN.{ℤ}
 use lib.ListN.{length, getD, length-append, length-map, List·getD-append}
 use lib.Seq.{getD-append-add}
+use Rattle.integers.proofs.Sums.{getD-map}
 use Rattle.polar.specs.Order.{counts}
 use Rattle.polar.specs.Groups.{Group, pairs, countsOver}
 use Rattle.polar.proofs.Order.{counts-total}
@@ -19,11 +20,6 @@ use Rattle.entries.proofs.Places.{placed, member-counts}
 use Rattle.entries.proofs.Groups.{Counted}
 
 -- ---- pairs
-
-getD-map : {A B : Type 0} (f : A → B) (xs : List A) (p : ℕ) (a : A) (b : B) → p < length xs → getD (map f xs) p b ≡ f (getD xs p a)
-getD-map f [] p a b h = absurd (not-suc-le-zero h)
-getD-map f (x ∷ xs) zero a b h = refl
-getD-map f (x ∷ xs) (suc p) a b h = getD-map f xs p a b (le-of-suc-le-suc h)
 
 -- past p rows and one more there are as many members as past one row and p more
 next-row : (p k r : ℕ) → suc p * k + r ≡ k + (p * k + r)

@@ -14,6 +14,7 @@ use lib.ListN.{length, getD, length-append, length-map}
 use lib.Seq.{getD-append-add}
 use Rattle.integers.proofs.All.{clash}
 use Rattle.integers.specs.Sum.{upto}
+use Rattle.integers.proofs.Sums.{getD-map}
 use Rattle.polar.specs.Order.{joined, total, counts}
 use Rattle.polar.proofs.Order.{counts-total}
 use Rattle.entries.specs.Entries.{same, placeOf}
@@ -226,11 +227,6 @@ getD-member [] p h = absurd (not-suc-le-zero h)
 getD-member (x ∷ xs) zero h = List·Memᴰ·head refl
 getD-member (x ∷ xs) (suc p) h = List·Memᴰ·tail (getD-member xs p (le-of-suc-le-suc h))
 
-getD-map : (f : List ℕ → List ℕ) (xs : List (List ℕ)) (p : ℕ) → p < length xs → getD (map f xs) p [] ≡ f (getD xs p [])
-getD-map f [] p h = absurd (not-suc-le-zero h)
-getD-map f (x ∷ xs) zero h = refl
-getD-map f (x ∷ xs) (suc p) h = getD-map f xs p (le-of-suc-le-suc h)
-
 -- the counts at a place have the right length and total
 pub counts-at : (n m p : ℕ) → p < length (counts n m) → (length (getD (counts n m) p []) ≡ suc n) × (total (getD (counts n m) p []) ≡ m)
 counts-at n m p h = counts-total n m (getD (counts n m) p []) (getD-member (counts n m) p h)
@@ -246,6 +242,6 @@ rank-at zero m (suc p) h = absurd (wrong h)
 rank-at (suc n) m p h =
     let r = find-row (rowOf n m) (suc m) p (subst (λ k. p < k) (length-rows (rowOf n m) (suc m)) h) in
     let below : r .at < length (counts n (r .row)) = subst (λ k. r .at < k) (length-map (counts n (r .row)) (λ y. (m - r .row) ∷ y)) (r .at-below) in
-    ap (rank (suc n)) (r .holds ∙ getD-map (λ y. (m - r .row) ∷ y) (counts n (r .row)) (r .at) below)
+    ap (rank (suc n)) (r .holds ∙ getD-map (λ y. (m - r .row) ∷ y) (counts n (r .row)) (r .at) [] [] below)
     ∙ ap₂ _+_ (ap (offset (counts n)) (counts-at n (r .row) (r .at) below .1)) (rank-at n (r .row) (r .at) below)
     ∙ sym (r .is ∙ ap (λ k. k + r .at) (offset-row n m (r .row)))

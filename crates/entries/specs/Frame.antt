@@ -5,7 +5,7 @@ use mathlib.Core.Bool.{cond}
 use mathlib.Core.List.{List, [], _∷_, _++_, map}
 use lib.Dec.{eqb}
 use lib.IntN.{ℤ, pos, _*ℤ_}
-use lib.ListN.{getD, replicate}
+use lib.ListN.{getD, set, replicate}
 use Rattle.integers.specs.Sum.{sum, upto}
 use Rattle.polar.specs.Sigma.{Point}
 use Rattle.polar.specs.Groups.{Group, head, tail}
@@ -46,3 +46,7 @@ pointsOver (g ∷ gs) weights frames = combination (suc (g .dimension)) (head we
 abbrev pub before : List Point → List (List Point) → List (List Point)
 before [] frames = []
 before (q ∷ qs) frames = (q ∷ head frames) ∷ before qs (tail frames)
+
+-- the frames with another point in the place of vertex v of group i
+abbrev pub putOver : ℕ → ℕ → Point → List (List Point) → List (List Point)
+putOver i v q frames = set frames i (set (getD frames i []) v q)

@@ -8,7 +8,7 @@ use mathlib.Core.Logic.{_⊎_, inl, inr}
 use mathlib.Core.Bool.{Bool, true, false, _&&_}
 use mathlib.Core.List.{List, [], _∷_, _++_, map, List·Memᴰ, List·Memᴰ·head, List·Memᴰ·tail, List·Memᴰ·not-nil, List·Memᴰ·cases-cons}
 use lib.IntN.{ℤ, pos}
-use lib.ListN.{length, getD, take, drop}
+use lib.ListN.{length, getD, set, take, drop}
 use lib.Seq.{drop-cons}
 use Rattle.integers.specs.Test.{all}
 
@@ -67,6 +67,18 @@ module _ {A : Type 0} (test : A → Bool) where
   pub all-append : (xs ys : List A) → all test (xs ++ ys) ≡ (all test xs && all test ys)
   all-append [] ys = refl
   all-append (x ∷ xs) ys = ap (λ b. test x && b) (all-append xs ys) ∙ sym (and-assoc (test x) (all test xs) (all test ys))
+
+  -- a member, or what stands for it where there is none
+  pub all-getD : (xs : List A) (i : ℕ) (d : A) → all test xs ≡ true → test d ≡ true → test (getD xs i d) ≡ true
+  all-getD [] i d h k = k
+  all-getD (x ∷ xs) zero d h k = and-parts (test x) (all test xs) h .0
+  all-getD (x ∷ xs) (suc i) d h k = all-getD xs i d (and-parts (test x) (all test xs) h .1) k
+
+  -- with another member
+  pub all-set : (xs : List A) (i : ℕ) (y : A) → all test xs ≡ true → test y ≡ true → all test (set xs i y) ≡ true
+  all-set [] i y h k = refl
+  all-set (x ∷ xs) zero y h k = and-true k (and-parts (test x) (all test xs) h .1)
+  all-set (x ∷ xs) (suc i) y h k = let both = and-parts (test x) (all test xs) h in and-true (both .0) (all-set xs i y (both .1) k)
 
 pub all-cong : {A : Type 0} (f g : A → Bool) (xs : List A) → ((x : A) → List·Memᴰ x xs → f x ≡ g x) → all f xs ≡ all g xs
 all-cong f g [] h = refl

@@ -1,11 +1,11 @@
 -- The laws of sums: each is an induction on the list, with the ring's laws at each step.
-use mathlib.Core.Path.{_≡_, refl, sym, _∙_, ap, ap₂}
+use mathlib.Core.Path.{_≡_, refl, sym, _∙_, ap, ap₂, subst}
 use mathlib.Core.List.{List, [], _∷_, _++_, map, List·Memᴰ, List·Memᴰ·head, List·Memᴰ·tail, List·Memᴰ·not-nil, List·Memᴰ·cases-cons, Memᴰ·map}
 use mathlib.Core.Logic.{_⊎_, inl, inr}
 use Prim.Native.Nat.{ℕ, zero, suc, _+_, _*_, _≤_, _<_, zero-le}
 use native.Mathlib.Nat.{suc-mul, le-of-suc-le-suc, not-suc-le-zero}
 use native.Mathlib.Omega.{arith}
-use lib.ListN.{length, length-map}
+use lib.ListN.{length, getD, length-map}
 use lib.IntN.{ℤ, pos, negℤ, natAbs, _+ℤ_, _*ℤ_, +ℤ-assoc, +ℤ-idl, +ℤ-idr, *ℤ-zero, zero-*ℤ, negℤ-+ℤ}
 use Rattle.integers.specs.Sum.{sum, upto}
 use Rattle.integers.proofs.Laws.{*ℤ-distl, *ℤ-distr, +ℤ-swap, natAbs-+}
@@ -81,6 +81,17 @@ upto-snoc (suc n) = ap (λ l. 0 ∷ map suc l) (upto-snoc n) ∙ ap (λ l. 0 ∷
 pub length-upto : (n : ℕ) → length (upto n) ≡ n
 length-upto zero = refl
 length-upto (suc n) = ap suc (length-map (upto n) suc ∙ length-upto n)
+
+-- a member of a list that a function made
+pub getD-map : {A B : Type 0} (f : A → B) (xs : List A) (p : ℕ) (a : A) (b : B) → p < length xs → getD (map f xs) p b ≡ f (getD xs p a)
+getD-map f [] p a b h = absurd (not-suc-le-zero h)
+getD-map f (x ∷ xs) zero a b h = refl
+getD-map f (x ∷ xs) (suc p) a b h = getD-map f xs p a b (le-of-suc-le-suc h)
+
+pub upto-at : (n p : ℕ) → p < n → getD (upto n) p 0 ≡ p
+upto-at zero p h = absurd (not-suc-le-zero h)
+upto-at (suc n) zero h = refl
+upto-at (suc n) (suc p) h = getD-map suc (upto n) p 0 0 (subst (λ k. p < k) (sym (length-upto n)) (le-of-suc-le-suc h)) ∙ ap suc (upto-at n p (le-of-suc-le-suc h))
 
 below-map : (n : ℕ) (xs : List ℕ) → ((i : ℕ) → List·Memᴰ i xs → i < n) → (j : ℕ) → List·Memᴰ j (map suc xs) → j < suc n
 below-map n [] h j m = absurd (List·Memᴰ·not-nil m)

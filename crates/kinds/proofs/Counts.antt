@@ -17,7 +17,7 @@ use Rattle.entries.proofs.ListedOver.{length-pairs}
 use Rattle.kinds.specs.Kinds.{group, groupsOf, dimensionOf, laterGroups, mostVertices, known}
 use Rattle.kinds.specs.Frames.{vertexCount, frameCount}
 use Rattle.kinds.specs.Counts.{NumberCount}
-use Rattle.kinds.proofs.Limits.{UpTo, NoKind, by-known, by-kind, by-none, no-groups, groups-of}
+use Rattle.kinds.proofs.Limits.{NoKind, by-known, by-kind, no-groups, groups-of}
 
 -- ---- any groups
 

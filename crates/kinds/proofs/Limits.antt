@@ -1,11 +1,11 @@
 -- What a kind with its degrees can be, where it is known: a curve of degree 1 to 10 or a patch of degree 1 to 8, the second degree 0, or a rectangular patch with both degrees
 -- from 1 to 5. `by-known` goes through these cases; every other law on known kinds is an instance of it, or a computed test over the table of kinds and degrees.
-use Prim.Native.Nat.{ℕ, zero, suc, _*_, _-_, _≤_, _<_}
+use Prim.Native.Nat.{ℕ, zero, suc, _-_, _≤_, _<_}
 use native.Mathlib.Omega.{arith}
-use mathlib.Core.Path.{_≡_, refl, sym, ap, ap₂, _∙_, subst}
-use mathlib.Core.Bool.{Bool, true, false, _&&_}
+use mathlib.Core.Path.{_≡_, refl, sym, subst}
+use mathlib.Core.Bool.{true, false, _&&_}
 use mathlib.Core.List.{[], _∷_}
-use lib.Dec.{leb, eqb, lit≤}
+use lib.Dec.{leb, eqb}
 use borrow.Author.Tests.{leb-true, eqb-true}
 use Rattle.integers.proofs.All.{clash, and-parts}
 use Rattle.kinds.specs.Kinds.{group, groupsOf, dimensionOf, laterGroups, laterDimension, known}

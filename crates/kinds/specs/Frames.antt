@@ -7,6 +7,7 @@ use lib.ListN.{getD, take, drop}
 use Rattle.integers.specs.Sum.{sum, upto}
 use Rattle.integers.specs.Test.{within, all}
 use Rattle.polar.specs.Sigma.{Point}
+use Rattle.polar.specs.Order.{joined}
 use Rattle.polar.specs.Groups.{Group}
 use Rattle.entries.specs.Entries.{odd}
 use Rattle.projection.specs.Projection.{isZero}
@@ -52,11 +53,16 @@ frameCount (g ∷ gs) = suc (g .dimension) * suc (g .dimension) + frameCount gs
 abbrev pub Frames : Type 0
 Frames = List (List Point)
 
+-- the frames that the first of some numbers make
 unfoldable pub framesOf : List Group → List ℤ → Frames
 framesOf [] numbers = []
 framesOf (g ∷ gs) numbers =
     let d = suc (g .dimension) in
     frameOf d numbers ∷ framesOf gs (drop (d * d) numbers)
+
+-- the numbers of frames, group after group and vertex after vertex
+abbrev pub numbersOf : Frames → List ℤ
+numbersOf frames = joined (joined (λ p. p)) frames
 
 unfoldable pub framesAllowed : List Group → List ℤ → Bool
 framesAllowed [] numbers = true

@@ -9,13 +9,11 @@ use lib.IntN.{ℤ, pos}
 use lib.ListN.{length, getD, take}
 use Rattle.projection.specs.Projection.{projectionOf}
 use Rattle.projection.specs.declared.Projection.{Projection}
-use Rattle.entries.specs.Entries.{numberCount}
 use Rattle.entries.proofs.ListedOver.{length-listed-over}
 use Rattle.machine.specs.Refusals.{_else_, firstFailed}
 use Rattle.machine.specs.Steps.{Answer, Found, Refused, pointValues, foundAt, Step, stepBy, after, answers}
 use Rattle.machine.specs.Nets.{Net, netTests, accepted, stepOf}
-use Rattle.machine.specs.Sizes.{callTests}
-use Rattle.machine.specs.Comparison.{Polynomials, groups, machinePolar, machineAccepted, machineStep, netOver}
+use Rattle.machine.specs.Comparison.{Polynomials, groups, machineTests, machineAccepted, machineStep, netOver}
 use Rattle.integers.proofs.All.{clash}
 use Rattle.kinds.specs.Frames.{Frames, framesOf}
 use Rattle.machine.specs.First.{firstNet, firstTests, firstRefusal}
@@ -29,10 +27,10 @@ use Rattle.machine.proofs.Over.{Reached, call-agrees}
 use Rattle.machine.proofs.Demand3.{start-reached}
 use Rattle.machine.proofs.Lent.{Sound, read-back, put-long, put-others}
 
--- every net reached has its right number of entries
+-- every net reached has all its numbers
 pub reached-sound : (f : Polynomials) (frames : Frames) → Reached f frames → Sound (netOver f frames)
 unfolding netOver
-reached-sound f frames at = record { right = at .right; exact = length-listed-over (groups f) _ }
+reached-sound f frames at = record { right = at .right; framed = at .long; exact = length-listed-over (groups f) _ }
 
 -- the net over the frames stands in the places
 record Stands (f : Polynomials) (frames : Frames) (lent : List ℤ) : Type 0 where
@@ -47,7 +45,7 @@ put-stands f frames lent enough at =
 
 put-kept : (f : Polynomials) (frames : Frames) (lent : List ℤ) → wide lent ≡ true → Reached f frames → otherPlaces f (put (netOver f frames) lent) ≡ otherPlaces f lent
 unfolding netOver
-put-kept f frames lent enough at = put-others (netOver f frames) lent enough (reached-sound f frames at) (numberCount (groups f)) refl
+put-kept f frames lent enough at = put-others (netOver f frames) lent enough (reached-sound f frames at)
 
 -- ---- one call
 
@@ -81,7 +79,7 @@ step-leaves (suc k) state step h = refl
 point-leaves : (f : Polynomials) (frames : Frames) (c : Call) (found : List ℤ) → room c found ≡ false → machineStep f frames c .left ≡ frames
 unfolding machineStep machineAccepted
 point-leaves f frames (call.Move operation vertex weights) found h = absurd (clash refl h)
-point-leaves f frames (call.Point weights) found h = step-leaves (firstFailed (callTests (groups f) (call.Point weights) (machinePolar f frames (call.Point weights)))) frames (machineAccepted f frames (call.Point weights)) refl
+point-leaves f frames (call.Point weights) found h = step-leaves (firstFailed (machineTests f frames (call.Point weights))) frames (machineAccepted f frames (call.Point weights)) refl
 
 returned-is : {a b : Answer} {xs ys : List ℤ} → a ≡ b → xs ≡ ys → _≡_ {A = Returned} (record { answer = a; found = xs }) (record { answer = b; found = ys })
 returned-is p q = λ i. record { answer = p i; found = q i }

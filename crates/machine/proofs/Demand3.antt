@@ -1,32 +1,30 @@
 -- Demand 3: along the list, the net is always the net over the comparison machine's frames, by the agreement at each single call.
-use Prim.Native.Nat.{ℕ, suc, _*_}
+use Prim.Native.Nat.{ℕ}
 use native.Mathlib.Omega.{arith}
 use mathlib.Core.Path.{_≡_, refl, sym, ap, ap₂, _∙_}
 use mathlib.Core.Logic.{_↔_}
 use mathlib.Core.Bool.{Bool, true, false}
 use mathlib.Core.List.{List, [], _∷_}
 use lib.IntN.{ℤ, natAbs}
-use lib.ListN.{drop, length-map}
 use borrow.Author.Tests.{leb-true, leb-false}
 use Rattle.integers.specs.Sum.{upto}
-use Rattle.integers.proofs.Sums.{length-upto, upto-below}
-use Rattle.polar.specs.Groups.{Group}
-use Rattle.entries.proofs.Groups.{Framed}
+use Rattle.integers.proofs.Sums.{upto-below}
 use Rattle.projection.specs.Projection.{limit, inRange}
 use Rattle.machine.specs.Refusals.{_else_, firstFailed, allPass}
 use Rattle.integers.specs.Test.{all}
 use Rattle.integers.proofs.All.{all-fails}
-use Rattle.kinds.specs.Frames.{Frames, frameOf, framesOf}
-use Rattle.machine.specs.Calls.{beforeSize}
+use Rattle.kinds.specs.Frames.{Frames, framesOf}
+use Rattle.kinds.proofs.Frames.{framed-numbers}
 use Rattle.machine.specs.Sizes.{namedBy, allNamed, callTests}
 use Rattle.machine.specs.Steps.{Refused, refusalNumber, foundAt, stepBy, after, answers}
 use Rattle.machine.specs.Nets.{stepOf}
-use Rattle.machine.specs.Comparison.{Polynomials, groups, machinePolar, machineAccepted, machineStep, netOver}
+use Rattle.machine.specs.Comparison.{Polynomials, groups, machinePolar, machineBefore, machineTests, machineAccepted, machineStep, netOver}
 use Rattle.machine.specs.First.{firstTests, firstRefusal}
 use Rattle.machine.specs.Demand3.{Beyond, framesReached, Demand3}
 use Rattle.machine.specs.declared.Call.{Call}
 use Rattle.machine.specs.declared.Call.the-variants as call
 use Rattle.machine.proofs.Refusals.{none-failed, passed-first, row-passes}
+use Rattle.machine.proofs.Frames.{in-range-start}
 use Rattle.machine.proofs.Over.{Reached, named-at, call-agrees}
 
 -- ---- along a list
@@ -50,12 +48,6 @@ along f frames at (c ∷ cs) =
 
 -- ---- the start
 
--- the frames of the numbers have all vertices
-framed-numbers : (gs : List Group) (numbers : List ℤ) → Framed gs (framesOf gs numbers)
-unfolding framesOf frameOf
-framed-numbers [] numbers = tt
-framed-numbers (g ∷ gs) numbers = (length-map (upto (suc (g .dimension))) _ ∙ length-upto (suc (g .dimension)), framed-numbers gs (drop (suc (g .dimension) * suc (g .dimension)) numbers))
-
 pub start-reached : (f : Polynomials) (numbers : List ℤ) → firstRefusal f numbers ≡ 0 → Reached f (framesOf (groups f) numbers)
 unfolding firstRefusal firstTests
 start-reached f numbers ok =
@@ -64,6 +56,7 @@ start-reached f numbers ok =
       long = framed-numbers (groups f) numbers;
       right = row-passes (firstTests f numbers) passed 0;
       fits = row-passes (firstTests f numbers) passed 3;
+      near = in-range-start (groups f) numbers (row-passes (firstTests f numbers) passed 1);
     }
 
 -- ---- sizes
@@ -95,13 +88,13 @@ sized-by f frames c false e = (
   λ beyond. refl,
 )
 
-pub sized : (f : Polynomials) (frames : Frames) → Reached f frames → (c : Call) → allPass (beforeSize (groups f) c) ≡ true
+pub sized : (f : Polynomials) (frames : Frames) → Reached f frames → (c : Call) → allPass (machineBefore f frames c) ≡ true
     → (stepOf (netOver f frames) c .answer ≡ Refused 10) ↔ Beyond f frames c
-unfolding machineStep callTests
+unfolding machineStep machineTests machineBefore callTests
 sized f frames at c ok =
     let b = allNamed (namedBy (groups f) c) (machinePolar f frames c) in
     let step : stepOf (netOver f frames) c .answer ≡ stepBy (firstFailed (b else 10 ∷ [])) frames (machineAccepted f frames c) .answer =
-    call-agrees f frames at c .answers ∙ ap (λ k. stepBy k frames (machineAccepted f frames c) .answer) (passed-first (beforeSize (groups f) c) (b else 10 ∷ []) ok) in
+    call-agrees f frames at c .answers ∙ ap (λ k. stepBy k frames (machineAccepted f frames c) .answer) (passed-first (machineBefore f frames c) (b else 10 ∷ []) ok) in
     let both = sized-by f frames c b refl in
     (λ r. both .0 (sym step ∙ r), λ beyond. step ∙ both .1 beyond)
 

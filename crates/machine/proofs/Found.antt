@@ -8,8 +8,8 @@ use lib.Dec.{lit≤}
 use lib.IntN.{ℤ}
 use Rattle.integers.proofs.All.{clash, and-true, and-parts}
 use Rattle.polar.specs.Order.{counts}
-use Rattle.polar.specs.Groups.{Group, pairs, countsOver}
-use Rattle.projection.specs.Projection.{inRange, allInRange, projectionOf, refusal}
+use Rattle.polar.specs.Groups.{Group, countsOver}
+use Rattle.projection.specs.Projection.{inRange}
 use Rattle.projection.proofs.Cases.{projected}
 use Rattle.entries.specs.Entries.{noneOfQ, onlyQ}
 use Rattle.entries.proofs.Places.{member-counts}
@@ -19,7 +19,7 @@ use Rattle.kinds.specs.Kinds.{Row, rowsOf, groupsBy, degreesAllowed, some, know
 use Rattle.machine.specs.Refusals.{Test, _else_, firstFailed}
 use Rattle.machine.specs.Sizes.{namedByReplace, namedByPoint, namedBy, allNamed, callTests}
 use Rattle.machine.specs.Steps.{foundAt, stepBy}
-use Rattle.machine.specs.Nets.{Net, netGroups, netPolar, netInRange, handedTests, netTests, accepted, stepOf}
+use Rattle.machine.specs.Nets.{Net, netGroups, netPolar, netInRange, handedTests, judgedNumbers, netTests, accepted, stepOf}
 use Rattle.machine.specs.Found.{AnswerInRange, FoundInRange}
 use Rattle.machine.specs.declared.Call.{Call}
 use Rattle.machine.specs.declared.Call.the-variants as call
@@ -53,9 +53,9 @@ net-passed : (net : Net) (c : Call) → firstFailed (netTests net c) ≡ 0
     → (some (rowsOf (net .kind)) ≡ true) × (allNamed (namedBy (netGroups net) c) (netPolar net c) ≡ true)
 unfolding netTests handedTests
 net-passed net c h =
-    let both = handed-first (known (net .kind) (net .degree) (net .second)) (netInRange net) (callTests (netGroups net) c (netPolar net c)) h in (
+    let both = handed-first (known (net .kind) (net .degree) (net .second)) (netInRange net) (callTests (netGroups net) c (judgedNumbers net c) (netPolar net c)) h in (
       and-parts (some (rowsOf (net .kind))) (degreesAllowed (rowsOf (net .kind)) (net .degree ∷ net .second ∷ [])) (both .0) .0,
-      call-passed (netGroups net) c (netPolar net c) (both .1) .1,
+      call-passed (netGroups net) c (judgedNumbers net c) (netPolar net c) (both .1) .2,
     )
 
 -- components in range have a projection

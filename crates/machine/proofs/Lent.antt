@@ -1,29 +1,34 @@
--- A net that is put into lent places is read back from them, and no other place changes. By the list that `put` gives, and the limits of the kinds.
-use Prim.Native.Nat.{ℕ, zero, suc, _+_, _≤_, _<_}
+-- A net that is put into lent places is read back from them, and no other place changes. By the laws of numbers put into places, and the limits of the kinds.
+use Prim.Native.Nat.{ℕ, zero, suc, _+_, _-_, _≤_, _<_}
+use native.Mathlib.Nat.{sub-zero, zero-sub, suc-sub-suc}
 use native.Mathlib.Omega.{arith}
 use mathlib.Core.Path.{_≡_, refl, sym, ap, ap₂, _∙_, subst}
 use mathlib.Core.Bool.{Bool, true, false, cond}
 use mathlib.Core.List.{List, [], _∷_, _++_, append-assoc}
-use lib.Dec.{leb}
+use lib.Dec.{leb, lit≤}
 use lib.IntN.{ℤ, pos, negsuc}
 use lib.ListN.{length, set, take, drop, length-append, length-drop, take-append-drop}
-use lib.Seq.{take-at, drop-at, take-take, drop-drop, drop-append-le, length-take-le}
+use lib.Seq.{take-append-add, take-nil, take-at, drop-at, take-take, drop-drop, take-append-le, drop-append-le, drop-append-add, length-take-le, slice}
 use borrow.Author.Tests.{leb-true, le-leb}
 use Rattle.entries.specs.Entries.{numberCount}
+use Rattle.entries.proofs.Groups.{Framed}
 use Rattle.entries.proofs.ListedOver.{length-listed-over}
 use Rattle.integers.proofs.All.{clash}
 use Rattle.kinds.specs.Kinds.{groupsOf, known}
+use Rattle.kinds.specs.Frames.{frameCount, framesOf, numbersOf}
 use Rattle.kinds.proofs.Limits.{limits}
-use Rattle.kinds.proofs.Counts.{entries-fit}
+use Rattle.kinds.proofs.Counts.{entries-fit, frame-few}
+use Rattle.kinds.proofs.Frames.{framed-numbers, length-numbers, frames-back, numbers-back}
 use Rattle.machine.specs.Refusals.{_else_}
-use Rattle.machine.specs.Calls.{beforeSize}
-use Rattle.machine.specs.Sizes.{callTests}
-use Rattle.machine.specs.Nets.{Net, netGroups, handedTests, netTests, withEntries, accepted}
+use Rattle.machine.specs.Calls.{ownTests}
+use Rattle.machine.specs.Sizes.{beforeSize, callTests}
+use Rattle.machine.specs.Nets.{Net, netGroups, handedTests, judgedNumbers, netTests, entriesAfter, accepted}
 use Rattle.machine.specs.Lent.{byteOf, netAt, putAt, put, wide, unlessRefused, room, callNumber, callPlaces}
 use Rattle.machine.specs.declared.Weights.{Weights}
 use Rattle.machine.specs.declared.Call.{Call}
 use Rattle.machine.specs.declared.Call.the-variants as call
 use Rattle.machine.proofs.Refusals.{none-failed, row-passes}
+use Rattle.machine.proofs.Frames.{framed-after}
 
 -- ---- places
 
@@ -44,44 +49,177 @@ front-put (a ∷ ys) (x ∷ xs) h =
     let past : suc (0 + length ys) ≡ 0 + suc (length ys) = omega arith in
     set-past 0 ys a xs ∙ ap (λ l. a ∷ l) (front-put ys xs (omega arith)) ∙ ap (λ k. a ∷ (ys ++ drop k (x ∷ xs))) past
 
+-- from any place on
+pub set-put : {A : Type 0} (at : ℕ) (ys xs : List A) → at + length ys ≤ length xs → setFrom at ys xs ≡ putAt at ys xs
+set-put zero ys xs h = front-put ys xs (omega arith)
+set-put (suc k) ys [] h = absurd (omega arith)
+set-put (suc k) ys (x ∷ xs) h =
+    let past : suc (k + length ys) ≡ suc k + length ys = omega arith in
+    set-past k ys x xs ∙ ap (λ l. x ∷ l) (set-put k ys xs (omega arith)) ∙ ap (λ j. x ∷ (take k xs ++ (ys ++ drop j (x ∷ xs)))) past
+
+-- ---- numbers put into places
+
+pub drop-take : (n m : ℕ) (l : List ℤ) → drop n (take m l) ≡ take (m - n) (drop n l)
+drop-take zero m l = ap (λ k. take k l) (sym (sub-zero m))
+drop-take (suc n) zero l = ap (λ k. take k (drop (suc n) l)) (sym (zero-sub (suc n)))
+drop-take (suc n) (suc m) [] = sym (take-nil (suc m - suc n))
+drop-take (suc n) (suc m) (x ∷ l) = drop-take n m l ∙ ap (λ k. take k (drop n l)) (sym (suc-sub-suc m n))
+
+module _ (at : ℕ) (xs lent : List ℤ) (fits : at + length xs ≤ length lent) where
+  front : length (take at lent) ≡ at
+  front = length-take-le at lent (omega arith)
+
+  -- no place is lost
+  pub put-length : length (putAt at xs lent) ≡ length lent
+  put-length = let f = front in simp (length-append, length-drop) (omega arith)
+
+  -- they stand there
+  pub put-own : drop at (putAt at xs lent) ≡ xs ++ drop (at + length xs) lent
+  put-own = drop-at (take at lent) (xs ++ drop (at + length xs) lent) at front
+
+  -- and no other place changes: neither before them nor behind them
+  pub put-before : (n : ℕ) → n ≤ at → take n (putAt at xs lent) ≡ take n lent
+  put-before n h = take-append-le n (take at lent) (xs ++ drop (at + length xs) lent) (subst (λ k. n ≤ k) (sym front) h) ∙ take-take n at lent h
+
+  pub put-behind : (n : ℕ) → at + length xs ≤ n → drop n (putAt at xs lent) ≡ drop n lent
+  put-behind n h =
+      let k = n - (at + length xs) in
+      let n-is : n ≡ at + (length xs + (n - (at + length xs))) = omega arith in
+      let so : at + length xs + (n - (at + length xs)) ≡ n = omega arith in
+      ap (λ j. drop j (putAt at xs lent)) n-is
+      ∙ sym (drop-drop (length xs + k) at (putAt at xs lent))
+      ∙ ap (drop (length xs + k)) put-own
+      ∙ drop-append-add xs (drop (at + length xs) lent) k
+      ∙ drop-drop k (at + length xs) lent
+      ∙ ap (λ j. drop j lent) so
+
+  pub put-between : (n m : ℕ) → at + length xs ≤ n → slice n m (putAt at xs lent) ≡ slice n m lent
+  put-between n m h = drop-take n m (putAt at xs lent) ∙ ap (take (m - n)) (put-behind n h) ∙ sym (drop-take n m lent)
+
+-- to put numbers where they stand changes nothing
+put-same : (at n : ℕ) (lent : List ℤ) → at + n ≤ length lent → putAt at (take n (drop at lent)) lent ≡ lent
+put-same at n lent fits =
+    ap (λ k. take at lent ++ (take n (drop at lent) ++ drop (at + k) lent)) (length-take-le n (drop at lent) (simp length-drop (omega arith)))
+    ∙ ap (λ l. take at lent ++ l) (ap (λ l. take n (drop at lent) ++ l) (sym (drop-drop n at lent)) ∙ take-append-drop n (drop at lent))
+    ∙ take-append-drop at lent
+
+-- numbers put into the first of two lists, or into the second
+pub put-first : (at : ℕ) (xs A B : List ℤ) → at + length xs ≤ length A → putAt at xs (A ++ B) ≡ putAt at xs A ++ B
+put-first at xs A B h =
+    ap₂ (λ l r. l ++ (xs ++ r)) (take-append-le at A B (omega arith)) (drop-append-le (at + length xs) A B h)
+    ∙ sym (append-assoc (take at A) (xs ++ drop (at + length xs) A) B ∙ ap (λ l. take at A ++ l) (append-assoc xs (drop (at + length xs) A) B))
+
+pub put-second : (at : ℕ) (xs A B : List ℤ) → putAt (length A + at) xs (A ++ B) ≡ A ++ putAt at xs B
+put-second at xs A B =
+    let further : length A + at + length xs ≡ length A + (at + length xs) = omega arith in
+    ap₂ (λ l r. l ++ (xs ++ r)) (take-append-add A B at) (ap (λ k. drop k (A ++ B)) further ∙ drop-append-add A B (at + length xs))
+    ∙ append-assoc A (take at B) (xs ++ drop (at + length xs) B)
+
+-- numbers put into a part that is put where it stands
+pub put-within : (at k n : ℕ) (xs lent : List ℤ) → at + n ≤ length lent → k + length xs ≤ n → putAt at (putAt k xs (take n (drop at lent))) lent ≡ putAt (at + k) xs lent
+put-within at k n xs lent fits inside =
+    ap (λ j. take at lent ++ (putAt k xs part ++ drop (at + j) lent)) (put-length k xs part (omega (arith, part-long)) ∙ part-long)
+    ∙ sym
+    (ap₂ (λ j l. putAt (j + k) xs l) (sym front-long) whole
+    ∙ put-second k xs (take at lent) (part ++ drop (at + n) lent)
+    ∙ ap (λ l. take at lent ++ l) (put-first k xs part (drop (at + n) lent) (omega (arith, part-long))))
+  where
+    part : List ℤ
+    part = take n (drop at lent)
+
+    part-long : length part ≡ n
+    part-long = length-take-le n (drop at lent) (simp length-drop (omega arith))
+
+    front-long : length (take at lent) ≡ at
+    front-long = length-take-le at lent (omega arith)
+
+    whole : lent ≡ take at lent ++ (part ++ drop (at + n) lent)
+    whole = sym (ap (λ l. take at lent ++ l) (ap (λ l. part ++ l) (sym (drop-drop n at lent)) ∙ take-append-drop n (drop at lent)) ∙ take-append-drop at lent)
+
+-- ---- nets
+
 byte-back : (n : ℕ) → n < 256 → byteOf (pos n) ≡ n
 byte-back n h = ap (λ b. cond b n 255) (le-leb n 255 (omega arith))
 
--- a net whose kind and degrees are known, with its right number of entries
+-- a net whose kind and degrees are known, with all numbers of its frames and its right number of entries
 pub record Sound (net : Net) : Type 0 where
   pub right : known (net .kind) (net .degree) (net .second) ≡ true
+  pub framed : Framed (netGroups net) (net .frames)
   pub exact : length (net .entries) ≡ numberCount (netGroups net)
 
 -- an accepted call leaves such a net
 pub accepted-sound : (net : Net) (c : Call) → Sound net → Sound (accepted net c .left)
-unfolding accepted withEntries
-accepted-sound net (call.Move operation vertex weights) sound = record { right = sound .right; exact = length-listed-over (netGroups net) _ }
+unfolding accepted entriesAfter
+accepted-sound net (call.Move operation vertex weights) sound =
+    record {
+      right = sound .right;
+      framed = framed-after (netGroups net) (net .frames) (call.Move operation vertex weights) (sound .framed);
+      exact = length-listed-over (netGroups net) _;
+    }
 accepted-sound net (call.Point weights) sound = sound
 
 module _ (net : Net) (lent : List ℤ) (enough : wide lent ≡ true) (sound : Sound net) where
   long : 193 ≤ length lent
   long = leb-true 193 (length lent) enough
 
-  -- the nine places of the frame, and those past the entries
-  abbrev nine : List ℤ
-  nine = take 9 (drop 3 lent)
+  abbrev head : List ℤ
+  head = pos (net .kind) ∷ pos (net .degree) ∷ pos (net .second) ∷ []
 
-  abbrev past : List ℤ
-  past = drop (12 + length (net .entries)) lent
+  abbrev numbers : List ℤ
+  numbers = numbersOf (net .frames)
 
-  nine-long : length nine ≡ 9
-  nine-long = let l = long in length-take-le 9 (drop 3 lent) (simp length-drop (omega arith))
+  -- the places with the entries, and with the frames' numbers too
+  abbrev one : List ℤ
+  one = putAt 12 (net .entries) lent
 
-  put-is : put net lent ≡ pos (net .kind) ∷ pos (net .degree) ∷ pos (net .second) ∷ (nine ++ (net .entries ++ past))
+  abbrev two : List ℤ
+  two = putAt 3 numbers one
+
+  entries-count : length (net .entries) ≤ 180
+  entries-count = let fit = entries-fit (net .kind) (net .degree) (net .second) (sound .right) in let e = sound .exact in omega arith
+
+  numbers-are : length numbers ≡ frameCount (netGroups net)
+  numbers-are = length-numbers (netGroups net) (net .frames) (sound .framed)
+
+  numbers-count : length numbers ≤ 9
+  numbers-count = let fit = frame-few (net .kind) (net .degree) (net .second) in let e = numbers-are in omega arith
+
+  -- they have room
+  one-fits : 12 + length (net .entries) ≤ length lent
+  one-fits = let l = long in let e = entries-count in omega arith
+
+  one-long : length one ≡ length lent
+  one-long = put-length 12 (net .entries) lent one-fits
+
+  two-fits : 3 + length numbers ≤ length one
+  two-fits = let l = long in let e = one-long in let n = numbers-count in omega arith
+
+  two-long : length two ≡ length lent
+  two-long = put-length 3 numbers one two-fits ∙ one-long
+
+  head-fits : 0 + length head ≤ length two
+  head-fits = let l = long in let e = two-long in omega arith
+
+  -- no place is lost
+  pub put-long : length (put net lent) ≡ length lent
   unfolding put
-  put-is =
-      ap (λ l. pos (net .kind) ∷ pos (net .degree) ∷ pos (net .second) ∷ (nine ++ (net .entries ++ l)))
-      (sym (drop-drop (length (net .entries)) 12 (pos (net .kind) ∷ pos (net .degree) ∷ pos (net .second) ∷ drop 3 lent)) ∙ ap (drop (length (net .entries))) (drop-drop 9 3 lent) ∙ drop-drop (length (net .entries)) 12 lent)
-
-  drop-put : drop 12 (put net lent) ≡ net .entries ++ past
-  drop-put = ap (drop 12) put-is ∙ drop-at nine (net .entries ++ past) 9 nine-long
+  put-long = put-length 0 head two head-fits ∙ two-long
 
   -- the net is read back
+  frames-read : framesOf (netGroups net) (drop 3 (put net lent)) ≡ net .frames
+  unfolding put
+  frames-read =
+      ap (framesOf (netGroups net)) (put-behind 0 head two head-fits 3 (lit≤ tt) ∙ put-own 3 numbers one two-fits)
+      ∙ frames-back (netGroups net) (net .frames) (drop (3 + length numbers) one) (sound .framed)
+
+  entries-read : take (numberCount (netGroups net)) (drop 12 (put net lent)) ≡ net .entries
+  unfolding put
+  entries-read =
+      let n = numbers-count in
+      ap (take (numberCount (netGroups net)))
+      (put-behind 0 head two head-fits 12 (lit≤ tt) ∙ put-behind 3 numbers one two-fits 12 (omega arith) ∙ put-own 12 (net .entries) lent one-fits)
+      ∙ take-at (net .entries) (drop (12 + length (net .entries)) lent) (numberCount (netGroups net)) (sound .exact)
+
   pub read-back : netAt (put net lent) ≡ net
   unfolding netAt put
   read-back =
@@ -89,34 +227,44 @@ module _ (net : Net) (lent : List ℤ) (enough : wide lent ≡ true) (sound : So
       let k = byte-back (net .kind) (omega arith) in
       let p = byte-back (net .degree) (omega arith) in
       let q = byte-back (net .second) (omega arith) in
-      (λ i. record { kind = k i; degree = p i; second = q i; entries = take (numberCount (groupsOf (k i) (p i) (q i))) (drop 12 (put net lent)) })
-      ∙ ap with-entries (ap (take (numberCount (netGroups net))) drop-put ∙ take-at (net .entries) past (numberCount (netGroups net)) (sound .exact))
-    where
-      with-entries : List ℤ → Net
-      with-entries es = record { kind = net .kind; degree = net .degree; second = net .second; entries = es }
-
-  -- no place is lost
-  pub put-long : length (put net lent) ≡ length lent
-  put-long =
-      let fit = entries-fit (net .kind) (net .degree) (net .second) (sound .right) in
-      let e = sound .exact in
-      let l = long in
-      let n = nine-long in
-      ap length put-is ∙ simp (length-append, length-drop) (omega arith)
+      (λ i.
+      record {
+        kind = k i;
+        degree = p i;
+        second = q i;
+        frames = framesOf (groupsOf (k i) (p i) (q i)) (drop 3 (put net lent));
+        entries = take (numberCount (groupsOf (k i) (p i) (q i))) (drop 12 (put net lent));
+      })
+      ∙ (λ i. record { kind = net .kind; degree = net .degree; second = net .second; frames = frames-read i; entries = entries-read i })
 
   -- no other place changes
-  pub put-others : (n : ℕ) → n ≡ numberCount (netGroups net) → take 9 (drop 3 (put net lent)) ++ drop (12 + n) (put net lent) ≡ nine ++ drop (12 + n) lent
-  put-others n e =
-      ap₂ _++_ (ap (λ l. take 9 (drop 3 l)) put-is ∙ take-at nine (net .entries ++ past) 9 nine-long)
-      (sym (drop-drop n 12 (put net lent)) ∙ ap (drop n) drop-put ∙ drop-at (net .entries) past n (sound .exact ∙ sym e) ∙ ap (λ k. drop (12 + k) lent) (sound .exact ∙ sym e))
+  pub put-others : slice (3 + frameCount (netGroups net)) 12 (put net lent) ++ drop (12 + numberCount (netGroups net)) (put net lent)
+      ≡ slice (3 + frameCount (netGroups net)) 12 lent ++ drop (12 + numberCount (netGroups net)) lent
+  unfolding put
+  put-others =
+      let n = numbers-are in
+      let e = sound .exact in
+      let c = numbers-count in
+      let f = 3 + frameCount (netGroups net) in
+      let m = 12 + numberCount (netGroups net) in
+      ap₂ _++_
+      (put-between 0 head two head-fits f 12 (omega arith) ∙ put-between 3 numbers one two-fits f 12 (omega arith) ∙ ap (drop f) (put-before 12 (net .entries) lent one-fits 12 (lit≤ tt)))
+      (put-behind 0 head two head-fits m (omega arith) ∙ put-behind 3 numbers one two-fits m (omega arith) ∙ put-behind 12 (net .entries) lent one-fits m (omega arith))
 
--- ---- a call leaves the head
+  -- where the head stands there already, only the frames' numbers and the entries are put: so a call writes nothing else
+  pub put-moved : head ≡ take 3 lent → put net lent ≡ two
+  unfolding put
+  put-moved h =
+      ap (λ l. l ++ drop 3 two) (h ∙ sym (put-before 3 numbers one two-fits 3 (lit≤ tt) ∙ put-before 12 (net .entries) lent one-fits 3 (lit≤ tt)))
+      ∙ take-append-drop 3 two
+
+-- ---- the net that stands there
 
 -- a byte below 255 is what stands there
-byte-stood : (x : ℤ) → byteOf x < 255 → x ≡ pos (byteOf x)
+byte-stood : (x : ℤ) → byteOf x < 255 → pos (byteOf x) ≡ x
 byte-stood (pos n) h = by (leb n 255) h
   where
-    by : (b : Bool) → cond b n 255 < 255 → pos n ≡ pos (cond b n 255)
+    by : (b : Bool) → cond b n 255 < 255 → pos (cond b n 255) ≡ pos n
     by true l = refl
     by false l = absurd (omega arith)
 byte-stood (negsuc n) h = absurd (wrong h)
@@ -124,45 +272,52 @@ byte-stood (negsuc n) h = absurd (wrong h)
     wrong : 255 < 255 → ⊥
     wrong w = omega arith
 
--- Where the net that stands there is known, to put a net with other entries is to put the entries: so a call writes nothing else.
-pub put-entries : (lent entries : List ℤ) → wide lent ≡ true → known (netAt lent .kind) (netAt lent .degree) (netAt lent .second) ≡ true
-    → put (record { kind = netAt lent .kind; degree = netAt lent .degree; second = netAt lent .second; entries = entries }) lent ≡ putAt 12 entries lent
-unfolding put netAt
-put-entries [] entries enough right = absurd (clash enough refl)
-put-entries (x ∷ []) entries enough right = absurd (clash enough refl)
-put-entries (x ∷ y ∷ []) entries enough right = absurd (clash enough refl)
-put-entries (x ∷ y ∷ z ∷ lent) entries enough right =
+-- where it is known its kind and degrees are the first three numbers
+pub head-stood : (lent : List ℤ) → wide lent ≡ true → known (netAt lent .kind) (netAt lent .degree) (netAt lent .second) ≡ true
+    → pos (netAt lent .kind) ∷ pos (netAt lent .degree) ∷ pos (netAt lent .second) ∷ [] ≡ take 3 lent
+unfolding netAt
+head-stood [] enough right = absurd (clash enough refl)
+head-stood (x ∷ []) enough right = absurd (clash enough refl)
+head-stood (x ∷ y ∷ []) enough right = absurd (clash enough refl)
+head-stood (x ∷ y ∷ z ∷ lent) enough right =
     let l = limits (byteOf x) (byteOf y) (byteOf z) right in
     let k = byte-stood x (omega arith) in
     let p = byte-stood y (omega arith) in
     let q = byte-stood z (omega arith) in
-    λ i. putAt 12 entries (sym k i ∷ sym p i ∷ sym q i ∷ lent)
+    λ i. k i ∷ p i ∷ q i ∷ []
+
+-- and it is sound
+pub stood-sound : (lent : List ℤ) → wide lent ≡ true → known (netAt lent .kind) (netAt lent .degree) (netAt lent .second) ≡ true → Sound (netAt lent)
+unfolding netAt
+stood-sound lent enough right =
+    let gs = netGroups (netAt lent) in
+    let l = leb-true 193 (length lent) enough in
+    let fit = entries-fit (netAt lent .kind) (netAt lent .degree) (netAt lent .second) right in
+    record { right = right; framed = framed-numbers gs (drop 3 lent); exact = length-take-le (numberCount gs) (drop 12 lent) (simp length-drop (omega arith)) }
+
+-- to put it back changes nothing: so a point writes nothing there
+pub put-back : (lent : List ℤ) → wide lent ≡ true → known (netAt lent .kind) (netAt lent .degree) (netAt lent .second) ≡ true → put (netAt lent) lent ≡ lent
+unfolding netAt
+put-back lent enough right =
+    let gs = netGroups (netAt lent) in
+    let l = leb-true 193 (length lent) enough in
+    let fit = entries-fit (netAt lent .kind) (netAt lent .degree) (netAt lent .second) right in
+    let near = frame-few (netAt lent .kind) (netAt lent .degree) (netAt lent .second) in
+    let one = put-same 12 (numberCount gs) lent (omega arith) in
+    let two = ap (λ xs. putAt 3 xs lent) (numbers-back gs (drop 3 lent) (simp length-drop (omega arith))) ∙ put-same 3 (frameCount gs) lent (omega arith) in
+    put-moved (netAt lent) lent enough (stood-sound lent enough right) (head-stood lent enough right)
+    ∙ ap (putAt 3 (numbersOf (netAt lent .frames))) one
+    ∙ two
 
 -- ---- a point leaves all places
 
--- numbers put where they were read
-put-taken : (n : ℕ) (lent : List ℤ) → 12 + n ≤ length lent → putAt 12 (take n (drop 12 lent)) lent ≡ lent
-put-taken n lent h =
-    ap (λ k. take 12 lent ++ (take n (drop 12 lent) ++ drop (12 + k) lent)) (length-take-le n (drop 12 lent) (simp length-drop (omega arith)))
-    ∙ ap (λ l. take 12 lent ++ (take n (drop 12 lent) ++ l)) (sym (drop-drop n 12 lent))
-    ∙ ap (λ l. take 12 lent ++ l) (take-append-drop n (drop 12 lent))
-    ∙ take-append-drop 12 lent
-
--- a net put where it was read
-pub put-read : (lent : List ℤ) → wide lent ≡ true → known (netAt lent .kind) (netAt lent .degree) (netAt lent .second) ≡ true → put (netAt lent) lent ≡ lent
-unfolding netAt
-put-read lent enough right =
-    let long = leb-true 193 (length lent) enough in
-    let fit = entries-fit (netAt lent .kind) (netAt lent .degree) (netAt lent .second) right in
-    put-entries lent (netAt lent .entries) enough right ∙ put-taken (numberCount (netGroups (netAt lent))) lent (omega arith)
-
 -- a point that is found puts back the net that it read, and a refused one puts nothing
 point-taken : (w : Weights) (lent found : List ℤ) → callNumber (call.Point w) lent found ≡ 0 → put (accepted (netAt lent) (call.Point w) .left) lent ≡ lent
-unfolding callNumber netTests handedTests callTests beforeSize accepted
+unfolding callNumber netTests handedTests judgedNumbers callTests beforeSize ownTests accepted
 point-taken w lent found none =
     let tests = wide lent else 11 ∷ room (call.Point w) found else 11 ∷ netTests (netAt lent) (call.Point w) in
     let passed = none-failed tests refl .0 none in
-    put-read lent (row-passes tests passed 0) (row-passes tests passed 2)
+    put-back lent (row-passes tests passed 0) (row-passes tests passed 2)
 
 pub point-stands : (w : Weights) (lent found : List ℤ) → callPlaces (call.Point w) lent found ≡ lent
 unfolding callPlaces
@@ -172,24 +327,24 @@ point-stands w lent found = by (callNumber (call.Point w) lent found) refl
     by zero e = point-taken w lent found e
     by (suc k) e = refl
 
--- ---- the part of the places that holds the entries, which the code lends on
+-- ---- a part of the places that the code lends on: n places from `at` on
 
-module _ (lent : List ℤ) (enough : wide lent ≡ true) where
-  -- its first numbers are the net's entries
-  pub part-read : (n : ℕ) → n ≤ 180 → take n (take 180 (drop 12 lent)) ≡ take n (drop 12 lent)
-  part-read n h = take-take n 180 (drop 12 lent) h
+module _ (at n : ℕ) (lent : List ℤ) (enough : at + n ≤ length lent) where
+  -- its first numbers are those of the places
+  pub part-read : (k : ℕ) → k ≤ n → take k (take n (drop at lent)) ≡ take k (drop at lent)
+  part-read k h = take-take k n (drop at lent) h
 
   -- numbers written over its first ones are put into the places
-  pub part-put : (xs : List ℤ) → length xs ≤ 180 → take 12 lent ++ ((xs ++ drop (length xs) (take 180 (drop 12 lent))) ++ drop 192 lent) ≡ putAt 12 xs lent
+  pub part-put : (xs : List ℤ) → length xs ≤ n → take at lent ++ ((xs ++ drop (length xs) (take n (drop at lent))) ++ drop (at + n) lent) ≡ putAt at xs lent
   part-put xs h =
-      ap (λ l. take 12 lent ++ l) (append-assoc xs (drop (length xs) (take 180 (drop 12 lent))) (drop 192 lent) ∙ ap (λ l. xs ++ l) rest)
+      ap (λ l. take at lent ++ l) (append-assoc xs (drop (length xs) (take n (drop at lent))) (drop (at + n) lent) ∙ ap (λ l. xs ++ l) rest)
     where
-      long : length xs ≤ length (take 180 (drop 12 lent))
-      long = let l = leb-true 193 (length lent) enough in subst (λ k. length xs ≤ k) (sym (length-take-le 180 (drop 12 lent) (simp length-drop (omega arith)))) h
+      long : length xs ≤ length (take n (drop at lent))
+      long = subst (λ k. length xs ≤ k) (sym (length-take-le n (drop at lent) (simp length-drop (omega arith)))) h
 
-      rest : drop (length xs) (take 180 (drop 12 lent)) ++ drop 192 lent ≡ drop (12 + length xs) lent
+      rest : drop (length xs) (take n (drop at lent)) ++ drop (at + n) lent ≡ drop (at + length xs) lent
       rest =
-          ap (λ l. drop (length xs) (take 180 (drop 12 lent)) ++ l) (sym (drop-drop 180 12 lent))
-          ∙ sym (drop-append-le (length xs) (take 180 (drop 12 lent)) (drop 180 (drop 12 lent)) long)
-          ∙ ap (drop (length xs)) (take-append-drop 180 (drop 12 lent))
-          ∙ drop-drop (length xs) 12 lent
+          ap (λ l. drop (length xs) (take n (drop at lent)) ++ l) (sym (drop-drop n at lent))
+          ∙ sym (drop-append-le (length xs) (take n (drop at lent)) (drop n (drop at lent)) long)
+          ∙ ap (drop (length xs)) (take-append-drop n (drop at lent))
+          ∙ drop-drop (length xs) at lent

@@ -1,4 +1,5 @@
 pub mod Refusals
+pub mod Frames
 pub mod Over
 pub mod Found
 pub mod Demand3

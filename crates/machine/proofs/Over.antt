@@ -5,14 +5,13 @@ use native.Mathlib.Nat.{le-of-suc-le-suc, not-suc-le-zero}
 use native.Mathlib.Omega.{arith}
 use mathlib.Core.Path.{_≡_, refl, sym, ap, ap₂, _∙_, subst}
 use mathlib.Core.Logic.{_⊎_, inl, inr}
-use mathlib.Core.Bool.{Bool, true, false, cond}
+use mathlib.Core.Bool.{Bool, true, false, _&&_, cond}
 use mathlib.Core.List.{List, [], _∷_, _++_, map, List·Memᴰ, List·Memᴰ·not-nil, List·Memᴰ·append-cases, List·Memᴰ·eq-of-singleton, Memᴰ·map, Memᴰ·of-map}
 use lib.Dec.{eqb, leb, lit≤}
 use lib.IntN.{ℤ, negℤ}
-use lib.ListN.{length, getD, set, replicate, length-set}
+use lib.ListN.{length, getD, set, replicate}
 use borrow.Author.Tests.{leb-true, leb-false}
 use Rattle.integers.specs.Sum.{upto}
-use Rattle.integers.proofs.Laws.{natAbs-neg}
 use Rattle.integers.proofs.Sums.{upto-below, below-upto}
 use Rattle.polar.specs.Sigma.{Point}
 use Rattle.polar.specs.Order.{total, counts}
@@ -20,7 +19,7 @@ use Rattle.polar.specs.Groups.{Group, pairs, countsOver, monomialsOver}
 use Rattle.polar.specs.Polar.{terms}
 use Rattle.polar.proofs.Order.{counts-total, all-joined}
 use Rattle.polar.proofs.Value.{of-pairs, polar-diagonal}
-use Rattle.entries.specs.Frame.{vertexAt, takenOver, pointsOver}
+use Rattle.entries.specs.Frame.{vertexAt, takenOver, pointsOver, putOver}
 use Rattle.entries.specs.Entries.{listedOver, odd, noneOfQ, asQ, onlyQ, flippedOver}
 use Rattle.entries.proofs.Places.{member-counts}
 use Rattle.entries.proofs.Groups.{Counted, Named, Framed, Forms, polar-forms, fixes-over, putting-over, flipping-over, points-long, named-none, named-as, named-only, only-taken}
@@ -28,18 +27,20 @@ use Rattle.entries.proofs.ListedOver.{in-pairs, member-over, counts-over, entry
 use Rattle.projection.specs.Projection.{inRange, projectionOf}
 use Rattle.machine.specs.Refusals.{_else_, firstFailed, allPass, numbered}
 use Rattle.integers.specs.Test.{all}
-use Rattle.integers.proofs.All.{all-pass, all-at, all-cong, all-map, and-parts}
+use Rattle.integers.proofs.All.{all-pass, all-at, all-append, all-cong, all-map, and-parts}
 use Rattle.kinds.specs.Kinds.{known}
-use Rattle.kinds.specs.Frames.{vertexCount, Frames}
-use Rattle.machine.specs.Calls.{groupAt, ownAt, weightsFor, beforeSize}
-use Rattle.machine.specs.Sizes.{namedByReplace, namedByPoint, namedBy, allNamed, callTests}
+use Rattle.kinds.specs.Frames.{vertexCount, Frames, numbersOf}
+use Rattle.machine.specs.Calls.{groupAt, ownAt, weightsFor, ownTests}
+use Rattle.machine.specs.Frames.{pointsOf, framesAfter, newNumbers}
+use Rattle.machine.specs.Sizes.{namedByReplace, namedByPoint, namedBy, allNamed, beforeSize, callTests}
 use Rattle.machine.specs.Steps.{Found, foundAt, stepBy}
-use Rattle.machine.specs.Nets.{Net, entry, netPolar, netInRange, handedTests, netTests, withEntries, accepted, stepOf}
-use Rattle.machine.specs.Comparison.{Polynomials, groups, polarOf, scaledValue, pointsOf, machinePolar, putOver, machineAccepted, machineStep, netOver}
+use Rattle.machine.specs.Nets.{Net, entry, netPolar, netInRange, handedTests, judgedNumbers, netTests, entriesAfter, accepted, stepOf}
+use Rattle.machine.specs.Comparison.{Polynomials, groups, polarOf, scaledValue, machinePolar, machineTests, machineAccepted, machineStep, netOver}
 use Rattle.machine.specs.declared.Weights.{Weights}
 use Rattle.machine.specs.declared.Call.{Call}
 use Rattle.machine.specs.declared.Call.the-variants as call
 use Rattle.machine.proofs.Refusals.{none-failed, all-pass-append, row-passes}
+use Rattle.machine.proofs.Frames.{framed-after, in-range-neg, in-range-after}
 
 found-cong : (p q : ℕ → ℤ) → ((c : ℕ) → c < 4 → p c ≡ q c) → foundAt p ≡ foundAt q
 unfolding foundAt
@@ -65,7 +66,7 @@ found-cong p q h =
 pub located : (gs : List Group) (frames : Frames) → Framed gs frames → (v : ℕ) → v < vertexCount gs → (groupAt gs v < length gs) × (ownAt gs v < length (getD frames (groupAt gs v) []))
 located [] frames long v h = absurd (not-suc-le-zero h)
 located (g ∷ gs) [] long v h = absurd long
-located (g ∷ gs) (frame ∷ frames) long v h = by (leb v (g .dimension)) refl (λ k. located gs frames (long .1) (v - suc (g .dimension)) k)
+located (g ∷ gs) (frame ∷ frames) long v h = by (leb v (g .dimension)) refl (λ k. located gs frames (long .2) (v - suc (g .dimension)) k)
   where
     by : (b : Bool) → leb v (g .dimension) ≡ b
         → (v - suc (g .dimension) < vertexCount gs → (groupAt gs (v - suc (g .dimension)) < length gs) × (ownAt gs (v - suc (g .dimension)) < length (getD frames (groupAt gs (v - suc (g .dimension))) [])))
@@ -77,13 +78,6 @@ located (g ∷ gs) (frame ∷ frames) long v h = by (leb v (g .dimension)) refl 
         let r = rest (omega arith) in
         let one = r .0 in
         (omega arith, r .1)
-
-framed-put : (gs : List Group) (frames : Frames) (i v : ℕ) (q : Point) → Framed gs frames → Framed gs (putOver i v q frames)
-framed-put [] [] i v q long = tt
-framed-put [] (frame ∷ frames) i v q long = absurd long
-framed-put (g ∷ gs) [] i v q long = absurd long
-framed-put (g ∷ gs) (frame ∷ frames) zero v q long = (length-set frame v q ∙ long .0, long .1)
-framed-put (g ∷ gs) (frame ∷ frames) (suc i) v q long = (long .0, framed-put gs frames i v q (long .1))
 
 -- ---- the size rule
 
@@ -199,28 +193,28 @@ module _ (f : Polynomials) (frames : Frames) (long : Framed (groups f) frames) w
   sizes-agree : (call : Call) → allNamed (namedBy gs call) (netPolar net call) ≡ allNamed (namedBy gs call) (machinePolar f frames call)
   sizes-agree call = named-cong (namedBy gs call) (netPolar net call) (machinePolar f frames call) (λ c es k m. polar-is call c es k (by-call gs call es m))
 
-  refusals-agree : known (f .kind) (f .degree) (f .second) ≡ true → netInRange net ≡ true → (call : Call)
-      → firstFailed (netTests net call) ≡ firstFailed (callTests gs call (machinePolar f frames call))
-  unfolding netTests handedTests callTests netOver
-  refusals-agree right fits call =
-      ap₂ (λ a b. firstFailed (a else 4 ∷ b else 10 ∷ callTests gs call (netPolar net call))) right fits
-      ∙ ap (λ b. firstFailed (beforeSize gs call ++ (b else 10 ∷ []))) (sizes-agree call)
+  -- the frames that it carries are in range, so 12 is decided by a replace's q
+  near-agree : all inRange (numbersOf frames) ≡ true → (call : Call) → all inRange (numbersOf frames ++ newNumbers gs frames call) ≡ all inRange (newNumbers gs frames call)
+  near-agree near call = all-append inRange (numbersOf frames) (newNumbers gs frames call) ∙ ap (λ b. b && all inRange (newNumbers gs frames call)) near
+
+  refusals-agree : known (f .kind) (f .degree) (f .second) ≡ true → netInRange net ≡ true → all inRange (numbersOf frames) ≡ true → (call : Call)
+      → firstFailed (netTests net call) ≡ firstFailed (machineTests f frames call)
+  unfolding netTests handedTests judgedNumbers machineTests callTests beforeSize netOver
+  refusals-agree right fits near call =
+      ap₂ (λ a b. firstFailed (a else 4 ∷ b else 10 ∷ callTests gs call (numbersOf frames ++ newNumbers gs frames call) (netPolar net call))) right fits
+      ∙ ap₂ (λ a b. firstFailed ((ownTests gs call ++ (a else 12 ∷ [])) ++ (b else 10 ∷ []))) (near-agree near call) (sizes-agree call)
 
   -- ---- accepted calls
 
   -- entries that are polar values over other frames make the net over those frames
-  over-frames : (other : Frames) (g : ℕ → List (List ℕ) → ℤ) → ((c : ℕ) (es : List (List ℕ)) → c < 4 → Counted gs es → g c es ≡ polarOf f c (takenOver other es))
-      → withEntries net g ≡ netOver f other
-  unfolding withEntries netOver
-  over-frames other g agree =
-      ap (λ (l : List ℤ). netWith l) (listed-over-cong gs g (λ c es. polarOf f c (takenOver other es)) agree)
-    where
-      netWith : List ℤ → Net
-      netWith l = record { kind = f .kind; degree = f .degree; second = f .second; entries = l }
+  over-frames : (other : Frames) (entries : List ℤ) → entries ≡ netOver f other .entries
+      → record { kind = f .kind; degree = f .degree; second = f .second; frames = other; entries = entries } ≡ netOver f other
+  unfolding netOver
+  over-frames other entries e = λ i. record { kind = f .kind; degree = f .degree; second = f .second; frames = other; entries = e i }
 
   -- vertex v of group i put to another point, by whether the call is a replace
   abbrev moved : Bool → ℕ → ℕ → Call → Frames
-  moved b i v call = putOver i v (cond b (getD (pointsOf f frames call) i []) (map negℤ (vertexAt (getD frames i []) v))) frames
+  moved b i v call = putOver i v (cond b (getD (pointsOf gs frames call) i []) (map negℤ (vertexAt (getD frames i []) v))) frames
 
   moved-is : (b : Bool) (i v : ℕ) → v < length (getD frames i []) → (call : Call) (c : ℕ) (es : List (List ℕ)) → c < 4 → Counted gs es
       → cond b (netPolar net call c (asQ i v es)) (flippedOver i v (entry net c) es) ≡ polarOf f c (takenOver (moved b i v call) es)
@@ -233,11 +227,11 @@ module _ (f : Polynomials) (frames : Frames) (long : Framed (groups f) frames) w
       ∙ sym (flipping-over gs (polarOf f c) (forms c) frames long i v h es counted)
 
   -- the found point is L × F(q)
-  found-is : (call : Call) → foundAt (λ c. netPolar net call c (onlyQ gs)) ≡ foundAt (scaledValue f (pointsOf f frames call))
+  found-is : (call : Call) → foundAt (λ c. netPolar net call c (onlyQ gs)) ≡ foundAt (scaledValue f (pointsOf gs frames call))
   unfolding scaledValue machinePolar pointsOf polarOf
   found-is call =
       let qs = pointsOver gs (weightsFor gs call) frames in
-      found-cong (λ c. netPolar net call c (onlyQ gs)) (scaledValue f (pointsOf f frames call))
+      found-cong (λ c. netPolar net call c (onlyQ gs)) (scaledValue f (pointsOf gs frames call))
       (λ c k.
       polar-is call c (onlyQ gs) k (named-only gs)
       ∙ ap (polarOf f c) (only-taken gs qs frames (points-long gs (weightsFor gs call) frames))
@@ -257,7 +251,7 @@ module _ (f : Polynomials) (frames : Frames) (long : Framed (groups f) frames) w
       in-range-over (moved b i v call) (λ c es k counted. ap inRange (sym (moved-is b i v h call c es k counted)) ∙ by b ok c es k counted)
     where
       sign : (s : Bool) (x : ℤ) → inRange (cond s (negℤ x) x) ≡ inRange x
-      sign true x = ap (λ a. leb a 281474976710656) (natAbs-neg x)
+      sign true x = in-range-neg x
       sign false x = refl
 
       by : (b : Bool) → allNamed (cond b (namedByReplace gs i) []) (machinePolar f frames call) ≡ true → (c : ℕ) (es : List (List ℕ)) → c < 4 → Counted gs es
@@ -277,6 +271,7 @@ pub record Reached (f : Polynomials) (frames : Frames) : Type 0 where
   pub long : Framed (groups f) frames
   pub right : known (f .kind) (f .degree) (f .second) ≡ true
   pub fits : netInRange (netOver f frames) ≡ true
+  pub near : all inRange (numbersOf frames) ≡ true
 
 -- the net machine's step on the net over frames is the comparison machine's step on the frames
 pub record Agrees (f : Polynomials) (frames : Frames) (c : Call) : Type 0 where
@@ -284,16 +279,18 @@ pub record Agrees (f : Polynomials) (frames : Frames) (c : Call) : Type 0 where
   pub nets : stepOf (netOver f frames) c .left ≡ netOver f (machineStep f frames c .left)
   pub reached : Reached f (machineStep f frames c .left)
 
--- a call that is not refused passed its own tests and that of its size
-pub call-passed : (gs : List Group) (c : Call) (P : ℕ → List (List ℕ) → ℤ) → firstFailed (callTests gs c P) ≡ 0
-    → (allPass (beforeSize gs c) ≡ true) × (allNamed (namedBy gs c) P ≡ true)
-unfolding callTests beforeSize
-call-passed gs c P h =
+-- a call that is not refused passed its own tests, that of the frame numbers and that of its size
+pub call-passed : (gs : List Group) (c : Call) (numbers : List ℤ) (P : ℕ → List (List ℕ) → ℤ) → firstFailed (callTests gs c numbers P) ≡ 0
+    → (allPass (ownTests gs c) ≡ true) × (all inRange numbers ≡ true) × (allNamed (namedBy gs c) P ≡ true)
+unfolding callTests beforeSize ownTests
+call-passed gs c numbers P h =
+    let near = all inRange numbers else 12 ∷ [] in
     let size = allNamed (namedBy gs c) P else 10 ∷ [] in
-    let both = and-parts (allPass (beforeSize gs c)) (allPass size) (sym (all-pass-append (beforeSize gs c) size) ∙ none-failed (beforeSize gs c ++ size) (rows c) .0 h) in
-    (both .0, and-parts (allNamed (namedBy gs c) P) true (both .1) .0)
+    let both = and-parts (allPass (ownTests gs c ++ near)) (allPass size) (sym (all-pass-append (ownTests gs c ++ near) size) ∙ none-failed ((ownTests gs c ++ near) ++ size) (rows c) .0 h) in
+    let first = and-parts (allPass (ownTests gs c)) (allPass near) (sym (all-pass-append (ownTests gs c) near) ∙ both .0) in
+    (first .0, and-parts (all inRange numbers) true (first .1) .0, and-parts (allNamed (namedBy gs c) P) true (both .1) .0)
   where
-    rows : (c : Call) → numbered (beforeSize gs c ++ (allNamed (namedBy gs c) P else 10 ∷ [])) ≡ true
+    rows : (c : Call) → numbered ((ownTests gs c ++ (all inRange numbers else 12 ∷ [])) ++ (allNamed (namedBy gs c) P else 10 ∷ [])) ≡ true
     rows (call.Move operation vertex weights) = refl
     rows (call.Point weights) = refl
 
@@ -301,39 +298,40 @@ pred-below : (n vertex : ℕ) → leb 1 vertex ≡ true → leb vertex n ≡ tru
 pred-below n vertex a b = let low = leb-true 1 vertex a in let high = leb-true vertex n b in omega arith
 
 -- the number of a vertex that is not outside
-vertex-below : (gs : List Group) (operation vertex : ℕ) (weights : Weights) → allPass (beforeSize gs (call.Move operation vertex weights)) ≡ true → pred vertex < vertexCount gs
-unfolding beforeSize
+vertex-below : (gs : List Group) (operation vertex : ℕ) (weights : Weights) → allPass (ownTests gs (call.Move operation vertex weights)) ≡ true → pred vertex < vertexCount gs
+unfolding ownTests
 vertex-below gs operation vertex weights h =
-    let ends = and-parts (leb 1 vertex) (leb vertex (vertexCount gs)) (row-passes (beforeSize gs (call.Move operation vertex weights)) h 1) in
+    let ends = and-parts (leb 1 vertex) (leb vertex (vertexCount gs)) (row-passes (ownTests gs (call.Move operation vertex weights)) h 1) in
     pred-below (vertexCount gs) vertex (ends .0) (ends .1)
 
 module _ (f : Polynomials) (frames : Frames) (at : Reached f frames) where
   -- an accepted call does what the comparison machine does
-  done : (c : Call) → firstFailed (callTests (groups f) c (machinePolar f frames c)) ≡ 0
+  done : (c : Call) → firstFailed (machineTests f frames c) ≡ 0
       → (accepted (netOver f frames) c .answer ≡ machineAccepted f frames c .answer)
       × (accepted (netOver f frames) c .left ≡ netOver f (machineAccepted f frames c .left))
       × Reached f (machineAccepted f frames c .left)
-  unfolding accepted machineAccepted netOver namedBy
+  unfolding accepted entriesAfter machineAccepted machineTests framesAfter netOver namedBy
   done (call.Move operation vertex weights) r =
       let gs = groups f in
       let c = call.Move operation vertex weights in
       let b = eqb operation 1 in
       let i = groupAt gs (pred vertex) in
       let v = ownAt gs (pred vertex) in
-      let passed = call-passed gs c (machinePolar f frames c) r in
+      let passed = call-passed gs c (newNumbers gs frames c) (machinePolar f frames c) r in
       let here = located gs frames (at .long) (pred vertex) (vertex-below gs operation vertex weights (passed .0)) in (
         refl,
-        over-frames f frames (at .long) (moved f frames (at .long) b i v c) _ (moved-is f frames (at .long) b i v (here .1) c),
+        over-frames f frames (at .long) (framesAfter gs frames c) _ (listed-over-cong gs _ _ (moved-is f frames (at .long) b i v (here .1) c)),
         record {
-          long = framed-put gs frames i v _ (at .long);
+          long = framed-after gs frames c (at .long);
           right = at .right;
-          fits = moved-in f frames (at .long) b i v (here .0) (here .1) c (at .fits) (passed .1);
+          fits = moved-in f frames (at .long) b i v (here .0) (here .1) c (at .fits) (passed .2);
+          near = in-range-after gs frames c (at .near) (passed .1);
         },
       )
   done (call.Point weights) r = (found-is f frames (at .long) (call.Point weights), refl, at)
 
   -- a refused one leaves net and frames
-  by-number : (c : Call) (k : ℕ) → firstFailed (callTests (groups f) c (machinePolar f frames c)) ≡ k
+  by-number : (c : Call) (k : ℕ) → firstFailed (machineTests f frames c) ≡ k
       → (stepBy k (netOver f frames) (accepted (netOver f frames) c) .answer ≡ stepBy k frames (machineAccepted f frames c) .answer)
       × (stepBy k (netOver f frames) (accepted (netOver f frames) c) .left ≡ netOver f (stepBy k frames (machineAccepted f frames c) .left))
       × Reached f (stepBy k frames (machineAccepted f frames c) .left)
@@ -344,8 +342,8 @@ module _ (f : Polynomials) (frames : Frames) (at : Reached f frames) where
   pub call-agrees : (c : Call) → Agrees f frames c
   unfolding stepOf machineStep
   call-agrees c =
-      let agree = refusals-agree f frames (at .long) (at .right) (at .fits) c in
-      let both = by-number c (firstFailed (callTests (groups f) c (machinePolar f frames c))) refl in
+      let agree = refusals-agree f frames (at .long) (at .right) (at .fits) (at .near) c in
+      let both = by-number c (firstFailed (machineTests f frames c)) refl in
       record {
         answers = ap (λ k. stepBy k (netOver f frames) (accepted (netOver f frames) c) .answer) agree ∙ both .0;
         nets = ap (λ k. stepBy k (netOver f frames) (accepted (netOver f frames) c) .left) agree ∙ both .1;

@@ -14,16 +14,16 @@ use Rattle.polar.specs.Polar.{polarOver, valueOver}
 use Rattle.entries.specs.Entries.{listedOver, fixed, fixedOver, entryOver}
 use Rattle.projection.specs.Projection.{projectionOf, coordinateBits}
 use Rattle.integers.proofs.All.{all-at, and-parts, clash}
-use Rattle.kinds.specs.Frames.{frameOf, frameAllowed, framesOf, framesAllowed}
-use Rattle.machine.specs.Calls.{beforeSize}
-use Rattle.machine.specs.Sizes.{namedByReplace, namedByPoint, namedBy, allNamed, callTests}
+use Rattle.kinds.specs.Frames.{frameOf, frameAllowed, framesOf, framesAllowed, numbersOf}
+use Rattle.machine.specs.Calls.{ownTests}
+use Rattle.machine.specs.Frames.{pointsOf, framesAfter, newNumbers}
+use Rattle.machine.specs.Sizes.{namedByReplace, namedByPoint, namedBy, allNamed, beforeSize, callTests}
 use Rattle.machine.specs.Steps.{foundAt, stepBy, after, answers}
-use Rattle.machine.specs.Comparison.{groups, netOver, machineStep, machineAccepted, machinePolar, pointsOf, polarOf, scaledValue}
-use Rattle.machine.specs.Nets.{handedTests, netTests, netPolar}
+use Rattle.machine.specs.Comparison.{groups, netOver, machineTests, machineStep, machineAccepted, machinePolar, polarOf, scaledValue}
+use Rattle.machine.specs.Nets.{handedTests, judgedNumbers, netTests, netPolar}
 use Rattle.machine.specs.Lent.{netAt, callNumber, madeNumber}
 use Rattle.machine.specs.First.{firstTests, firstRefusal}
-use Rattle.machine.specs.Demand3.{framesReached}
-use Rattle.machine.specs.Samples.{Sample, answerRow, SampleHolds, samples, Instance, _is_, Right, instances}
+use Rattle.machine.specs.Samples.{Sample, answerRow, netOf, SampleHolds, samples, Instance, _is_, Right, instances}
 
 -- two lists are the same, by a test of their members
 abbrev sameBy : {A : Type 0} → (A → A → Bool) → List A → List A → Bool
@@ -44,27 +44,32 @@ module _ (s : Sample) where
   abbrev accepted : Bool
   accepted = eqb (firstRefusal (s .polynomials) (s .frame)) 0
 
+  abbrev reached : Bool
+  reached = sameBy eqZ (numbersOf (netOf s .frames)) (s .reached)
+
   abbrev net : Bool
-  net = sameBy eqZ (netOver (s .polynomials) (framesReached (s .polynomials) (s .frame) (s .calls)) .entries) (joined (λ row. row) (s .net))
+  net = sameBy eqZ (netOf s .entries) (joined (λ row. row) (s .net))
 
   abbrev answered : Bool
   answered = sameBy (sameBy eqZ) (map answerRow (answers (machineStep (s .polynomials)) (framesOf (groups (s .polynomials)) (s .frame)) (s .calls))) (s .answers)
 
   abbrev checked : Bool
-  checked = accepted && (net && answered)
+  checked = accepted && (reached && (net && answered))
 
   checked-holds : checked ≡ true → SampleHolds s
   checked-holds h =
-      let first = and-parts accepted (net && answered) h in
-      let rest = and-parts net answered (first .1) in
+      let first = and-parts accepted (reached && (net && answered)) h in
+      let second = and-parts reached (net && answered) (first .1) in
+      let rest = and-parts net answered (second .1) in
       record {
         accepted = eqb-true (firstRefusal (s .polynomials) (s .frame)) 0 (first .0);
+        reached = same-lists eqZ eqZ→eq _ _ (second .0);
         net = same-lists eqZ eqZ→eq _ _ (rest .0);
         answered = same-lists (sameBy eqZ) (same-lists eqZ eqZ→eq) _ _ (rest .1);
       }
 
 table-checked : all checked samples ≡ true
-unfolding netOver after answers stepBy machineStep machineAccepted machinePolar pointsOf polarOf scaledValue beforeSize namedBy namedByReplace namedByPoint allNamed callTests foundAt firstRefusal firstTests frameOf frameAllowed framesOf framesAllowed σ monomials counts monomialsOver countsOver multinomial leastCommonMultiple scale polarOver valueOver listedOver projectionOf coordinateBits
+unfolding netOver after answers stepBy machineStep machineTests machineAccepted machinePolar pointsOf framesAfter newNumbers ownTests polarOf scaledValue beforeSize namedBy namedByReplace namedByPoint allNamed callTests foundAt firstRefusal firstTests frameOf frameAllowed framesOf framesAllowed σ monomials counts monomialsOver countsOver multinomial leastCommonMultiple scale polarOver valueOver listedOver projectionOf coordinateBits
 table-checked = refl
 
 -- every row of the table holds
@@ -80,7 +85,7 @@ agrees-right : (i : Instance) → agrees i ≡ true → Right i
 agrees-right (given is must) h = same-lists eqZ eqZ→eq given must h
 
 instances-agree : all agrees instances ≡ true
-unfolding netOver polarOf beforeSize namedBy namedByReplace namedByPoint allNamed callTests firstRefusal firstTests frameOf frameAllowed framesOf framesAllowed σ monomials counts monomialsOver countsOver multinomial leastCommonMultiple scale polarOver listedOver netTests handedTests netPolar fixedOver entryOver fixed callNumber madeNumber netAt
+unfolding netOver polarOf pointsOf newNumbers ownTests beforeSize namedBy namedByReplace namedByPoint allNamed callTests firstRefusal firstTests frameOf frameAllowed framesOf framesAllowed σ monomials counts monomialsOver countsOver multinomial leastCommonMultiple scale polarOver listedOver netTests handedTests judgedNumbers netPolar fixedOver entryOver fixed callNumber madeNumber netAt
 instances-agree = refl
 
 -- every instance is right

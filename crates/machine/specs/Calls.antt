@@ -1,4 +1,4 @@
--- What is refused of a call for its own arguments, before its size is looked at: 8 and 9 (docs/SPECIFICATION.md, 'Moves and points', 'Refusals'). Both machines share these.
+-- What is refused of a call for its own arguments: 8 and 9 (docs/SPECIFICATION.md, 'Moves and points', 'Refusals'). Both machines share these.
 use Prim.Native.Nat.{ℕ, zero, suc, pred, _-_}
 use mathlib.Core.Bool.{_&&_, _||_, not, cond}
 use mathlib.Core.List.{List, [], _∷_, map}
@@ -55,10 +55,10 @@ unused gs operation vertex ws = cond (eqb operation 2) ws (drop (verticesAt gs (
 abbrev pub weightAt : List Group → ℕ → List ℤ → ℤ
 weightAt gs vertex ws = getD ws (ownAt gs (pred vertex)) (pos 0)
 
--- ---- the tests of a call before that of its size
+-- ---- the tests of a call for its own arguments
 
-unfoldable pub beforeSize : List Group → Call → List Test
-beforeSize gs (Move operation vertex weights) =
+unfoldable pub ownTests : List Group → Call → List Test
+ownTests gs (Move operation vertex weights) =
     -- 'operation, vertex, weight outside, or unused weight not 0'
     (eqb operation 1 || eqb operation 2) else 8
     ∷ (leb 1 vertex && leb vertex (vertexCount gs)) else 8
@@ -67,7 +67,7 @@ beforeSize gs (Move operation vertex weights) =
     -- 'replaced vertex has weight 0'
     ∷ (eqb operation 2 || not (isZero (weightAt gs vertex (weightList weights)))) else 9
     ∷ []
-beforeSize gs (Point weights) =
+ownTests gs (Point weights) =
     -- 'weight outside, or unused weight not 0'
     all (within 4096) (weightList weights) else 8
     ∷ all isZero (drop (vertexCount gs) (weightList weights)) else 8

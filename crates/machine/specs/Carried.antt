@@ -5,10 +5,11 @@ use mathlib.Core.Bool.{cond}
 use mathlib.Core.List.{List, _++_, map, zipWith}
 use lib.IntN.{ℤ, pos}
 use lib.ListN.{getD, take, drop}
+use lib.Seq.{slice}
 use Rattle.entries.specs.Entries.{numberCount}
 use Rattle.machine.specs.Steps.{Answer, Taken, Refused, pointValues, foundAt, Step, after, answers}
 use Rattle.machine.specs.Comparison.{Polynomials, groups, netOver, machineStep}
-use Rattle.kinds.specs.Frames.{framesOf}
+use Rattle.kinds.specs.Frames.{frameCount, framesOf}
 use Rattle.machine.specs.Demand3.{framesReached}
 use Rattle.machine.specs.Lent.{netAt, putAt, polynomialsFrom, madeNumber, madePlaces, room, callNumber, callPlaces, callFound}
 use Rattle.machine.specs.declared.Call.{Call}
@@ -46,13 +47,13 @@ expected c answer =
     (record { answer = answer; found = putAt 0 (pointValues answer) (c .found) })
     (record { answer = Refused 11; found = c .found })
 
--- the places that are not a net's: those of the frame and of the largest component, those past the entries, and the caller's
+-- the places that are not a net's: those of the nine past the frame's numbers, those past the entries, that of the largest component, and the caller's
 abbrev pub otherPlaces : Polynomials → List ℤ → List ℤ
-otherPlaces f lent = take 9 (drop 3 lent) ++ drop (12 + numberCount (groups f)) lent
+otherPlaces f lent = slice (3 + frameCount (groups f)) 12 lent ++ drop (12 + numberCount (groups f)) lent
 
 -- What is guaranteed of a list of calls on places where the first net of f over the numbers' frames was made; `lent` is what stood there before.
 pub record LentGuaranteed (f : Polynomials) (numbers lent places : List ℤ) (calls : List LentCall) : Type 0 where
-  -- the net in the places is the scaled polar values over the frames that the accepted moves give
+  -- the net in the places carries the frames that the accepted moves give, and its entries are the scaled polar values over them
   pub net : netAt (after lentStep places calls) ≡ netOver f (framesReached f numbers (map (λ c. c .call) calls))
   -- what came back from every call is the comparison machine's answer: its number, its point, and the point's projection
   pub returned : answers lentStep places calls ≡ zipWith expected calls (answers (machineStep f) (framesOf (groups f) numbers) (map (λ c. c .call) calls))

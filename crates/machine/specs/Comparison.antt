@@ -1,21 +1,18 @@
 -- The comparison machine of demand 3: it keeps the record's polynomials and exact, unbounded frames, one for each group, and sees no net.
-use Prim.Native.Nat.{ℕ, pred}
-use mathlib.Core.Bool.{cond}
-use mathlib.Core.List.{List, [], map}
-use lib.Dec.{eqb}
-use lib.IntN.{ℤ, pos, negℤ, _*ℤ_}
-use lib.ListN.{getD, set}
+use Prim.Native.Nat.{ℕ}
+use mathlib.Core.List.{List}
+use lib.IntN.{ℤ, pos, _*ℤ_}
 use Rattle.polar.specs.Sigma.{Point}
 use Rattle.polar.specs.Groups.{Group, monomialsOver}
 use Rattle.polar.specs.Scale.{scaleOver}
 use Rattle.polar.specs.Polar.{polarOver, valueOver, terms}
-use Rattle.entries.specs.Frame.{vertexAt, takenOver, pointsOver, before}
+use Rattle.entries.specs.Frame.{takenOver, before}
 use Rattle.entries.specs.Entries.{listedOver}
-use Rattle.machine.specs.Refusals.{firstFailed}
+use Rattle.machine.specs.Refusals.{Test, firstFailed}
 use Rattle.kinds.specs.Kinds.{groupsOf}
 use Rattle.kinds.specs.Frames.{Frames}
-use Rattle.machine.specs.Calls.{groupAt, ownAt, weightsFor}
-use Rattle.machine.specs.Sizes.{callTests}
+use Rattle.machine.specs.Frames.{pointsOf, framesAfter, newNumbers}
+use Rattle.machine.specs.Sizes.{beforeSize, callTests}
 use Rattle.machine.specs.Steps.{Answer, Taken, foundAt, Step, stepBy}
 use Rattle.machine.specs.Nets.{Net}
 use Rattle.machine.specs.declared.Call.{Call}
@@ -39,32 +36,34 @@ polarOf f c pss = polarOver (groups f) (terms c (monomialsOver (groups f)) (f .c
 unfoldable pub scaledValue : Polynomials → List Point → ℕ → ℤ
 scaledValue f qs c = pos (scaleOver (groups f)) *ℤ valueOver (groups f) (terms c (monomialsOver (groups f)) (f .coefficients)) qs
 
--- the net over frames: every entry is its polar value
+-- the net over frames: it carries them, and every entry is its polar value
 unfoldable pub netOver : Polynomials → Frames → Net
-netOver f frames = record { kind = f .kind; degree = f .degree; second = f .second; entries = listedOver (groups f) (λ c es. polarOf f c (takenOver frames es)) }
+netOver f frames =
+    record {
+      kind = f .kind;
+      degree = f .degree;
+      second = f .second;
+      frames = frames;
+      entries = listedOver (groups f) (λ c es. polarOf f c (takenOver frames es));
+    }
 
 -- ---- a call
 
--- the q of each group
-unfoldable pub pointsOf : Polynomials → Frames → Call → List Point
-pointsOf f frames c = pointsOver (groups f) (weightsFor (groups f) c) frames
-
 -- component i of the polar value with counts es of the call's q and of the vertices in each group
 unfoldable pub machinePolar : Polynomials → Frames → Call → ℕ → List (List ℕ) → ℤ
-machinePolar f frames c i es = polarOf f i (takenOver (before (pointsOf f frames c) frames) es)
+machinePolar f frames c i es = polarOf f i (takenOver (before (pointsOf (groups f) frames c) frames) es)
 
--- the frames with another point in the place of vertex v of group i
-abbrev pub putOver : ℕ → ℕ → Point → Frames → Frames
-putOver i v q frames = set frames i (set (getD frames i []) v q)
+-- the tests of a call before that of its size, and all of them: 'the comparison machine answers 12 too, by the q of its own frame'
+unfoldable pub machineBefore : Polynomials → Frames → Call → List Test
+machineBefore f frames c = beforeSize (groups f) c (newNumbers (groups f) frames c)
 
--- An accepted replace puts q in the vertex's place, an accepted flip its negative; an accepted point answers L × F(q) with its projection.
+unfoldable pub machineTests : Polynomials → Frames → Call → List Test
+machineTests f frames c = callTests (groups f) c (newNumbers (groups f) frames c) (machinePolar f frames c)
+
+-- an accepted move changes the frames; an accepted point answers L × F(q) with its projection
 unfoldable pub machineAccepted : Polynomials → Frames → Call → Step Answer Frames
-machineAccepted f frames (call.Move operation vertex weights) =
-    let i = groupAt (groups f) (pred vertex) in
-    let v = ownAt (groups f) (pred vertex) in
-    let q = getD (pointsOf f frames (call.Move operation vertex weights)) i [] in
-    record { answer = Taken; left = putOver i v (cond (eqb operation 1) q (map negℤ (vertexAt (getD frames i []) v))) frames }
-machineAccepted f frames (call.Point weights) = record { answer = foundAt (scaledValue f (pointsOf f frames (call.Point weights))); left = frames }
+machineAccepted f frames (call.Move operation vertex weights) = record { answer = Taken; left = framesAfter (groups f) frames (call.Move operation vertex weights) }
+machineAccepted f frames (call.Point weights) = record { answer = foundAt (scaledValue f (pointsOf (groups f) frames (call.Point weights))); left = frames }
 
 unfoldable pub machineStep : Polynomials → Frames → Call → Step Answer Frames
-machineStep f frames c = stepBy (firstFailed (callTests (groups f) c (machinePolar f frames c))) frames (machineAccepted f frames c)
+machineStep f frames c = stepBy (firstFailed (machineTests f frames c)) frames (machineAccepted f frames c)

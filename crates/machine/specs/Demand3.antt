@@ -11,12 +11,11 @@ use mathlib.Core.List.{List, List·Memᴰ}
 use lib.IntN.{ℤ, natAbs}
 use Rattle.projection.specs.Projection.{limit}
 use Rattle.machine.specs.Refusals.{allPass}
-use Rattle.machine.specs.Calls.{beforeSize}
 use Rattle.kinds.specs.Frames.{Frames, framesOf}
 use Rattle.machine.specs.Sizes.{namedBy}
 use Rattle.machine.specs.Steps.{Refused, after, answers}
 use Rattle.machine.specs.Nets.{Net, stepOf}
-use Rattle.machine.specs.Comparison.{Polynomials, groups, netOver, machinePolar, machineStep}
+use Rattle.machine.specs.Comparison.{Polynomials, groups, netOver, machinePolar, machineBefore, machineStep}
 use Rattle.machine.specs.First.{firstNet, firstRefusal}
 use Rattle.machine.specs.declared.Call.{Call}
 
@@ -33,12 +32,12 @@ module _ (f : Polynomials) (numbers : List ℤ) where
   framesReached calls = after (machineStep f) (framesOf (groups f) numbers) calls
 
   pub record Guaranteed (calls : List Call) : Type 0 where
-    -- the net is the scaled polar values over the frames that the accepted moves give
+    -- the net carries the frames that the accepted moves give, and its entries are the scaled polar values over them
     pub net : netReached calls ≡ netOver f (framesReached calls)
     -- every call got the answer of the comparison machine
     pub answered : answers stepOf (firstNet f numbers) calls ≡ answers (machineStep f) (framesOf (groups f) numbers) calls
     -- a further move or point that is otherwise in order is refused for size exactly when one of its named polar values is beyond the limit
-    pub sized : (call : Call) → allPass (beforeSize (groups f) call) ≡ true → (stepOf (netReached calls) call .answer ≡ Refused 10) ↔ Beyond f (framesReached calls) call
+    pub sized : (call : Call) → allPass (machineBefore f (framesReached calls) call) ≡ true → (stepOf (netReached calls) call .answer ≡ Refused 10) ↔ Beyond f (framesReached calls) call
     -- another list that reaches the same frames leaves the same net, and every further list gets the same answers after the one as after the other
     pub same : (other : List Call) → framesReached other ≡ framesReached calls
         → (netReached other ≡ netReached calls) × ((more : List Call) → answers stepOf (netReached other) more ≡ answers stepOf (netReached calls) more)

@@ -2,7 +2,7 @@
 --
 --   places       what stands there
 --   0, 1, 2      kind, degree, second degree
---   3 to 11      the frame's, kept as they are
+--   3 to 11      the frame's numbers, as many as the kind has; those past them are kept
 --   12 to 191    the entries, as many as kind and degrees have; those past them are kept
 --   192          the largest component's, kept as it is
 --   193 and on   the caller's
@@ -16,6 +16,7 @@ use Rattle.polar.specs.Groups.{monomialsOver}
 use Rattle.entries.specs.Entries.{numberCount}
 use Rattle.machine.specs.Refusals.{_else_, firstFailed}
 use Rattle.kinds.specs.Kinds.{groupsOf}
+use Rattle.kinds.specs.Frames.{framesOf, numbersOf}
 use Rattle.machine.specs.Steps.{pointValues}
 use Rattle.machine.specs.Nets.{Net, netTests, accepted}
 use Rattle.machine.specs.Comparison.{Polynomials}
@@ -36,7 +37,8 @@ netAt lent =
     let kind = byteOf (getD lent 0 (pos 0)) in
     let degree = byteOf (getD lent 1 (pos 0)) in
     let second = byteOf (getD lent 2 (pos 0)) in
-    record { kind = kind; degree = degree; second = second; entries = take (numberCount (groupsOf kind degree second)) (drop 12 lent) }
+    let gs = groupsOf kind degree second in
+    record { kind = kind; degree = degree; second = second; frames = framesOf gs (drop 3 lent); entries = take (numberCount gs) (drop 12 lent) }
 
 -- numbers put into the places from `at` on; all others stay
 abbrev pub putAt : {A : Type 0} → ℕ → List A → List A → List A
@@ -44,7 +46,10 @@ putAt at numbers lent = take at lent ++ (numbers ++ drop (at + length numbers) l
 
 -- a net put into lent places
 unfoldable pub put : Net → List ℤ → List ℤ
-put net lent = putAt 12 (net .entries) (putAt 0 (pos (net .kind) ∷ pos (net .degree) ∷ pos (net .second) ∷ []) lent)
+put net lent =
+    putAt 0 (pos (net .kind) ∷ pos (net .degree) ∷ pos (net .second) ∷ [])
+    (putAt 3 (numbersOf (net .frames))
+    (putAt 12 (net .entries) lent))
 
 -- places enough for a net; more are taken
 abbrev pub wide : List ℤ → Bool

@@ -1,5 +1,6 @@
 pub mod Refusals
 pub mod Calls
+pub mod Frames
 pub mod Sizes
 pub mod Steps
 pub mod Nets

@@ -1,4 +1,5 @@
--- What a call does to a handed net (docs/SPECIFICATION.md, 'Moves and points', with the refusals 4, 8, 9 and 10). The polar values are those that the net's own entries fix.
+-- What a call does to a handed net (docs/SPECIFICATION.md, 'Moves and points', with the refusals 4, 8, 9, 10 and 12). The polar values are those that the net's own entries fix,
+-- and q is over the frames that it carries.
 use Prim.Native.Nat.{ℕ, pred}
 use mathlib.Core.Bool.{Bool, cond}
 use mathlib.Core.List.{List, [], _∷_, _++_}
@@ -10,17 +11,21 @@ use Rattle.projection.specs.Projection.{inRange}
 use Rattle.machine.specs.Refusals.{Test, _else_, firstFailed}
 use Rattle.integers.specs.Test.{all}
 use Rattle.kinds.specs.Kinds.{groupsOf, known}
+use Rattle.kinds.specs.Frames.{Frames, numbersOf}
 use Rattle.machine.specs.Calls.{groupAt, ownAt, weightsFor}
+use Rattle.machine.specs.Frames.{framesAfter, newNumbers}
 use Rattle.machine.specs.Sizes.{callTests}
 use Rattle.machine.specs.Steps.{Answer, Taken, foundAt, Step, stepBy}
+use Rattle.machine.specs.declared.Weights.{Weights}
 use Rattle.machine.specs.declared.Call.{Call}
 use Rattle.machine.specs.declared.Call.the-variants.{Move, Point}
 
--- a net: its kind, its degrees, and four numbers x, y, z, w for each entry, in the specification's order
+-- a net: its kind, its degrees, the frames that it has reached, one for each group, and four numbers x, y, z, w for each entry, in the specification's order
 pub record Net : Type 0 where
   pub kind : ℕ
   pub degree : ℕ
   pub second : ℕ
+  pub frames : Frames
   pub entries : List ℤ
 
 abbrev pub netGroups : Net → List Group
@@ -47,25 +52,34 @@ handedTests net =
     ∷ netInRange net else 10
     ∷ []
 
+-- 'a replace whose q, or a handed net whose frame, has a number beyond': the frame numbers that a call on a net is judged by
+unfoldable pub judgedNumbers : Net → Call → List ℤ
+judgedNumbers net call = numbersOf (net .frames) ++ newNumbers (netGroups net) (net .frames) call
+
 unfoldable pub netTests : Net → Call → List Test
-netTests net call = handedTests net ++ callTests (netGroups net) call (netPolar net call)
+netTests net call = handedTests net ++ callTests (netGroups net) call (judgedNumbers net call) (netPolar net call)
 
--- the net with other entries, g c es being component c of the entry with counts es
-unfoldable pub withEntries : Net → (ℕ → List (List ℕ) → ℤ) → Net
-withEntries net g = record { kind = net .kind; degree = net .degree; second = net .second; entries = listedOver (netGroups net) g }
-
--- What an accepted call answers and leaves. After a replace the copies of the vertex are copies of q, after a flip the sign changes where the vertex
--- is taken an odd number of times, and the point is the polar value whose points are all q.
-unfoldable pub accepted : Net → Call → Step Answer Net
-accepted net (Move operation vertex weights) =
+-- the entries after an accepted move: after a replace the copies of the vertex are copies of q, after a flip the sign changes where the vertex is taken an odd number of times
+unfoldable pub entriesAfter : Net → ℕ → ℕ → Weights → List ℤ
+entriesAfter net operation vertex weights =
     let gs = netGroups net in
     let i = groupAt gs (pred vertex) in
     let v = ownAt gs (pred vertex) in
+    listedOver gs (λ c es. cond (eqb operation 1) (netPolar net (Move operation vertex weights) c (asQ i v es)) (flippedOver i v (entry net c) es))
+
+-- What an accepted call answers and leaves: a move changes frames and entries, and the point is the polar value whose points are all q.
+unfoldable pub accepted : Net → Call → Step Answer Net
+accepted net (Move operation vertex weights) =
     record {
       answer = Taken;
       left =
-          withEntries net
-          (λ c es. cond (eqb operation 1) (netPolar net (Move operation vertex weights) c (asQ i v es)) (flippedOver i v (entry net c) es));
+          record {
+            kind = net .kind;
+            degree = net .degree;
+            second = net .second;
+            frames = framesAfter (netGroups net) (net .frames) (Move operation vertex weights);
+            entries = entriesAfter net operation vertex weights;
+          };
     }
 accepted net (Point weights) = record { answer = foundAt (λ c. netPolar net (Point weights) c (onlyQ (netGroups net))); left = net }
 

@@ -15,22 +15,24 @@ use Rattle.entries.specs.Entries.{listedOver}
 use Rattle.kinds.specs.Kinds.{group}
 use Rattle.machine.specs.Steps.{Answer, refusalNumber, answerValues, answers}
 use Rattle.machine.specs.Comparison.{Polynomials, groups, machineStep, netOver}
-use Rattle.kinds.specs.Frames.{Frames, framesOf, framesAllowed}
+use Rattle.kinds.specs.Frames.{Frames, framesOf, framesAllowed, numbersOf}
 use Rattle.machine.specs.Refusals.{firstFailed}
 use Rattle.machine.specs.Calls.{weightsFor}
+use Rattle.machine.specs.Frames.{newNumbers}
 use Rattle.machine.specs.Sizes.{callTests, namedByReplace, namedByPoint}
-use Rattle.machine.specs.Nets.{netTests}
+use Rattle.machine.specs.Nets.{Net, netTests}
 use Rattle.machine.specs.Lent.{callNumber, madeNumber}
 use Rattle.machine.specs.First.{firstRefusal}
 use Rattle.machine.specs.Demand3.{framesReached}
 use Rattle.machine.specs.declared.Call.{Call}
 use Rattle.machine.specs.declared.Call.the-variants.{Move, Point}
 
--- a sample: polynomials and the numbers of a frame, the calls made, the net reached, and what each call is answered
+-- a sample: polynomials and the numbers of a frame, the calls made, the frame's numbers and the net reached, and what each call is answered
 pub record Sample : Type 0 where
   pub polynomials : Polynomials
   pub frame : List ℤ
   pub calls : List Call
+  pub reached : List ℤ
   pub net : List (List ℤ)
   pub answers : List (List ℤ)
 
@@ -38,10 +40,15 @@ pub record Sample : Type 0 where
 abbrev pub answerRow : Answer → List ℤ
 answerRow a = pos (refusalNumber a) ∷ answerValues a
 
+-- the net that a sample's calls reach
+abbrev pub netOf : Sample → Net
+netOf s = netOver (s .polynomials) (framesReached (s .polynomials) (s .frame) (s .calls))
+
 -- what a sample says of the definitions
 pub record SampleHolds (s : Sample) : Type 0 where
   pub accepted : firstRefusal (s .polynomials) (s .frame) ≡ 0
-  pub net : netOver (s .polynomials) (framesReached (s .polynomials) (s .frame) (s .calls)) .entries ≡ joined (λ row. row) (s .net)
+  pub reached : numbersOf (netOf s .frames) ≡ s .reached
+  pub net : netOf s .entries ≡ joined (λ row. row) (s .net)
   pub answered : map answerRow (answers (machineStep (s .polynomials)) (framesOf (groups (s .polynomials)) (s .frame)) (s .calls)) ≡ s .answers
 
 -- ---- how the table is written
@@ -122,6 +129,7 @@ samples =
       polynomials = circle;
       frame = row 0 1 1 1;
       calls = point (pos 1) (pos 1) (pos 0) (pos 0) ∷ [];
+      reached = row 0 1 1 1;
       net = row 2 0 0 2 ∷ row 2 2 0 2 ∷ row 0 4 0 4 ∷ [];
       -- 0.6, 0.8 and 0, as in the circle's text
       answers = found (row 6 8 0 10) (finite 0x3fe3333333333333 0x3fe999999999999a 0) ∷ [];
@@ -131,6 +139,7 @@ samples =
       polynomials = circle;
       frame = row 0 1 1 1;
       calls = replace 2 (pos 1) (pos 1) ∷ [];
+      reached = row 0 1 1 2;
       net = row 2 0 0 2 ∷ row 4 2 0 4 ∷ row 6 8 0 10 ∷ [];
       answers = taken ∷ [];
     }
@@ -139,6 +148,7 @@ samples =
       polynomials = circle;
       frame = row 0 1 1 1;
       calls = flip 1 ∷ point (pos 1) (pos 1) (pos 0) (pos 0) ∷ [];
+      reached = signed (pos 0) (minus 1) (pos 1) (pos 1);
       net = row 2 0 0 2 ∷ signed (minus 2) (minus 2) (pos 0) (minus 2) ∷ row 0 4 0 4 ∷ [];
       -- -1, 0 and 0
       answers = taken ∷ found (signed (minus 2) (pos 0) (pos 0) (pos 2)) (finite 0xbff0000000000000 0 0) ∷ [];
@@ -148,6 +158,7 @@ samples =
       polynomials = folium;
       frame = row 0 1 1 1;
       calls = point (pos 2) (minus 1) (pos 0) (pos 0) ∷ [];
+      reached = row 0 1 1 1;
       net = row 0 0 0 3 ∷ row 3 0 0 3 ∷ row 6 3 0 3 ∷ row 9 9 0 6 ∷ [];
       answers = found (signed (minus 9) (pos 9) (pos 0) (pos 0)) (direction (pos 1) (minus 1) (pos 0) 9) ∷ [];
     }
@@ -156,6 +167,7 @@ samples =
       polynomials = saddle;
       frame = pos 1 ∷ pos 0 ∷ pos 1 ∷ pos 0 ∷ pos 1 ∷ pos 1 ∷ pos 0 ∷ pos 0 ∷ pos 1 ∷ [];
       calls = point (pos 1) (pos 1) (pos 1) (pos 0) ∷ [];
+      reached = pos 1 ∷ pos 0 ∷ pos 1 ∷ pos 0 ∷ pos 1 ∷ pos 1 ∷ pos 0 ∷ pos 0 ∷ pos 1 ∷ [];
       net = row 2 0 0 2 ∷ row 1 1 1 2 ∷ row 1 0 0 2 ∷ row 0 2 0 2 ∷ row 0 1 0 2 ∷ row 0 0 0 2 ∷ [];
       -- 1/3, 1/3 and 1/9
       answers = found (row 6 6 2 18) (finite 0x3fd5555555555555 0x3fd5555555555555 0x3fbc71c71c71c71c) ∷ [];
@@ -165,6 +177,7 @@ samples =
       polynomials = line;
       frame = row 0 1 1 0;
       calls = replace 1 (pos 4096) (pos 1) ∷ replace 1 (pos 4096) (pos 1) ∷ replace 1 (pos 16) (pos 1) ∷ [];
+      reached = row 65553 268435456 1 0;
       net = row 281474976710656 0 0 268501009 ∷ row 0 0 0 1 ∷ [];
       answers = taken ∷ taken ∷ taken ∷ [];
     }
@@ -183,6 +196,7 @@ samples =
           ∷ point (pos 0) (pos 0) (pos 1) (pos 0)
           ∷ point (pos 0) (pos 0) (pos 0) (pos 0)
           ∷ [];
+      reached = row 4097 16777216 1 0;
       net = row 17592186044416 0 0 16781313 ∷ row 0 0 0 1 ∷ [];
       answers = taken ∷ taken ∷ refused 10 ∷ refused 8 ∷ refused 8 ∷ refused 9 ∷ refused 8 ∷ refused 8 ∷ refused 9 ∷ [];
     }
@@ -200,6 +214,7 @@ samples =
           ∷ move 1 3 (row 0 0 1 1)
           ∷ move 1 3 (row 1 1 0 0)
           ∷ [];
+      reached = pos 1 ∷ pos 0 ∷ pos 1 ∷ pos 0 ∷ pos 1 ∷ pos 1 ∷ pos 0 ∷ pos 0 ∷ pos 1 ∷ [];
       net = row 2 0 0 2 ∷ row 1 1 1 2 ∷ row 1 0 0 2 ∷ row 0 2 0 2 ∷ row 0 1 0 2 ∷ row 0 0 0 2 ∷ [];
       answers = refused 8 ∷ refused 8 ∷ refused 8 ∷ refused 8 ∷ refused 8 ∷ refused 8 ∷ refused 8 ∷ refused 9 ∷ [];
     }
@@ -208,6 +223,7 @@ samples =
       polynomials = polynomials 1 2 0 (row 0 0 0 0 ∷ signed (pos 0) (pos 3) (pos 0) (minus 2) ∷ signed (minus 4) (pos 6) (pos 0) (pos 0) ∷ []);
       frame = row 0 1 1 0;
       calls = point (pos 1) (pos 0) (pos 0) (pos 0) ∷ point (pos 0) (pos 1) (pos 0) (pos 0) ∷ point (pos 1) (pos 1) (pos 0) (pos 0) ∷ [];
+      reached = row 0 1 1 0;
       net = row 0 0 0 0 ∷ signed (pos 0) (pos 3) (pos 0) (minus 2) ∷ signed (minus 8) (pos 12) (pos 0) (pos 0) ∷ [];
       answers =
           found (row 0 0 0 0) []
@@ -232,6 +248,7 @@ samples =
           ∷ point (pos 1) (pos 0) (pos 0) (pos 0)
           ∷ flip 5
           ∷ [];
+      reached = signed (pos 0) (minus 1) (pos 1) (pos 2) ++ signed (minus 1) (pos 0) (minus 1) (minus 1);
       net =
           signed (pos 0) (pos 0) (minus 6) (pos 0)
           ∷ signed (minus 2) (pos 0) (minus 6) (minus 2)
@@ -253,6 +270,59 @@ samples =
           ∷ refused 9
           ∷ refused 8
           ∷ [];
+    }
+    ∷  -- frames: a number of 2 to the 48th is taken and one more is 12, a point's q is not looked at, and a flip gives the negative
+    record {
+      polynomials = polynomials 1 1 0 (row 0 0 0 0 ∷ row 1 0 0 0 ∷ []);
+      frame = row 0 1 1 1;
+      calls =
+          replace 1 (pos 4096) (pos 0)
+          ∷ replace 1 (pos 4096) (pos 0)
+          ∷ replace 1 (pos 4096) (pos 0)
+          ∷ replace 1 (pos 4096) (pos 0)
+          ∷ replace 1 (pos 1) (pos 1)
+          ∷ point (pos 1) (pos 1) (pos 0) (pos 0)
+          ∷ flip 1
+          ∷ replace 1 (pos 1) (minus 1)
+          ∷ [];
+      reached = signed (pos 0) (minus 281474976710656) (pos 1) (pos 1);
+      net = row 0 0 0 0 ∷ row 1 0 0 0 ∷ [];
+      answers = taken ∷ taken ∷ taken ∷ taken ∷ refused 12 ∷ found (row 1 0 0 0) (direction (pos 1) (pos 0) (pos 0) 1) ∷ taken ∷ refused 12 ∷ [];
+    }
+    ∷  -- 12 before 10 and after 8 and 9
+    record {
+      polynomials = polynomials 1 1 0 (row 1 0 0 0 ∷ row 0 0 0 0 ∷ []);
+      frame = row 0 1 1 1;
+      calls =
+          replace 1 (pos 4096) (pos 0)
+          ∷ replace 1 (pos 4096) (pos 0)
+          ∷ replace 1 (pos 4096) (pos 0)
+          ∷ replace 1 (pos 4096) (pos 0)
+          ∷ replace 1 (pos 1) (pos 1)
+          ∷ point (pos 1) (pos 1) (pos 0) (pos 0)
+          ∷ replace 1 (pos 4097) (pos 1)
+          ∷ replace 2 (pos 2) (pos 0)
+          ∷ [];
+      reached = row 0 281474976710656 1 1;
+      net = row 281474976710656 0 0 0 ∷ row 1 0 0 0 ∷ [];
+      answers = taken ∷ taken ∷ taken ∷ taken ∷ refused 12 ∷ refused 10 ∷ refused 8 ∷ refused 9 ∷ [];
+    }
+    ∷  -- the q of the second pair, over the numbers of that pair
+    record {
+      polynomials = polynomials 3 1 1 (row 0 0 0 0 ∷ row 0 0 0 0 ∷ row 0 0 0 0 ∷ row 0 0 0 1 ∷ []);
+      frame = row 1 0 0 1 ++ row 0 1 1 1;
+      calls =
+          replace 3 (pos 4096) (pos 0)
+          ∷ replace 3 (pos 4096) (pos 0)
+          ∷ replace 3 (pos 4096) (pos 0)
+          ∷ replace 3 (pos 4096) (pos 0)
+          ∷ replace 3 (pos 1) (pos 1)
+          ∷ replace 1 (pos 1) (pos 1)
+          ∷ replace 4 (pos 1) (pos 1)
+          ∷ [];
+      reached = row 1 1 0 1 ++ row 0 281474976710656 1 1;
+      net = row 0 0 0 0 ∷ row 0 0 0 1 ∷ row 0 0 0 0 ∷ row 0 0 0 0 ∷ [];
+      answers = taken ∷ taken ∷ taken ∷ taken ∷ refused 12 ∷ taken ∷ refused 12 ∷ [];
     }
     ∷ []
 
@@ -286,7 +356,9 @@ abbrev handed : ℕ → ℕ → ℕ → ℕ → ℕ → ℤ → List ℤ
 handed kind degree second x w weight =
     refused
     (firstFailed
-    (netTests (record { kind = kind; degree = degree; second = second; entries = row x 0 0 w ++ row 0 0 0 1 }) (point weight (pos 1) (pos 0) (pos 0))))
+    (netTests
+    (record { kind = kind; degree = degree; second = second; frames = framesOf (group 1 1 ∷ []) (row 0 1 1 0); entries = row x 0 0 w ++ row 0 0 0 1 })
+    (point weight (pos 1) (pos 0) (pos 0))))
 
 abbrev handedNets : List Instance
 handedNets =
@@ -303,13 +375,42 @@ handedNets =
     ∷ handed 4 1 1 281474976710657 1 (pos 4097) is refused 4
     ∷ []
 
--- too few places are 11 before all else
 abbrev zeros : ℕ → List ℤ
 zeros n = replicate n (pos 0)
 
+-- the refusal 12 of a handed net: Z is `number` at r, and x of the first entry is `component`
+abbrev handedFrame : ℤ → ℤ → Call → List ℤ
+handedFrame number component call =
+    refused
+    (firstFailed
+    (netTests
+    (record { kind = 1; degree = 1; second = 0; frames = framesOf (group 1 1 ∷ []) (signed (pos 0) number (pos 1) (pos 0)); entries = component ∷ zeros 7 })
+    call))
+
+abbrev handedFrames : List Instance
+handedFrames =
+    -- a number of 2 to the 48th passes, and one beyond is 12 for every call
+    handedFrame (minus 281474976710656) (pos 1) (flip 1) is refused 0
+    ∷ handedFrame (minus 281474976710657) (pos 1) (flip 2) is refused 12
+    ∷ handedFrame (pos 281474976710657) (pos 1) (point (pos 0) (pos 1) (pos 0) (pos 0)) is refused 12
+    ∷ handedFrame (pos 281474976710657) (pos 1) (replace 1 (pos 1) (pos 0)) is refused 12
+    -- before size, and after 8, 9 and a component of the net
+    ∷ handedFrame (pos 281474976710657) (pos 281474976710656) (replace 1 (pos 2) (pos 0)) is refused 12
+    ∷ handedFrame (pos 281474976710657) (pos 1) (replace 1 (pos 0) (pos 1)) is refused 9
+    ∷ handedFrame (pos 281474976710657) (pos 1) (flip 3) is refused 8
+    ∷ handedFrame (pos 281474976710657) (minus 281474976710657) (flip 3) is refused 10
+    ∷ []
+
+-- a curve of degree 1 and zero entries, in the nine places of whose frame a number stands at place k, counted from 0
+abbrev lentFrame : ℕ → ℕ → List ℤ
+lentFrame k number = pos 1 ∷ pos 1 ∷ pos 0 ∷ (zeros k ++ (pos number ∷ zeros 189))
+
+-- too few places are 11 before all else, and places past the frame's numbers are not looked at
 abbrev lentNets : List Instance
 lentNets =
-    refused (callNumber (point (pos 4097) (pos 0) (pos 0) (pos 0)) (zeros 192) (zeros 4)) is refused 11
+    refused (callNumber (flip 1) (lentFrame 3 281474976710657) []) is refused 12
+    ∷ refused (callNumber (flip 1) (lentFrame 4 281474976710657) []) is refused 0
+    ∷ refused (callNumber (point (pos 4097) (pos 0) (pos 0) (pos 0)) (zeros 192) (zeros 4)) is refused 11
     ∷ refused (callNumber (point (pos 4097) (pos 0) (pos 0) (pos 0)) (zeros 193) (zeros 3)) is refused 11
     ∷ refused (callNumber (point (pos 4097) (pos 0) (pos 0) (pos 0)) (zeros 193) (zeros 4)) is refused 4
     ∷ refused (callNumber (flip 3) (zeros 193) []) is refused 4
@@ -329,7 +430,7 @@ netNumbers gs coefficients frames = listedOver gs (λ c es. polarOver gs (terms 
 abbrev numberOver : List Group → List (List ℤ) → Frames → Call → ℕ
 numberOver gs coefficients frames call =
     firstFailed
-    (callTests gs call
+    (callTests gs call (newNumbers gs frames call)
     (λ c es.
     polarOver gs (terms c (monomialsOver gs) (joined (λ row. row) coefficients)) (takenOver (before (pointsOver gs (weightsFor gs call) frames) frames) es)))
 
@@ -391,4 +492,4 @@ twoGroups =
     ∷ []
 
 abbrev pub instances : List Instance
-instances = firstNets ++ handedNets ++ lentNets ++ twoGroups
+instances = firstNets ++ handedNets ++ handedFrames ++ lentNets ++ twoGroups

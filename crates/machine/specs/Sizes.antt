@@ -13,7 +13,7 @@ use Rattle.entries.specs.Entries.{noneOfQ}
 use Rattle.projection.specs.Projection.{inRange}
 use Rattle.machine.specs.Refusals.{Test, _else_}
 use Rattle.integers.specs.Test.{all}
-use Rattle.machine.specs.Calls.{groupAt, beforeSize}
+use Rattle.machine.specs.Calls.{groupAt, ownTests}
 use Rattle.machine.specs.declared.Call.{Call}
 use Rattle.machine.specs.declared.Call.the-variants.{Move, Point}
 
@@ -37,6 +37,12 @@ namedBy gs (Point weights) = namedByPoint gs
 unfoldable pub allNamed : List (List (List ℕ)) → (ℕ → List (List ℕ) → ℤ) → Bool
 allNamed names P = all (λ es. all (λ c. inRange (P c es)) (upto 4)) names
 
--- ---- all tests of a call: 8, 9, and then 'size'
-unfoldable pub callTests : List Group → Call → (ℕ → List (List ℕ) → ℤ) → List Test
-callTests gs call P = beforeSize gs call ++ (allNamed (namedBy gs call) P else 10 ∷ [])
+-- ---- all tests of a call
+
+-- those before its size: 8, 9, and then 'beyond 2 to the 48th in absolute value', of the frame numbers that the call is judged by
+unfoldable pub beforeSize : List Group → Call → List ℤ → List Test
+beforeSize gs call numbers = ownTests gs call ++ (all inRange numbers else 12 ∷ [])
+
+-- and then 'size'
+unfoldable pub callTests : List Group → Call → List ℤ → (ℕ → List (List ℕ) → ℤ) → List Test
+callTests gs call numbers P = beforeSize gs call numbers ++ (allNamed (namedBy gs call) P else 10 ∷ [])

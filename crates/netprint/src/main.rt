@@ -103,12 +103,12 @@ fn complaint<'a>(last: isize, wrote: bool, unread: &'a [u8], unwritten: &'a [u8]
 }
 
 // The longest record that is accepted has 1017 bytes, so 2048 are enough to tell; what comes after
-// them is not read. Every text fits into 4096 bytes, so write_text does not answer 11 here; if it did,
+// them is not read. Every text fits into 4183 bytes, so write_text does not answer 11 here; if it did,
 // there would be nothing to write. Of no bytes at all io::write_all makes no call and answers true.
 fn main() {
     let mut input = [0u8; 2048];
     let stop = read_input(&mut input);
-    let mut out = [0u8; 4096];
+    let mut out = [0u8; 4183];
     let n = answer(stop, &input, &mut out);
     let wrote = io::write_all(STDOUT_FILENO, &out[..n]);
     let unread = b"netprint: standard input could not be read\n";

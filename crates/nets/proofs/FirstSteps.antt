@@ -28,9 +28,10 @@ use Rattle.entries.proofs.Listed.{length-listed, digits-below}
 use Rattle.entries.proofs.ListedOver.{length-listed-over, listed-over-cong}
 use Rattle.projection.specs.Projection.{isZero, inRange}
 use Rattle.kinds.specs.Kinds.{group, groupsOf, dimensionOf, laterGroups, laterDimension, known}
-use Rattle.kinds.specs.Frames.{frameOf, determinant, frameAllowed, framesOf, framesAllowed}
+use Rattle.kinds.specs.Frames.{frameOf, determinant, frameAllowed, frameCount, framesOf, framesAllowed}
 use Rattle.kinds.proofs.Limits.{UpTo, by-known, limits, groups-of, later-none, later-one, pairs-only}
-use Rattle.kinds.proofs.Counts.{coefficients-entries, row-size, known-size, size-fits}
+use Rattle.kinds.proofs.Counts.{coefficients-entries, row-size, known-size, size-fits, frame-few}
+use Rattle.kinds.proofs.Frames.{numbers-back}
 use Rattle.kinds.proofs.Scales.{row-low, first-scale, later-scale, pair-scale}
 use Rattle.machine.specs.Refusals.{_else_, firstFailed}
 use Rattle.machine.specs.Nets.{Net, netInRange}
@@ -43,7 +44,7 @@ use Rattle.nets.specs.Rows.{Sized, written}
 use Rattle.nets.specs.Parts.{partAt, inParts}
 use Rattle.nets.specs.Coordinates.{NoneBeyond, Limited}
 use Rattle.nets.specs.FirstNet.{FrameWithin, framed, framedList, Framing, PartsFramed}
-use Rattle.nets.specs.Calls.{netFrom, beforeFirst, Stores, Stored, FirstStored}
+use Rattle.nets.specs.Calls.{netWith, beforeFirst, Stores, Stored, FirstStored}
 use Rattle.nets.proofs.Lists.{written-front}
 use Rattle.nets.proofs.FirstMoves.{known-sized}
 use Rattle.nets.proofs.Parts.{part-long, part-at, joined-upto}
@@ -430,42 +431,39 @@ module _ (kind degree second : ℕ) (frame coefficients lent : List ℤ) where
 
 -- ---- storing
 
-module _ (kind p q : ℕ) (lent entries : List ℤ) (asked : Stores kind p q lent entries) where
-  -- there is room for them
-  pub part-room : (headed : List ℤ) → length headed ≡ length lent → numberCount (groupsOf kind p q) ≤ length (take 180 (drop 12 headed))
-  part-room headed kept =
-      let long = asked .places in
-      subst (λ k. numberCount (groupsOf kind p q) ≤ k) (sym (length-take-le 180 (drop 12 headed) (subst (λ k. 180 ≤ k) (sym (length-drop 12 headed)) (omega (arith, kept))))) (asked .fit)
+-- numbers copied into a part of the places, which has room for them
+pub part-copied : (at n : ℕ) (lent xs : List ℤ) (count : ℕ) → at + n ≤ length lent → count ≤ n → count ≤ length xs
+    → take at lent ++ (written (take n (drop at lent)) 0 count (λ i. getD xs i (pos 0)) ++ drop n (drop at lent)) ≡ putAt at (take count xs) lent
+part-copied at n lent xs count room fits long =
+    ap₂ (λ l r. take at lent ++ (l ++ r))
+    (ap (λ l. written (take n (drop at lent)) 0 count (λ i. getD l i (pos 0))) (sym (take-append-drop count xs))
+    ∙ written-front (take n (drop at lent)) (take count xs) (drop count xs) count (sym own-count) (subst (λ k. count ≤ k) (sym part-long) fits))
+    (drop-drop n at lent)
+    ∙ part-put at n lent room (take count xs) (subst (λ k. k ≤ n) (sym own-count) fits)
+  where
+    own-count : length (take count xs) ≡ count
+    own-count = length-take-le count xs long
 
-  -- the head is put, and then the entries are copied into their part of the places
-  pub net-put : (headed ys : List ℤ) (count : ℕ) → headed ≡ putAt 0 (pos kind ∷ pos p ∷ pos q ∷ []) lent → length headed ≡ length lent → count ≡ numberCount (groupsOf kind p q)
-      → ys ≡ take 12 headed ++ (written (take 180 (drop 12 headed)) 0 count (λ i. getD entries i (pos 0)) ++ drop 180 (drop 12 headed)) → ys ≡ put (netFrom kind p q entries) lent
+    part-long : length (take n (drop at lent)) ≡ n
+    part-long = length-take-le n (drop at lent) (simp length-drop (omega arith))
+
+module _ (kind p q : ℕ) (lent frame entries : List ℤ) (asked : Stores kind p q lent frame entries) where
+  abbrev gs : List Group
+  gs = groupsOf kind p q
+
+  -- the entries are copied into their part of the places, the frame's numbers into theirs, and the head is put
+  pub net-put : (some more ys : List ℤ) → some ≡ putAt 12 (take (numberCount gs) entries) lent → more ≡ putAt 3 (take (frameCount gs) frame) some
+      → ys ≡ putAt 0 (pos kind ∷ pos p ∷ pos q ∷ []) more → ys ≡ put (netWith kind p q frame entries) lent
   unfolding put
-  net-put headed ys count head-is kept counted is =
+  net-put some more ys some-is more-is is =
       is
-      ∙ ap₂ (λ l r. take 12 headed ++ (l ++ r))
-      (ap (λ l. written (take 180 (drop 12 headed)) 0 count (λ i. getD l i (pos 0))) (sym (take-append-drop n entries))
-      ∙ written-front (take 180 (drop 12 headed)) own (drop n entries) count (counted ∙ sym own-count) fits)
-      (drop-drop 180 12 headed)
-      ∙ part-put headed (le-leb 193 (length headed) (subst (λ k. 193 ≤ k) (sym kept) (asked .places))) own (subst (λ k. k ≤ 180) (sym own-count) (asked .fit))
-      ∙ ap (putAt 12 own) head-is
-    where
-      n : ℕ
-      n = numberCount (groupsOf kind p q)
-
-      own : List ℤ
-      own = take n entries
-
-      own-count : length own ≡ n
-      own-count = length-take-le n entries (asked .enough)
-
-      fits : count ≤ length (take 180 (drop 12 headed))
-      fits = subst (λ k. k ≤ length (take 180 (drop 12 headed))) (sym counted) (part-room headed kept)
+      ∙ ap (putAt 0 (pos kind ∷ pos p ∷ pos q ∷ []))
+      (more-is ∙ ap₂ (λ numbers l. putAt 3 numbers l) (sym (numbers-back gs frame (subst (λ k. frameCount gs ≤ k) (sym (asked .nine)) (frame-few kind p q)))) some-is)
 
 -- a first net that is made in a room is stored as it is
 pub first-stored : (kind p q : ℕ) → known kind p q ≡ true → (frame coefficients room out lent ys : List ℤ) (b : Bool) (k : ℕ)
     → let f = polynomialsFrom kind p q coefficients in
-    out ≡ putAt 0 (firstNet f frame .entries) room → b ≡ netInRange (firstNet f frame) → Stored (netFrom kind p q out) b lent k ys → FirstStored f frame lent k ys
+    out ≡ putAt 0 (firstNet f frame .entries) room → b ≡ netInRange (firstNet f frame) → Stored (netWith kind p q frame out) b lent k ys → FirstStored f frame lent k ys
 unfolding netOver
 first-stored kind p q right frame coefficients room out lent ys b k made-is range is =
     let f = polynomialsFrom kind p q coefficients in
@@ -475,5 +473,5 @@ first-stored kind p q right frame coefficients room out lent ys b k made-is rang
     ap (take (numberCount (groupsOf kind p q))) made-is ∙ take-at entries (drop (0 + length entries) room) (numberCount (groupsOf kind p q)) count in
     record {
       number-is = is .number-is ∙ ap (λ r. firstFailed (r else 7 ∷ [])) range;
-      places-are = is .places-are ∙ ap (λ l. unlessRefused k (put (record { kind = kind; degree = p; second = q; entries = l }) lent) lent) own;
+      places-are = is .places-are ∙ ap (λ l. unlessRefused k (put (record { kind = kind; degree = p; second = q; frames = framesOf (groupsOf kind p q) frame; entries = l }) lent) lent) own;
     }

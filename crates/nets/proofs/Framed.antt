@@ -2,36 +2,35 @@
 -- the coefficients of polynomials of the groups after it (entries/proofs/FirstGroup.antt); so the net over all frames is made part by part. How large the numbers grow: a form is
 -- linear in each point, so each vertex of a frame multiplies the bound by at most four times the number of vertices.
 use Prim.Native.Nat.{ℕ, zero, suc, _+_, _*_, _-_, _/_, _%_, _^_, _≤_, _<_, zero-le, suc-le-suc}
-use native.Mathlib.Nat.{zero-add, add-zero, suc-add, mul-one, one-mul, mul-assoc, mul-comm, mul-le-mul-left, le-trans, le-of-eq, lt-of-lt-of-le, not-suc-le-zero, le-of-suc-le-suc, pow-succ', pow-zero, div-add-mod, mod-lt, div-lt-iff-lt-mul}
+use native.Mathlib.Nat.{zero-add, add-zero, one-mul, mul-assoc, mul-comm, le-of-suc-le-suc, pow-succ', pow-zero, div-add-mod, mod-lt, div-lt-iff-lt-mul}
 use native.Mathlib.Omega.{arith}
-use mathlib.Core.Path.{_≡_, refl, sym, ap, ap₂, _∙_, subst, fun-ext}
+use mathlib.Core.Path.{_≡_, refl, sym, ap, ap₂, _∙_, subst}
 use mathlib.Core.List.{List, [], _∷_, _++_, append-nil, List·Memᴰ, List·Memᴰ·head, List·Memᴰ·tail}
 use lib.IntN.{ℤ, pos, natAbs, _*ℤ_}
-use lib.ListN.{length, getD, take, drop, replicate, length-append, List·getD-append}
-use lib.Seq.{getD-take, getD-drop, take-append-le}
+use lib.ListN.{length, getD, drop, replicate, length-append}
 use Rattle.integers.specs.Sum.{sum, upto}
 use Rattle.integers.proofs.Signed.{abs-*-le}
-use Rattle.polar.specs.Sigma.{Point, Exponents}
+use Rattle.polar.specs.Sigma.{Point}
 use Rattle.polar.specs.Order.{joined, total, counts, monomials}
 use Rattle.polar.specs.Groups.{Group, monomialsOver, countsOver}
 use Rattle.polar.specs.Scale.{scale}
 use Rattle.polar.specs.Polar.{polarOver, columnTerms, terms}
 use Rattle.entries.specs.Frame.{taken, takenOver, combination, units}
 use Rattle.entries.specs.Form.{Form}
-use Rattle.entries.specs.Entries.{placeOf, raise, numberCount, placeOver, listedOver}
-use Rattle.entries.specs.Rows.{listed, size, rank}
+use Rattle.entries.specs.Entries.{placeOf, raise, numberCount, listedOver}
+use Rattle.entries.specs.Rows.{listed, size}
 use Rattle.entries.proofs.Form.{blend, total-raise, length-raise}
 use Rattle.entries.proofs.Places.{counts-at, placed}
-use Rattle.entries.proofs.Groups.{Counted, polar-forms, total-zeros, length-zeros}
-use Rattle.entries.proofs.Listed.{length-listed, rank-below, digits-below, rows-at}
+use Rattle.entries.proofs.Groups.{polar-forms, total-zeros, length-zeros}
+use Rattle.entries.proofs.Listed.{digits-below, rows-at}
 use Rattle.entries.proofs.ListedOver.{listed-over-cong}
 use Rattle.entries.proofs.FirstGroup.{over-columns}
 use Rattle.kinds.specs.Kinds.{group}
-use Rattle.kinds.specs.Frames.{frameOf, framesOf}
+use Rattle.kinds.specs.Frames.{framesOf}
 use Rattle.kinds.proofs.Counts.{coefficients-entries}
 use Rattle.nets.specs.Coordinates.{rowPolar, NoneBeyond, Limited}
 use Rattle.nets.specs.FirstNet.{FrameWithin, vertexOf, vertexWeights, framed}
-use Rattle.nets.specs.Parts.{partAt, inParts}
+use Rattle.nets.specs.Parts.{partAt}
 use Rattle.nets.proofs.GroupRows.{first-listed, row-listed}
 use Rattle.nets.proofs.Parts.{part-at}
 use Rattle.nets.proofs.LaterMoves.{joined-places}

@@ -1,37 +1,45 @@
--- From the part of lent places that holds the entries to all of them: where kind and degrees are known the net of the part is the net of the places, and to put its entries
--- into the part is to put it into the places. Where they are not, both are refused for that.
-use Prim.Native.Nat.{ℕ, zero, suc, _+_, _≤_, _<_}
-use native.Mathlib.Nat.{zero-add}
+-- From the parts of lent places to all of them. The net of the part that holds the entries has the entries of the net of the places, where kind and degrees are known; where they are not, both
+-- are refused for that. To put the entries into their part and the new vertex into its places is to put the net that an accepted move leaves.
+use Prim.Native.Nat.{ℕ, zero, suc, pred, _≤_, _<_}
 use native.Mathlib.Omega.{arith}
-use mathlib.Core.Path.{_≡_, refl, sym, ap, ap₂, _∙_, subst}
-use mathlib.Core.Bool.{Bool, true, false}
-use mathlib.Core.List.{List, [], _∷_, _++_}
+use mathlib.Core.Path.{_≡_, refl, sym, ap, ap₂, _∙_, fun-ext, subst}
+use mathlib.Core.Bool.{Bool, true, false, cond}
+use mathlib.Core.List.{List, [], _∷_}
 use borrow.Author.Tests.{le-leb, lt-leb}
-use borrow.Rule.Slice.PartMut.{putMid, put-same, post-is}
+use lib.Dec.{eqb}
 use lib.IntN.{ℤ, pos}
-use lib.ListN.{length, getD, take, drop}
+use lib.ListN.{length, getD, take, drop, length-drop}
+use lib.Seq.{length-take-le}
 use Rattle.integers.specs.Test.{all}
 use Rattle.projection.specs.Projection.{inRange}
-use Rattle.entries.specs.Entries.{numberCount}
-use Rattle.entries.proofs.ListedOver.{length-listed-over}
+use Rattle.entries.specs.Entries.{numberCount, entryOver, listedOver, fixedOver, flippedOver, asQ, onlyQ}
 use Rattle.kinds.specs.Kinds.{groupsOf, known}
-use Rattle.kinds.proofs.Counts.{entries-fit}
+use Rattle.kinds.specs.Frames.{frameCount, numbersOf}
+use Rattle.kinds.proofs.Counts.{entries-fit, frame-few}
+use Rattle.kinds.proofs.Frames.{numbers-back}
 use Rattle.machine.specs.Refusals.{_else_, firstFailed}
 use Rattle.machine.proofs.Refusals.{passes, fails}
-use Rattle.machine.specs.Sizes.{callTests}
-use Rattle.machine.specs.Steps.{pointValues}
-use Rattle.machine.specs.Nets.{Net, netGroups, netPolar, handedTests, netTests, withEntries, accepted}
+use Rattle.machine.specs.Calls.{groupAt, ownAt, weightsFor}
+use Rattle.machine.specs.Frames.{newNumbers}
+use Rattle.machine.specs.Sizes.{namedBy, allNamed}
+use Rattle.machine.specs.Steps.{pointValues, foundAt}
+use Rattle.machine.specs.Nets.{Net, netGroups, netPolar, handedTests, netTests, entriesAfter, accepted}
 use Rattle.machine.specs.Lent.{byteOf, netAt, putAt, put, wide, room, unlessRefused, callNumber, callPlaces, callFound}
-use Rattle.machine.proofs.Lent.{put-entries, part-read, part-put}
+use Rattle.machine.proofs.Lent.{part-read, put-moved, head-stood, stood-sound, accepted-sound}
 use Rattle.machine.specs.declared.Weights.{Weights}
 use Rattle.machine.specs.declared.Call.{Call}
-use Rattle.machine.specs.declared.Call.the-variants.{Move}
-use Rattle.nets.specs.Calls.{netFrom, Stepped, Pointed}
+use Rattle.machine.specs.declared.Call.the-variants.{Move, Point}
+use Rattle.nets.specs.Calls.{netFrom, netIn, sizeTest, Pointed, Moved}
+use Rattle.nets.proofs.Made.{right}
 
 -- ---- too few places
 
 kept-eleven : {A : Type 0} (k : ℕ) (written stood : A) → 11 ≡ k → stood ≡ unlessRefused k written stood
 kept-eleven k written stood e = ap (λ j. unlessRefused j written stood) e
+
+kept : {A : Type 0} (k : ℕ) (written stood : A) → (k ≡ 0 → ⊥) → stood ≡ unlessRefused k written stood
+kept zero written stood h = absurd (h refl)
+kept (suc k) written stood h = refl
 
 module _ (call : Call) (lent found : List ℤ) where
   lent-eleven : length lent < 193 → 11 ≡ callNumber call lent found
@@ -56,102 +64,121 @@ module _ (call : Call) (lent found : List ℤ) where
 
 -- ---- places enough
 
--- an unknown kind is refused whatever the entries are
-unknown-number : (net : Net) (call : Call) → known (net .kind) (net .degree) (net .second) ≡ false → firstFailed (netTests net call) ≡ 4
-unfolding netTests handedTests
-unknown-number net call h = fails 4 (all inRange (net .entries) else 10 ∷ callTests (netGroups net) call (netPolar net call)) h
+module _ (kind degree second : ℕ) (lent : List ℤ) (long : 193 ≤ length lent) where
+  -- the part that holds the entries, and the net of the places
+  abbrev part : List ℤ
+  part = take 180 (drop 12 lent)
+
+  abbrev net : Net
+  net = netIn kind degree second lent
+
+  pub part-long : length part ≡ 180
+  part-long = length-take-le 180 (drop 12 lent) (simp length-drop (omega arith))
+
+  -- the part's net has its entries
+  entries-are : known kind degree second ≡ true → netFrom kind degree second part .entries ≡ net .entries
+  entries-are right = part-read 12 180 lent (omega arith) (numberCount (groupsOf kind degree second)) (entries-fit kind degree second right)
+
+  polar-same : known kind degree second ≡ true → (call : Call) (c : ℕ) (es : List (List ℕ)) → netPolar (netFrom kind degree second part) call c es ≡ netPolar net call c es
+  unfolding netPolar
+  polar-same right call c es =
+      let gs = groupsOf kind degree second in
+      ap (λ entries. fixedOver gs (weightsFor gs call) (entryOver gs entries c) es) (entries-are right)
+
+  -- so both are judged alike
+  pub handed-same : firstFailed (handedTests (netFrom kind degree second part)) ≡ firstFailed (handedTests net)
+  unfolding handedTests
+  handed-same = by (known kind degree second) refl
+    where
+      by : (b : Bool) → known kind degree second ≡ b → firstFailed (handedTests (netFrom kind degree second part)) ≡ firstFailed (handedTests net)
+      by true h = ap (λ es. firstFailed (known kind degree second else 4 ∷ all inRange es else 10 ∷ [])) (entries-are h)
+      by false h =
+          fails 4 (all inRange (netFrom kind degree second part .entries) else 10 ∷ []) h ∙ sym (fails 4 (all inRange (net .entries) else 10 ∷ []) h)
+
+  pub size-same : known kind degree second ≡ true → (call : Call) → sizeTest (netFrom kind degree second part) call ≡ sizeTest net call
+  size-same right call = ap (λ P. allNamed (namedBy (groupsOf kind degree second) call) P else 10 ∷ []) (fun-ext (λ c. fun-ext (λ es. polar-same right call c es)))
+
+  -- and the numbers of the frame are those of the places
+  pub frame-numbers : numbersOf (net .frames) ≡ take (frameCount (groupsOf kind degree second)) (drop 3 lent)
+  frame-numbers = numbers-back (groupsOf kind degree second) (drop 3 lent) (subst (λ k. frameCount (groupsOf kind degree second) ≤ k) (sym (length-drop 3 lent)) (omega (arith, frame-few kind degree second)))
+
+  -- so are a move's entries and a point
+  pub left-same : known kind degree second ≡ true → (operation vertex : ℕ) (weights : Weights) → entriesAfter (netFrom kind degree second part) operation vertex weights ≡ entriesAfter net operation vertex weights
+  unfolding entriesAfter netPolar
+  left-same right operation vertex weights =
+      let gs = groupsOf kind degree second in
+      let i = groupAt gs (pred vertex) in
+      let v = ownAt gs (pred vertex) in
+      ap
+      (λ entries.
+      listedOver gs
+      (λ c es. cond (eqb operation 1) (fixedOver gs (weightsFor gs (Move operation vertex weights)) (entryOver gs entries c) (asQ i v es)) (flippedOver i v (entryOver gs entries c) es)))
+      (entries-are right)
+
+  pub found-same : known kind degree second ≡ true → (weights : Weights) → accepted (netFrom kind degree second part) (Point weights) .answer ≡ accepted net (Point weights) .answer
+  unfolding accepted
+  found-same right weights = ap foundAt (fun-ext (λ c. polar-same right (Point weights) c (onlyQ (groupsOf kind degree second))))
+
+-- ---- the net that stands in the places
 
 module _ (lent : List ℤ) (long : 193 ≤ length lent) (kind degree second : ℕ)
     (kind-is : kind ≡ byteOf (getD lent 0 (pos 0))) (degree-is : degree ≡ byteOf (getD lent 1 (pos 0))) (second-is : second ≡ byteOf (getD lent 2 (pos 0))) where
   enough : wide lent ≡ true
   enough = le-leb 193 (length lent) long
 
-  -- the part that holds the entries, and its net
-  abbrev part : List ℤ
-  part = take 180 (drop 12 lent)
+  abbrev here : Net
+  here = netIn kind degree second lent
 
-  abbrev net : Net
-  net = netFrom kind degree second part
-
-  net-is : known kind degree second ≡ true → net ≡ netAt lent
+  net-is : here ≡ netAt lent
   unfolding netAt
-  net-is right =
-      ap with-entries (part-read lent enough (numberCount (groupsOf kind degree second)) (entries-fit kind degree second right))
-      ∙ (λ i. record { kind = kind-is i; degree = degree-is i; second = second-is i; entries = take (numberCount (groupsOf (kind-is i) (degree-is i) (second-is i))) (drop 12 lent) })
-    where
-      with-entries : List ℤ → Net
-      with-entries es = record { kind = kind; degree = degree; second = second; entries = es }
+  net-is = λ i. netIn (kind-is i) (degree-is i) (second-is i) lent
 
-  known-at : known (netAt lent .kind) (netAt lent .degree) (netAt lent .second) ≡ known kind degree second
-  unfolding netAt
-  known-at = sym (λ i. known (kind-is i) (degree-is i) (second-is i))
-
-  -- both nets have the same number
-  same-number : (call : Call) → firstFailed (netTests net call) ≡ firstFailed (netTests (netAt lent) call)
-  same-number call = by (known kind degree second) refl
-    where
-      by : (b : Bool) → known kind degree second ≡ b → firstFailed (netTests net call) ≡ firstFailed (netTests (netAt lent) call)
-      by true right = ap (λ n. firstFailed (netTests n call)) (net-is right)
-      by false wrong = unknown-number net call wrong ∙ sym (unknown-number (netAt lent) call (known-at ∙ wrong))
-
-  -- an accepted call's kind is known
-  taken-known : (call : Call) → firstFailed (netTests net call) ≡ 0 → known kind degree second ≡ true
-  taken-known call taken = by (known kind degree second) refl
-    where
-      by : (b : Bool) → known kind degree second ≡ b → known kind degree second ≡ true
-      by true right = right
-      by false wrong = let four : _≡_ {A = ℕ} 4 0 = sym (unknown-number net call wrong) ∙ taken in absurd (omega arith)
+  known-at : known kind degree second ≡ true → known (netAt lent .kind) (netAt lent .degree) (netAt lent .second) ≡ true
+  known-at right = ap (λ n. known (n .kind) (n .degree) (n .second)) (sym net-is) ∙ right
 
   module _ (call : Call) (found : List ℤ) (enough-found : room call found ≡ true) where
-    call-number : firstFailed (netTests net call) ≡ callNumber call lent found
+    call-number : firstFailed (netTests here call) ≡ callNumber call lent found
     unfolding callNumber
-    call-number = same-number call ∙ sym (passes 11 (room call found else 11 ∷ netTests (netAt lent) call) enough ∙ passes 11 (netTests (netAt lent) call) enough-found)
+    call-number = ap (λ n. firstFailed (netTests n call)) net-is ∙ sym (passes 11 (room call found else 11 ∷ netTests (netAt lent) call) enough ∙ passes 11 (netTests (netAt lent) call) enough-found)
 
-    -- a point
-    pub found-made : (k : ℕ) (after : List ℤ) → Pointed net call k found after → (k ≡ callNumber call lent found) × (after ≡ callFound call lent found)
-    unfolding callFound
-    found-made k after step = (step .number-is ∙ call-number, by k (step .number-is) (step .places))
-      where
-        by : (j : ℕ) → j ≡ firstFailed (netTests net call) → after ≡ unlessRefused j (putAt 0 (pointValues (accepted net call .answer)) found) found → after ≡ callFound call lent found
-        by zero is left =
-            left
-            ∙ ap₂ (λ n m. unlessRefused n (putAt 0 (pointValues (accepted m call .answer)) found) found) (is ∙ call-number) (net-is (taken-known call (sym is)))
-        by (suc j) is left = left ∙ ap (λ n. unlessRefused n (putAt 0 (pointValues (accepted (netAt lent) call .answer)) found) found) (is ∙ call-number)
-
-  -- a move
-  module _ (operation vertex : ℕ) (weights : Weights) where
-    abbrev move : Call
-    move = Move operation vertex weights
-
-    -- the entries that it leaves have room in the part
-    left-long : known kind degree second ≡ true → length (accepted net move .left .entries) ≤ 180
-    unfolding accepted withEntries
-    left-long right = subst (λ k. k ≤ 180) (sym (length-listed-over (netGroups net) _)) (entries-fit kind degree second right)
-
-    left-put : known kind degree second ≡ true → putAt 12 (accepted (netAt lent) move .left .entries) lent ≡ put (accepted (netAt lent) move .left) lent
-    unfolding accepted withEntries
-    left-put right = sym (put-entries lent (accepted (netAt lent) move .left .entries) enough (known-at ∙ right))
-
-    -- to put them into the part is to put the net into the places
-    part-left : known kind degree second ≡ true → putMid 12 180 lent (putAt 0 (accepted net move .left .entries) part) ≡ put (accepted (netAt lent) move .left) lent
-    part-left right =
-        let es = accepted net move .left .entries in
-        ap (λ l. take 12 lent ++ ((es ++ drop (0 + length es) part) ++ l)) (post-is 12 192 lent (omega arith))
-        ∙ ap (λ k. take 12 lent ++ ((es ++ drop k part) ++ drop 192 lent)) (zero-add (length es))
-        ∙ part-put lent enough es (left-long right)
-        ∙ ap (λ n. putAt 12 (accepted n move .left .entries) lent) (net-is right)
-        ∙ left-put right
-
-    pub move-made : (k : ℕ) (out : List ℤ) → Stepped net move k part out → (k ≡ callNumber move lent []) × (putMid 12 180 lent out ≡ callPlaces move lent [])
+    -- a refused call
+    pub places-kept : {k : ℕ} → (k ≡ 0 → ⊥) → k ≡ firstFailed (netTests here call) → (k ≡ callNumber call lent found) × (lent ≡ callPlaces call lent found)
     unfolding callPlaces
-    move-made k out step = (step .number-is ∙ call-number move [] refl, by k (step .number-is) (step .places))
-      where
-        by : (j : ℕ) → j ≡ firstFailed (netTests net move) → out ≡ unlessRefused j (putAt 0 (accepted net move .left .entries) part) part → putMid 12 180 lent out ≡ callPlaces move lent []
-        by zero is left =
-            ap (putMid 12 180 lent) left
-            ∙ part-left (taken-known move (sym is))
-            ∙ ap (λ n. unlessRefused n (put (accepted (netAt lent) move .left) lent) lent) (is ∙ call-number move [] refl)
-        by (suc j) is left =
-            ap (putMid 12 180 lent) left
-            ∙ put-same 12 180 lent
-            ∙ ap (λ n. unlessRefused n (put (accepted (netAt lent) move .left) lent) lent) (is ∙ call-number move [] refl)
+    places-kept {k} refused is = (is ∙ call-number, kept k (put (accepted (netAt lent) call .left) lent) lent refused ∙ ap (λ j. unlessRefused j (put (accepted (netAt lent) call .left) lent) lent) (is ∙ call-number))
+
+    pub found-kept : {k : ℕ} → (k ≡ 0 → ⊥) → k ≡ firstFailed (netTests here call) → (k ≡ callNumber call lent found) × (found ≡ callFound call lent found)
+    unfolding callFound
+    found-kept {k} refused is =
+        let written = putAt 0 (pointValues (accepted (netAt lent) call .answer)) found in
+        (is ∙ call-number, kept k written found refused ∙ ap (λ j. unlessRefused j written found) (is ∙ call-number))
+
+  -- an accepted move: its frame and its entries are put, and the head stands there already
+  pub move-made : known kind degree second ≡ true → (operation vertex : ℕ) (weights : Weights) (k : ℕ) (after : List ℤ)
+      → Moved here (Move operation vertex weights) k lent after → firstFailed (all inRange (newNumbers (netGroups here) (here .frames) (Move operation vertex weights)) else 12 ∷ sizeTest here (Move operation vertex weights)) ≡ firstFailed (netTests here (Move operation vertex weights))
+      → (k ≡ callNumber (Move operation vertex weights) lent []) × (after ≡ callPlaces (Move operation vertex weights) lent [])
+  unfolding callPlaces accepted
+  move-made right operation vertex weights k after moved number =
+      let is = moved .number-is ∙ number ∙ call-number (Move operation vertex weights) [] refl in
+      (is, moved .places ∙ ap₂ (λ j l. unlessRefused j l lent) is put-is)
+    where
+      move : Call
+      move = Move operation vertex weights
+
+      left-at : Net → List ℤ
+      left-at n = putAt 3 (numbersOf (accepted n move .left .frames)) (putAt 12 (accepted n move .left .entries) lent)
+
+      put-is : left-at here ≡ put (accepted (netAt lent) move .left) lent
+      put-is =
+          ap left-at net-is
+          ∙ sym
+          (put-moved (accepted (netAt lent) move .left) lent enough (accepted-sound (netAt lent) move (stood-sound lent enough (known-at right))) (head-stood lent enough (known-at right)))
+
+  -- a point that only its size may refuse
+  pub found-made : known kind degree second ≡ true → (weights : Weights) (found : List ℤ) (enough-found : room (Point weights) found ≡ true) (k : ℕ) (after : List ℤ)
+      → Pointed (netFrom kind degree second (take 180 (drop 12 lent))) (Point weights) k found after → firstFailed (sizeTest here (Point weights)) ≡ firstFailed (netTests here (Point weights))
+      → (k ≡ callNumber (Point weights) lent found) × (after ≡ callFound (Point weights) lent found)
+  unfolding callFound
+  found-made right weights found enough-found k after pointed number =
+      let is = pointed .number-is ∙ ap firstFailed (size-same kind degree second lent long right (Point weights)) ∙ number ∙ call-number (Point weights) found enough-found in
+      let answer = found-same kind degree second lent long right weights ∙ ap (λ n. accepted n (Point weights) .answer) net-is in
+      (is, pointed .places ∙ ap₂ (λ j a. unlessRefused j (putAt 0 (pointValues a) found) found) is answer)

@@ -17,7 +17,7 @@ use Rattle.projection.specs.Projection.{isZero}
 use Rattle.kinds.specs.Kinds.{group}
 use Rattle.kinds.specs.Frames.{vertexCount}
 use Rattle.machine.specs.Refusals.{Test, _else_, firstFailed}
-use Rattle.machine.specs.Calls.{weightList, groupAt, ownAt, verticesAt, shares, unused, weightAt, beforeSize}
+use Rattle.machine.specs.Calls.{weightList, groupAt, ownAt, verticesAt, shares, unused, weightAt, ownTests}
 use Rattle.machine.specs.declared.Weights.{Weights}
 use Rattle.machine.specs.declared.Call.the-variants.{Move, Point}
 use Rattle.nets.specs.Calls.{weightsFit}
@@ -81,7 +81,7 @@ first-group n m vertex high = le-leb (pred vertex) n (omega arith)
 
 module _ (n operation vertex : ℕ) (weights : Weights) where
   abbrev pub JudgedMove : ℕ → Type 0
-  JudgedMove k = (m : ℕ) → k ≡ firstFailed (beforeSize (group n m ∷ []) (Move operation vertex weights))
+  JudgedMove k = (m : ℕ) → k ≡ firstFailed (ownTests (group n m ∷ []) (Move operation vertex weights))
 
   abbrev ws : List ℤ
   ws = weightList weights
@@ -99,7 +99,7 @@ module _ (n operation vertex : ℕ) (weights : Weights) where
   move-last gs = eqb operation 2 || not (isZero (weightAt gs vertex ws))
 
   move-refused : (i : ℕ) → ((m : ℕ) → getD (move-tests (group n m ∷ [])) i true ≡ false) → JudgedMove 8
-  unfolding beforeSize
+  unfolding ownTests
   move-refused i h m = sym (one-fails 8 (move-tests (group n m ∷ [])) (move-last (group n m ∷ []) else 9 ∷ []) i (h m))
 
   pub no-vertex : vertex ≡ 0 → JudgedMove 8
@@ -141,8 +141,8 @@ module _ (n operation vertex : ℕ) (weights : Weights) where
     -- weights that fit
     module _ (fit : weightsFit n ws ≡ true) where
       in-order : (m : ℕ) → (eqb operation 1 || eqb operation 2) ≡ true → all isZero (unused (group n m ∷ []) operation vertex ws) ≡ true
-          → firstFailed (beforeSize (group n m ∷ []) (Move operation vertex weights)) ≡ firstFailed (move-last (group n m ∷ []) else 9 ∷ [])
-      unfolding beforeSize
+          → firstFailed (ownTests (group n m ∷ []) (Move operation vertex weights)) ≡ firstFailed (move-last (group n m ∷ []) else 9 ∷ [])
+      unfolding ownTests
       in-order m operated zeros =
           let least = le-leb 1 vertex low in
           let most : leb vertex (suc n + 0) ≡ true = le-leb vertex (suc n + 0) (omega arith) in
@@ -172,7 +172,7 @@ module _ (n operation vertex : ℕ) (weights : Weights) where
 
 module _ (n : ℕ) (weights : Weights) where
   abbrev pub JudgedPoint : ℕ → Type 0
-  JudgedPoint k = (m : ℕ) → k ≡ firstFailed (beforeSize (group n m ∷ []) (Point weights))
+  JudgedPoint k = (m : ℕ) → k ≡ firstFailed (ownTests (group n m ∷ []) (Point weights))
 
   abbrev pws : List ℤ
   pws = weightList weights
@@ -190,7 +190,7 @@ module _ (n : ℕ) (weights : Weights) where
   point-last m = all (λ us. not (all isZero us)) (shares (group n m ∷ []) pws)
 
   pub point-unfit : weightsFit n pws ≡ false → JudgedPoint 8
-  unfolding beforeSize
+  unfolding ownTests
   point-unfit h m = sym (by (all (within 4096) pws) refl)
     where
       by : (b : Bool) → all (within 4096) pws ≡ b → firstFailed (numbered 8 point-tests ++ (point-last m else 9 ∷ [])) ≡ 8
@@ -199,7 +199,7 @@ module _ (n : ℕ) (weights : Weights) where
 
   -- weights that fit are refused where all of them are 0
   pub point-judged : weightsFit n pws ≡ true → (z : Bool) → all isZero pws ≡ z → JudgedPoint (firstFailed (not z else 9 ∷ []))
-  unfolding beforeSize
+  unfolding ownTests
   point-judged fit z h m =
       let parts = and-parts (all (within 4096) pws) (all isZero (drop (suc n) pws)) fit in
       let small = parts .0 in
@@ -215,8 +215,8 @@ module _ (n : ℕ) (weights : Weights) where
 
 -- a move of a vertex of the first group is judged as if there were no other
 pub first-vertex : (n m : ℕ) (gs : List Group) (operation vertex : ℕ) (weights : Weights) → vertex ≤ suc n
-    → firstFailed (beforeSize (group n m ∷ []) (Move operation vertex weights)) ≡ firstFailed (beforeSize (group n m ∷ gs) (Move operation vertex weights))
-unfolding beforeSize
+    → firstFailed (ownTests (group n m ∷ []) (Move operation vertex weights)) ≡ firstFailed (ownTests (group n m ∷ gs) (Move operation vertex weights))
+unfolding ownTests
 first-vertex n m gs operation vertex weights high =
     λ i.
     firstFailed
@@ -242,8 +242,8 @@ first-vertex n m gs operation vertex weights high =
 
 -- and one of a vertex past them as if there were no first group
 pub later-vertex : (n m : ℕ) (gs : List Group) (operation vertex : ℕ) (weights : Weights) → suc n < vertex
-    → firstFailed (beforeSize gs (Move operation (vertex - suc n) weights)) ≡ firstFailed (beforeSize (group n m ∷ gs) (Move operation vertex weights))
-unfolding beforeSize
+    → firstFailed (ownTests gs (Move operation (vertex - suc n) weights)) ≡ firstFailed (ownTests (group n m ∷ gs) (Move operation vertex weights))
+unfolding ownTests
 later-vertex n m gs operation vertex weights past =
     λ i.
     firstFailed
@@ -279,11 +279,11 @@ later-vertex n m gs operation vertex weights past =
 -- a point of two pairs: its tests with number 8, and the one with number 9
 module _ (weights : Weights) where
   abbrev pub JudgedPairs : ℕ → Type 0
-  JudgedPairs k = (p q : ℕ) → k ≡ firstFailed (beforeSize (group 1 p ∷ group 1 q ∷ []) (Point weights))
+  JudgedPairs k = (p q : ℕ) → k ≡ firstFailed (ownTests (group 1 p ∷ group 1 q ∷ []) (Point weights))
 
   -- by the results of the code's tests
   pub pairs-judged : {a b c d e f : Bool} → within 4096 (weights .r) ≡ a → within 4096 (weights .s) ≡ b → within 4096 (weights .t) ≡ c → within 4096 (weights .u) ≡ d
       → all isZero (weights .r ∷ weights .s ∷ []) ≡ e → all isZero (weights .t ∷ weights .u ∷ []) ≡ f
       → JudgedPairs (firstFailed ((a && (b && (c && (d && true)))) else 8 ∷ true else 8 ∷ (not e && (not f && true)) else 9 ∷ []))
-  unfolding beforeSize
+  unfolding ownTests
   pairs-judged a b c d e f p q = sym (λ i. firstFailed ((a i && (b i && (c i && (d i && true)))) else 8 ∷ true else 8 ∷ (not (e i) && (not (f i) && true)) else 9 ∷ []))

@@ -1,22 +1,21 @@
 -- A move in a group after the first is the same move on each part: the part of the numbers that one entry of the first group has is a net over the groups after it. The parts stand in
 -- the order of the first group's entries.
-use Prim.Native.Nat.{ℕ, zero, suc, pred, _+_, _*_, _-_, _≤_, _<_, zero-le, suc-le-suc}
-use native.Mathlib.Nat.{not-suc-le-zero, le-of-suc-le-suc}
+use Prim.Native.Nat.{ℕ, suc, pred, _+_, _*_, _-_, _<_}
 use native.Mathlib.Omega.{arith}
 use mathlib.Core.Path.{_≡_, refl, sym, ap, ap₂, _∙_, subst}
 use mathlib.Core.Bool.{Bool, true, false, cond}
-use mathlib.Core.List.{List, [], _∷_, _++_, map, List·Memᴰ, List·Memᴰ·head, List·Memᴰ·tail}
-use lib.Dec.{leb, eqb}
+use mathlib.Core.List.{List, [], _∷_, _++_, map}
+use lib.Dec.{eqb}
 use borrow.Author.Tests.{lt-leb, eq-eqb}
 use lib.IntN.{ℤ, pos, negℤ}
 use lib.ListN.{length, getD, drop, length-map}
 use lib.Seq.{getD-take, getD-drop, ext-getD}
 use Rattle.integers.specs.Sum.{upto}
 use Rattle.integers.specs.Test.{all}
-use Rattle.integers.proofs.Sums.{upto-below, length-upto}
+use Rattle.integers.proofs.Sums.{upto-below, length-upto, getD-map, upto-at}
 use Rattle.integers.proofs.All.{clash, all-map, all-cong}
 use Rattle.polar.specs.Order.{joined, counts}
-use Rattle.polar.specs.Groups.{Group, countsOver}
+use Rattle.polar.specs.Groups.{Group}
 use Rattle.polar.proofs.Order.{all-joined}
 use Rattle.projection.specs.Projection.{inRange}
 use Rattle.entries.specs.Entries.{placeOf, odd, fixed, numberCount, placeOver, entryOver, listedOver, fixedOver, noneOfQ, asQ, flippedOver}
@@ -25,7 +24,7 @@ use Rattle.entries.proofs.Places.{joined-map, counts-at, place-rank, rank-at}
 use Rattle.entries.proofs.Groups.{Counted, Named, named-as}
 use Rattle.entries.proofs.ListedOver.{place-over, listed-over-cong}
 use Rattle.kinds.specs.Kinds.{group}
-use Rattle.machine.specs.Calls.{weightList, groupAt, ownAt, weightsFor}
+use Rattle.machine.specs.Calls.{weightList, groupAt, ownAt}
 use Rattle.machine.specs.Sizes.{namedBy, namedByReplace, allNamed}
 use Rattle.machine.proofs.Over.{by-replace}
 use Rattle.machine.specs.declared.Weights.{Weights}
@@ -36,16 +35,6 @@ use Rattle.nets.proofs.GroupPoint.{fixed-over-cong}
 use Rattle.nets.proofs.FirstMoves.{polarBy, sizeBy, movedBy}
 
 -- ---- the entries of one group by their places
-
-map-at : {A B : Type 0} (a : A) (b : B) (f : A → B) (xs : List A) (p : ℕ) → p < length xs → getD (map f xs) p b ≡ f (getD xs p a)
-map-at a b f [] p h = absurd (not-suc-le-zero h)
-map-at a b f (x ∷ xs) zero h = refl
-map-at a b f (x ∷ xs) (suc p) h = map-at a b f xs p (le-of-suc-le-suc h)
-
-upto-at : (n p : ℕ) → p < n → getD (upto n) p 0 ≡ p
-upto-at zero p h = absurd (not-suc-le-zero h)
-upto-at (suc n) zero h = refl
-upto-at (suc n) (suc p) h = map-at 0 0 suc (upto n) p (subst (λ k. p < k) (sym (length-upto n)) (le-of-suc-le-suc h)) ∙ ap suc (upto-at n p (le-of-suc-le-suc h))
 
 -- the places of the entries, in their order, are the numbers from 0 on
 places-are : (n m : ℕ) → map (λ e. placeOf e (counts n m)) (counts n m) ≡ upto (length (counts n m))
@@ -62,7 +51,7 @@ places-are n m =
     at : (p : ℕ) → p < length es → getD (map place es) p 0 ≡ getD (upto (length es)) p 0
     at p h =
         let c = counts-at n m p h in
-        map-at [] 0 place es p h ∙ place-rank n m (getD es p []) (c .0) (c .1) ∙ rank-at n m p h ∙ sym (upto-at (length es) p h)
+        getD-map place es p [] 0 h ∙ place-rank n m (getD es p []) (c .0) (c .1) ∙ rank-at n m p h ∙ sym (upto-at (length es) p h)
 
 pub joined-places : {A : Type 0} (n m : ℕ) (f : ℕ → List A) → joined (λ e. f (placeOf e (counts n m))) (counts n m) ≡ joined f (upto (length (counts n m)))
 joined-places n m f = sym (joined-map f (λ e. placeOf e (counts n m)) (counts n m)) ∙ ap (joined f) (places-are n m)

@@ -4,7 +4,7 @@ use native.Mathlib.Nat.{not-suc-le-zero, le-refl, mul-le-mul-left, mul-le-mul-ri
 use native.Mathlib.Omega.{arith}
 use mathlib.Core.Path.{_≡_, refl, sym, ap, ap₂, _∙_, subst}
 use mathlib.Core.Bool.{Bool, true, false}
-use mathlib.Core.List.{List, [], _∷_, _++_, map, List·Memᴰ}
+use mathlib.Core.List.{List, [], _∷_, _++_, map}
 use lib.IntN.{ℤ, pos, natAbs, _*ℤ_}
 use lib.ListN.{length, getD, set, take, drop, replicate, length-set, length-append, length-drop}
 use lib.Seq.{take-at, getD-append-add, getD-drop}
@@ -12,7 +12,7 @@ use borrow.Author.Tests.{leb-true}
 use Rattle.integers.specs.Sum.{upto}
 use Rattle.integers.specs.Test.{all}
 use Rattle.integers.proofs.Sums.{sum-upto-cong, upto-snoc, upto-below, below-upto}
-use Rattle.integers.proofs.All.{one-fails, clash, all-at, all-cong, all-map, all-append, all-first, and-true}
+use Rattle.integers.proofs.All.{one-fails, all-cong, all-map, all-append, all-first, and-true}
 use Rattle.polar.specs.Order.{total, counts}
 use Rattle.polar.proofs.Order.{counts-total, all-joined}
 use Rattle.entries.specs.Entries.{fixed, raise}

@@ -6,10 +6,12 @@ pub mod LaterMoves
 pub mod Framed
 pub mod Bytes
 pub mod Judging
+pub mod Vertices
 pub mod Steps
 pub mod Made
 pub mod PointMade
 pub mod InPlaces
+pub mod Moves
 pub mod Lists
 pub mod Row
 pub mod Ranks

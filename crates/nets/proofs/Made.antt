@@ -27,9 +27,9 @@ use Rattle.kinds.specs.Kinds.{group, groupsOf, dimensionOf, laterGroups, laterD
 use Rattle.kinds.specs.Frames.{vertexCount}
 use Rattle.machine.specs.Refusals.{_else_, firstFailed}
 use Rattle.machine.proofs.Refusals.{testAt, row-passes}
-use Rattle.machine.specs.Calls.{weightList, beforeSize}
+use Rattle.machine.specs.Calls.{weightList, ownTests}
 use Rattle.machine.specs.Sizes.{namedBy, allNamed}
-use Rattle.machine.specs.Nets.{netGroups, netPolar, handedTests, netTests, withEntries, accepted}
+use Rattle.machine.specs.Nets.{netGroups, netPolar, handedTests, entriesAfter, accepted}
 use Rattle.machine.specs.Lent.{putAt, unlessRefused}
 use Rattle.machine.specs.declared.Weights.{Weights}
 use Rattle.machine.specs.declared.Call.{Call}
@@ -38,13 +38,13 @@ use Rattle.nets.specs.Rows.{weightSum, Sized}
 use Rattle.nets.specs.Levels.{allNamedAt, replacedList, Descends, Replaces}
 use Rattle.nets.specs.Flips.{flippedList, InRange, Flips}
 use Rattle.nets.specs.Parts.{partAt, partsOf, inParts, Parts}
-use Rattle.nets.specs.Calls.{netFrom, InOrder, Stepped}
+use Rattle.nets.specs.Calls.{netFrom, InOrder, sizeTest, Stepped}
 use Rattle.kinds.proofs.Limits.{limits, groups-of, later-none, later-one, pairs-only}
 use Rattle.kinds.proofs.Counts.{row-size, known-size, size-fits}
 use Rattle.nets.proofs.FirstMoves.{known-sized, sizeBy, movedBy, replace-size, replace-moved, flip-size, flip-moved}
 use Rattle.nets.proofs.LaterMoves.{later-size, later-moved}
 use Rattle.nets.proofs.Parts.{part-long, drop-take-part, joined-upto}
-use Rattle.nets.proofs.Steps.{handed-passed, arguments-passed, by-size}
+use Rattle.nets.proofs.Steps.{handed-passed, arguments-passed}
 
 -- ---- weights within their limit
 
@@ -116,16 +116,16 @@ module _ {kind degree second : ℕ} {places : List ℤ} {call : Call} (ordered :
       leb-true (natAbs (getD places i (pos 0))) 281474976710656
       (all-first inRange (size w n degree) places net-ranged i below (let room = net-long in omega arith))
 
-  pub row-in : (i : ℕ) → testAt (beforeSize (groupsOf kind degree second) call) i ≡ true
-  row-in = row-passes (beforeSize (groupsOf kind degree second) call) (arguments-passed (groupsOf kind degree second) call (ordered .call-passes))
+  pub row-in : (i : ℕ) → testAt (ownTests (groupsOf kind degree second) call) i ≡ true
+  row-in = row-passes (ownTests (groupsOf kind degree second) call) (arguments-passed (groupsOf kind degree second) call (ordered .call-passes))
 
   -- the size rule decides
   size-is : allNamed (namedBy (netGroups (netFrom kind degree second places)) call) (netPolar (netFrom kind degree second places) call) ≡ sizeBy over call used
   unfolding netPolar
   size-is = ap₂ (λ g xs. sizeBy g call xs) groups-are entries-used
 
-  pub number-by : (b : Bool) → sizeBy over call used ≡ b → firstFailed (netTests (netFrom kind degree second places) call) ≡ firstFailed (b else 10 ∷ [])
-  number-by b h = by-size (netFrom kind degree second places) call (ordered .net-passes) (ordered .call-passes) ∙ ap (λ t. firstFailed (t else 10 ∷ [])) (size-is ∙ h)
+  pub number-by : (b : Bool) → sizeBy over call used ≡ b → firstFailed (sizeTest (netFrom kind degree second places) call) ≡ firstFailed (b else 10 ∷ [])
+  number-by b h = ap (λ t. firstFailed (t else 10 ∷ [])) (size-is ∙ h)
 
   -- ---- the second group's parts of the entries
 
@@ -181,17 +181,20 @@ module _ {kind degree second : ℕ} {places : List ℤ} {call : Call} (ordered :
 
 module _ {kind degree second : ℕ} {places : List ℤ} {operation vertex : ℕ} {weights : Weights} (ordered : InOrder kind degree second places (Move operation vertex weights)) where
   pub move-light : weightSum weights ≤ 12288
-  unfolding beforeSize
+  unfolding ownTests
   move-light = light weights (row-in ordered 2) .0
 
   vertex-in : (1 ≤ vertex) × (vertex ≤ vertexCount (over ordered))
-  unfolding beforeSize
+  unfolding ownTests
   vertex-in =
       let both = and-parts (leb 1 vertex) (leb vertex (vertexCount (groupsOf kind degree second))) (row-in ordered 1) in
       (leb-true 1 vertex (both .0), subst (λ gs. vertex ≤ vertexCount gs) (groups-are ordered) (leb-true vertex (vertexCount (groupsOf kind degree second)) (both .1)))
 
   pub move-low : 1 ≤ vertex
   move-low = vertex-in .0
+
+  pub move-high : pred vertex < vertexCount (groupsOf kind degree second)
+  move-high = let both = vertex-in in subst (λ gs. pred vertex < vertexCount gs) (sym (groups-are ordered)) (let low = both .0 in let high = both .1 in omega arith)
 
   before-one : pred vertex ≡ vertex - 1
   before-one = let low = move-low in omega arith
@@ -200,7 +203,7 @@ module _ {kind degree second : ℕ} {places : List ℤ} {operation vertex : ℕ}
   left = accepted (netFrom kind degree second places) (Move operation vertex weights) .left .entries
 
   move-left : left ≡ movedBy (over ordered) operation vertex weights (used ordered)
-  unfolding accepted withEntries netPolar
+  unfolding accepted entriesAfter netPolar
   move-left = ap₂ (λ g xs. movedBy g operation vertex weights xs) (groups-are ordered) (entries-used ordered)
 
   left-long : length left ≡ size (w ordered) (n ordered) degree

@@ -1,14 +1,14 @@
 -- Lists in parts of l numbers: a loop that works on one part after the other leaves each part worked on and the rest as it was, since the parts before and after one do not change.
 use Prim.Native.Nat.{ℕ, zero, suc, _+_, _*_, _-_, _≤_, _<_, zero-le, suc-le-suc}
-use native.Mathlib.Nat.{mul-zero, mul-suc, mul-le-mul-left, le-add-right, le-trans, le-of-eq, not-suc-le-zero, le-of-suc-le-suc, le-refl}
+use native.Mathlib.Nat.{mul-zero, mul-suc, mul-le-mul-left, le-add-right, le-trans, le-of-eq, le-refl}
 use native.Mathlib.Numerals.{add-one}
 use native.Mathlib.Omega.{arith}
 use mathlib.Core.Path.{_≡_, refl, sym, ap, ap₂, _∙_, subst}
-use mathlib.Core.Bool.{Bool, true, false, _&&_}
-use mathlib.Core.List.{List, [], _∷_, _++_, map, append-assoc}
+use mathlib.Core.Bool.{Bool, true, _&&_}
+use mathlib.Core.List.{List, [], _∷_, _++_, append-assoc}
 use lib.IntN.{ℤ, pos, natAbs}
 use lib.ListN.{length, getD, take, drop, take-append-drop, length-append, length-drop}
-use lib.Seq.{take-add, take-take, take-at, drop-at, drop-drop, length-take-le, ext-getD, getD-take, getD-drop}
+use lib.Seq.{take-add, take-take, take-at, drop-at, drop-drop, length-take-le, getD-take, getD-drop}
 use Rattle.integers.specs.Sum.{upto}
 use Rattle.integers.specs.Test.{all}
 use Rattle.integers.proofs.Sums.{upto-snoc}

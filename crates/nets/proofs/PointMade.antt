@@ -10,37 +10,35 @@ use mathlib.Core.List.{List, [], _∷_}
 use lib.Dec.{lit≤}
 use lib.IntN.{ℤ, pos, natAbs}
 use lib.ListN.{length, getD, take, drop, replicate}
-use lib.Seq.{ext-getD, getD-take, length-take-le}
 use Rattle.integers.specs.Sum.{upto}
 use Rattle.integers.specs.Test.{all}
 use Rattle.integers.proofs.All.{and-one, all-at}
 use Rattle.integers.proofs.Sums.{below-upto}
-use Rattle.polar.specs.Order.{total, counts}
+use Rattle.polar.specs.Order.{counts}
 use Rattle.polar.specs.Groups.{Group, countsOver}
 use Rattle.projection.specs.Projection.{inRange}
-use Rattle.entries.specs.Entries.{numberCount, entryOver, fixedOver, onlyQ}
+use Rattle.entries.specs.Entries.{entryOver, fixedOver, onlyQ}
 use Rattle.entries.specs.Rows.{size}
 use Rattle.entries.proofs.Places.{length-counts}
 use Rattle.entries.proofs.Listed.{first-digit}
 use Rattle.entries.proofs.Groups.{total-zeros, length-zeros}
-use Rattle.kinds.specs.Kinds.{group, dimensionOf, laterGroups, laterDimension}
+use Rattle.kinds.specs.Kinds.{group, laterGroups, laterDimension}
 use Rattle.kinds.proofs.Limits.{later-none, later-one, pairs-only}
-use Rattle.machine.specs.Refusals.{_else_, firstFailed}
-use Rattle.machine.specs.Calls.{weightList, shares, beforeSize}
+use Rattle.machine.specs.Calls.{weightList, shares, ownTests}
 use Rattle.machine.specs.Sizes.{namedBy, namedByPoint, allNamed}
 use Rattle.machine.specs.Steps.{foundAt, pointValues}
-use Rattle.machine.specs.Nets.{netPolar, netTests, accepted}
+use Rattle.machine.specs.Nets.{netPolar, accepted}
 use Rattle.machine.specs.Lent.{putAt}
 use Rattle.machine.proofs.Lent.{front-put}
 use Rattle.machine.specs.declared.Weights.{Weights}
 use Rattle.machine.specs.declared.Call.the-variants.{Point}
-use Rattle.nets.specs.Rows.{Sized, written, weightSum, level}
-use Rattle.nets.specs.Levels.{valuesOf, namedAt, allNamedAt, Descends, Descended}
+use Rattle.nets.specs.Rows.{written, weightSum, level}
+use Rattle.nets.specs.Levels.{valuesOf, namedAt, allNamedAt, Descends}
 use Rattle.nets.specs.Calls.{netFrom, InOrder, laterWeights, LaterDescends, LaterDescended, Pointed}
 use Rattle.nets.proofs.GroupPoint.{fixed-cong, named-used, values-left, named-point}
 use Rattle.nets.proofs.LevelValues.{level-named, level-last, length-level}
 use Rattle.nets.proofs.FirstMoves.{counts-some, polarBy, sizeBy, point-size, point-value}
-use Rattle.nets.proofs.Made.{light, n, w, over, used, right, groups-are, entries-used, net-sized, net-long, net-ranged, row-in, number-by, part-size, later-sized}
+use Rattle.nets.proofs.Made.{light, n, w, over, used, groups-are, entries-used, net-sized, net-ranged, row-in, number-by, part-size, later-sized}
 
 -- ---- copies
 
@@ -85,7 +83,7 @@ module _ {kind degree second : ℕ} {places : List ℤ} {weights : Weights} (ord
   others = shares later (drop (suc d) ws)
 
   both-light : (weightSum weights ≤ 12288) × (natAbs (weights .t) + natAbs (weights .u) ≤ 12288)
-  unfolding beforeSize
+  unfolding ownTests
   both-light = light weights (row-in ordered 0)
 
   -- the net's entries are copied into a room

@@ -19,7 +19,7 @@ pub element : (v : ℤ) → mag v < 2 ^ 63 → seen v ≡ v
 element v h = back-fits {z = v} (sfits-of h)
 
 -- three products whose weights are W in all
-three-small : (a x b y c z : ℤ) (B : ℕ) → natAbs x ≤ B → natAbs y ≤ B → natAbs z ≤ B → (natAbs a + natAbs b + natAbs c) * B < 2 ^ 63
+pub three-small : (a x b y c z : ℤ) (B : ℕ) → natAbs x ≤ B → natAbs y ≤ B → natAbs z ≤ B → (natAbs a + natAbs b + natAbs c) * B < 2 ^ 63
     → natAbs a * natAbs x + natAbs b * natAbs y + natAbs c * natAbs z < 2 ^ 63
 three-small a x b y c z B hx hy hz h =
     omega (arith, mul-le-mul-left (natAbs a) hx, mul-le-mul-left (natAbs b) hy, mul-le-mul-left (natAbs c) hz)

@@ -1,31 +1,32 @@
--- A call put together from its parts: the tests of a handed net, those of the call's arguments, that of size, and then what the accepted call does. The private functions work
--- on the part of the places that holds the entries.
-use Prim.Native.Nat.{ℕ, zero, suc, _-_, _≤_}
+-- The number of a call from its parts: the tests of a handed net, those of the call's arguments, that of the frame's numbers and of q, and that of size.
+use Prim.Native.Nat.{ℕ, _-_, _≤_}
 use native.Mathlib.Nat.{sub-zero}
 use native.Mathlib.Omega.{arith}
 use mathlib.Core.Path.{_≡_, refl, sym, ap, _∙_}
-use mathlib.Core.Bool.{Bool, true, false}
-use mathlib.Core.List.{List, [], _∷_}
+use mathlib.Core.Bool.{Bool, true, false, _&&_}
+use mathlib.Core.List.{List, [], _∷_, _++_, append-assoc}
 use lib.IntN.{ℤ}
 use lib.ListN.{length, take}
 use lib.Seq.{length-take-le}
 use Rattle.integers.specs.Test.{all}
+use Rattle.integers.proofs.All.{all-append}
 use Rattle.polar.specs.Groups.{Group, countsOver}
 use Rattle.projection.specs.Projection.{inRange}
 use Rattle.entries.specs.Entries.{numberCount}
 use Rattle.kinds.specs.Kinds.{groupsOf, known}
+use Rattle.kinds.specs.Frames.{numbersOf}
 use Rattle.kinds.proofs.Counts.{entries-fit}
 use Rattle.machine.specs.Refusals.{Test, _else_, firstFailed, allPass, numbered}
 use Rattle.machine.proofs.Refusals.{none-failed, passes, fails, passed-first, refused-first}
-use Rattle.machine.specs.Calls.{beforeSize}
-use Rattle.machine.specs.Sizes.{namedBy, allNamed, callTests}
-use Rattle.machine.specs.Steps.{pointValues}
-use Rattle.machine.specs.Nets.{Net, netGroups, netPolar, handedTests, netTests, accepted}
-use Rattle.machine.specs.Lent.{putAt, unlessRefused}
+use Rattle.machine.specs.Calls.{ownTests}
+use Rattle.machine.specs.Frames.{newNumbers}
+use Rattle.machine.specs.Sizes.{beforeSize, callTests}
+use Rattle.machine.specs.Nets.{Net, netGroups, handedTests, judgedNumbers, netTests}
+use Rattle.machine.specs.declared.Weights.{Weights}
 use Rattle.machine.specs.declared.Call.{Call}
 use Rattle.machine.specs.declared.Call.the-variants.{Move, Point}
 use Rattle.nets.specs.Rows.{Whole}
-use Rattle.nets.specs.Calls.{netFrom, Stepped, Pointed}
+use Rattle.nets.specs.Calls.{netFrom, sizeTest}
 
 -- ---- the tests of a handed net
 
@@ -60,69 +61,58 @@ handed-numbered : (net : Net) → numbered (handedTests net) ≡ true
 unfolding handedTests
 handed-numbered net = refl
 
-arguments-numbered : (gs : List Group) (c : Call) → numbered (beforeSize gs c) ≡ true
-unfolding beforeSize
+arguments-numbered : (gs : List Group) (c : Call) → numbered (ownTests gs c) ≡ true
+unfolding ownTests
 arguments-numbered gs (Move operation vertex weights) = refl
 arguments-numbered gs (Point weights) = refl
 
 pub handed-passed : (net : Net) → firstFailed (handedTests net) ≡ 0 → allPass (handedTests net) ≡ true
 handed-passed net h = none-failed (handedTests net) (handed-numbered net) .0 h
 
-pub arguments-passed : (gs : List Group) (c : Call) → firstFailed (beforeSize gs c) ≡ 0 → allPass (beforeSize gs c) ≡ true
-arguments-passed gs c h = none-failed (beforeSize gs c) (arguments-numbered gs c) .0 h
+pub arguments-passed : (gs : List Group) (c : Call) → firstFailed (ownTests gs c) ≡ 0 → allPass (ownTests gs c) ≡ true
+arguments-passed gs c h = none-failed (ownTests gs c) (arguments-numbered gs c) .0 h
 
 -- ---- the number of a call
 
 module _ (net : Net) (c : Call) where
-  abbrev named : Bool
-  named = allNamed (namedBy (netGroups net) c) (netPolar net c)
+  -- what is left of the table past the tests of the handed net and of the arguments
+  abbrev last : List Test
+  last = all inRange (judgedNumbers net c) else 12 ∷ sizeTest net c
 
-  by-handed : (firstFailed (handedTests net) ≡ 0 → ⊥) → firstFailed (netTests net c) ≡ firstFailed (handedTests net)
-  unfolding netTests
-  by-handed h = refused-first (handedTests net) (callTests (netGroups net) c (netPolar net c)) h
+  tests-are : netTests net c ≡ handedTests net ++ (ownTests (netGroups net) c ++ last)
+  unfolding netTests callTests beforeSize
+  tests-are = ap (λ l. handedTests net ++ l) (append-assoc (ownTests (netGroups net) c) (all inRange (judgedNumbers net c) else 12 ∷ []) (sizeTest net c))
+
+  -- a handed net that is refused
+  pub by-handed : {k : ℕ} → (k ≡ 0 → ⊥) → k ≡ firstFailed (handedTests net) → k ≡ firstFailed (netTests net c)
+  by-handed refused is = is ∙ sym (ap firstFailed tests-are ∙ refused-first (handedTests net) (ownTests (netGroups net) c ++ last) (λ z. refused (is ∙ z)))
 
   module _ (passed : firstFailed (handedTests net) ≡ 0) where
-    by-call : firstFailed (netTests net c) ≡ firstFailed (callTests (netGroups net) c (netPolar net c))
-    unfolding netTests
-    by-call = passed-first (handedTests net) (callTests (netGroups net) c (netPolar net c)) (handed-passed net passed)
+    by-call : firstFailed (netTests net c) ≡ firstFailed (ownTests (netGroups net) c ++ last)
+    by-call = ap firstFailed tests-are ∙ passed-first (handedTests net) (ownTests (netGroups net) c ++ last) (handed-passed net passed)
 
-    by-arguments : (firstFailed (beforeSize (netGroups net) c) ≡ 0 → ⊥) → firstFailed (netTests net c) ≡ firstFailed (beforeSize (netGroups net) c)
-    unfolding callTests
-    by-arguments h = by-call ∙ refused-first (beforeSize (netGroups net) c) (named else 10 ∷ []) h
+    -- a call that is refused for its arguments
+    pub by-arguments : {k : ℕ} → (k ≡ 0 → ⊥) → k ≡ firstFailed (ownTests (netGroups net) c) → k ≡ firstFailed (netTests net c)
+    by-arguments refused is = is ∙ sym (by-call ∙ refused-first (ownTests (netGroups net) c) last (λ z. refused (is ∙ z)))
 
-    pub by-size : firstFailed (beforeSize (netGroups net) c) ≡ 0 → firstFailed (netTests net c) ≡ firstFailed (named else 10 ∷ [])
-    unfolding callTests
-    by-size h = by-call ∙ passed-first (beforeSize (netGroups net) c) (named else 10 ∷ []) (arguments-passed (netGroups net) c h)
+    -- and one that is not: the frame's numbers, those of q, and the size decide
+    module _ (own : firstFailed (ownTests (netGroups net) c) ≡ 0) where
+      by-last : firstFailed (netTests net c) ≡ firstFailed last
+      by-last = by-call ∙ passed-first (ownTests (netGroups net) c) last (arguments-passed (netGroups net) c own)
 
--- ---- refused calls leave the places
+      near-by : (b : Bool) → all inRange (numbersOf (net .frames)) ≡ b → all inRange (judgedNumbers net c) ≡ (b && all inRange (newNumbers (netGroups net) (net .frames) c))
+      unfolding judgedNumbers
+      near-by b h = all-append inRange (numbersOf (net .frames)) (newNumbers (netGroups net) (net .frames) c) ∙ ap (λ t. t && all inRange (newNumbers (netGroups net) (net .frames) c)) h
 
-kept : {A : Type 0} (k : ℕ) (written stood : A) → (k ≡ 0 → ⊥) → stood ≡ unlessRefused k written stood
-kept zero written stood h = absurd (h refl)
-kept (suc k) written stood h = refl
+      pub by-frame : all inRange (numbersOf (net .frames)) ≡ false → 12 ≡ firstFailed (netTests net c)
+      by-frame h = sym (by-last ∙ fails 12 (sizeTest net c) (near-by false h))
 
-module _ (net : Net) (c : Call) (k : ℕ) (xs : List ℤ) (refused : k ≡ 0 → ⊥) where
-  stepped-kept : k ≡ firstFailed (netTests net c) → Stepped net c k xs xs
-  stepped-kept is = record { number-is = is; places = kept k (putAt 0 (accepted net c .left .entries) xs) xs refused }
+      pub by-new : all inRange (numbersOf (net .frames)) ≡ true
+          → firstFailed (all inRange (newNumbers (netGroups net) (net .frames) c) else 12 ∷ sizeTest net c) ≡ firstFailed (netTests net c)
+      by-new h = sym (by-last ∙ ap (λ t. firstFailed (t else 12 ∷ sizeTest net c)) (near-by true h))
 
-  pointed-kept : k ≡ firstFailed (netTests net c) → Pointed net c k xs xs
-  pointed-kept is = record { number-is = is; places = kept k (putAt 0 (pointValues (accepted net c .answer)) xs) xs refused }
-
-  -- for the handed net
-  handed-number : k ≡ firstFailed (handedTests net) → k ≡ firstFailed (netTests net c)
-  handed-number is = is ∙ sym (by-handed net c (λ z. refused (is ∙ z)))
-
-  pub stepped-handed : k ≡ firstFailed (handedTests net) → Stepped net c k xs xs
-  stepped-handed is = stepped-kept (handed-number is)
-
-  pub pointed-handed : k ≡ firstFailed (handedTests net) → Pointed net c k xs xs
-  pointed-handed is = pointed-kept (handed-number is)
-
-  -- for the call's own arguments
-  arguments-number : firstFailed (handedTests net) ≡ 0 → k ≡ firstFailed (beforeSize (netGroups net) c) → k ≡ firstFailed (netTests net c)
-  arguments-number passed is = is ∙ sym (by-arguments net c passed (λ z. refused (is ∙ z)))
-
-  pub stepped-arguments : firstFailed (handedTests net) ≡ 0 → k ≡ firstFailed (beforeSize (netGroups net) c) → Stepped net c k xs xs
-  stepped-arguments passed is = stepped-kept (arguments-number passed is)
-
-  pub pointed-arguments : firstFailed (handedTests net) ≡ 0 → k ≡ firstFailed (beforeSize (netGroups net) c) → Pointed net c k xs xs
-  pointed-arguments passed is = pointed-kept (arguments-number passed is)
+-- a point has no numbers of its own in the frame
+pub by-point : (net : Net) (weights : Weights) → firstFailed (handedTests net) ≡ 0 → firstFailed (ownTests (netGroups net) (Point weights)) ≡ 0 → all inRange (numbersOf (net .frames)) ≡ true
+    → firstFailed (sizeTest net (Point weights)) ≡ firstFailed (netTests net (Point weights))
+unfolding newNumbers
+by-point net weights passed own near = by-new net (Point weights) passed own near

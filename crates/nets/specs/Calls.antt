@@ -1,4 +1,4 @@
--- What the private functions that make calls and first nets promise. They work on the part of the lent places that holds the entries.
+-- What the private functions that make calls and first nets promise. Most of them work on the part of the lent places that holds the entries.
 use Prim.Native.Nat.{ℕ, suc, _+_, _≤_}
 use mathlib.Core.Path.{_≡_}
 use mathlib.Core.Bool.{Bool, true, _&&_}
@@ -10,10 +10,13 @@ use Rattle.projection.specs.Projection.{isZero, inRange}
 use Rattle.entries.specs.Entries.{numberCount}
 use Rattle.entries.specs.Rows.{size}
 use Rattle.kinds.specs.Kinds.{groupsOf, dimensionOf, laterGroups, laterDimension}
+use Rattle.kinds.specs.Frames.{frameCount, framesOf, numbersOf}
 use Rattle.machine.specs.Refusals.{Test, _else_, firstFailed}
-use Rattle.machine.specs.Calls.{weightList, beforeSize}
+use Rattle.machine.specs.Calls.{weightList, ownTests}
+use Rattle.machine.specs.Frames.{newNumbers}
+use Rattle.machine.specs.Sizes.{namedBy, allNamed}
 use Rattle.machine.specs.Steps.{pointValues}
-use Rattle.machine.specs.Nets.{Net, netInRange, handedTests, netTests, accepted}
+use Rattle.machine.specs.Nets.{Net, netGroups, netPolar, netInRange, handedTests, accepted}
 use Rattle.machine.specs.Comparison.{Polynomials}
 use Rattle.machine.specs.First.{firstTests, firstNet}
 use Rattle.machine.specs.Lent.{putAt, put, unlessRefused, polynomialsFrom}
@@ -22,29 +25,28 @@ use Rattle.machine.specs.declared.Call.{Call}
 use Rattle.nets.specs.Rows.{Sized}
 use Rattle.nets.specs.Levels.{Descends, Descended}
 
--- the net of a kind and degrees whose entries are the first numbers of some places
+-- the net of a kind and degrees whose entries are the first numbers of some places; the functions on these places do not see its frame
 abbrev pub netFrom : ℕ → ℕ → ℕ → List ℤ → Net
 netFrom kind degree second places =
-    record { kind = kind; degree = degree; second = second; entries = take (numberCount (groupsOf kind degree second)) places }
-
--- the places of the entries, and a net that is not refused before a call is looked at
-pub record Accepted (kind degree second : ℕ) (places : List ℤ) : Type 0 where
-  pub long : length places ≡ 180
-  pub net-passes : firstFailed (handedTests (netFrom kind degree second places)) ≡ 0
+    record { kind = kind; degree = degree; second = second; frames = []; entries = take (numberCount (groupsOf kind degree second)) places }
 
 -- what the making of a call asks for: the places of the entries, a net that is not refused, and a call that is not refused for its arguments
 pub record InOrder (kind degree second : ℕ) (places : List ℤ) (call : Call) : Type 0 where
   pub long : length places ≡ 180
   pub net-passes : firstFailed (handedTests (netFrom kind degree second places)) ≡ 0
-  pub call-passes : firstFailed (beforeSize (groupsOf kind degree second) call) ≡ 0
+  pub call-passes : firstFailed (ownTests (groupsOf kind degree second) call) ≡ 0
 
 -- every weight is within its limit, and those past the vertices of the only group are 0: the tests of number 8 that speak of weights
 abbrev pub weightsFit : ℕ → List ℤ → Bool
 weightsFit n ws = all (within 4096) ws && all isZero (drop (suc n) ws)
 
--- a call's number, and the places of the entries after it
+-- the test of a call's size
+abbrev pub sizeTest : Net → Call → List Test
+sizeTest net call = allNamed (namedBy (netGroups net) call) (netPolar net call) else 10 ∷ []
+
+-- the number of a call that only its size may refuse, and the places of the entries after it
 pub record Stepped (net : Net) (call : Call) (number : ℕ) (before after : List ℤ) : Type 0 where
-  pub number-is : number ≡ firstFailed (netTests net call)
+  pub number-is : number ≡ firstFailed (sizeTest net call)
   pub places : after ≡ unlessRefused number (putAt 0 (accepted net call .left .entries) before) before
 
 -- what going down the first group's levels asks for, and what it gives: each row has the numbers of the groups after the first
@@ -69,10 +71,31 @@ pub record LaterDescended (kind second : ℕ) (weights : Weights) (xs : List ℤ
   pub none : laterDimension kind ≡ 0 → (b ≡ true) × (ys ≡ xs)
   pub some : (laterDimension kind ≡ 0 → ⊥) → Descended 4 (laterDimension kind) second (laterWeights weights) xs b ys
 
--- a call's number, and the places lent for the numbers of a point after it
+-- the number of a point that only its size may refuse, and the places lent for its numbers after it
 pub record Pointed (net : Net) (call : Call) (number : ℕ) (before after : List ℤ) : Type 0 where
-  pub number-is : number ≡ firstFailed (netTests net call)
+  pub number-is : number ≡ firstFailed (sizeTest net call)
   pub places : after ≡ unlessRefused number (putAt 0 (pointValues (accepted net call .answer)) before) before
+
+-- ---- moves of a whole net, with its frame
+
+-- the net of a kind and degrees in lent places
+abbrev pub netIn : ℕ → ℕ → ℕ → List ℤ → Net
+netIn kind degree second lent =
+    let gs = groupsOf kind degree second in
+    record { kind = kind; degree = degree; second = second; frames = framesOf gs (drop 3 lent); entries = take (numberCount gs) (drop 12 lent) }
+
+-- what the making of a move asks for: places enough, and a net and arguments that are not refused
+pub record MoveAsked (kind degree second : ℕ) (lent : List ℤ) (call : Call) : Type 0 where
+  pub places : 193 ≤ length lent
+  pub ordered : InOrder kind degree second (take 180 (drop 12 lent)) call
+  pub near : all inRange (take (frameCount (groupsOf kind degree second)) (drop 3 lent)) ≡ true
+
+-- the number of a move that only its q and its size may refuse, and the places after it
+pub record Moved (net : Net) (call : Call) (number : ℕ) (lent after : List ℤ) : Type 0 where
+  pub number-is : number ≡ firstFailed (all inRange (newNumbers (netGroups net) (net .frames) call) else 12 ∷ sizeTest net call)
+  pub places : after ≡ unlessRefused number (putAt 3 (numbersOf (accepted net call .left .frames)) (putAt 12 (accepted net call .left .entries) lent)) lent
+
+-- ---- first nets
 
 -- the tests of polynomials and the numbers of a frame before a net is made: those of a first net but for the last, which is of the net itself
 unfoldable pub beforeFirst : Polynomials → List ℤ → List Test
@@ -91,11 +114,18 @@ pub record Rooms (kind p q : ℕ) (work cur base out : List ℤ) : Type 0 where
   pub base-room : numberCount (groupsOf kind p q) ≤ length base
   pub out-room : numberCount (groupsOf kind p q) ≤ length out
 
--- what storing a net with these entries asks for: they are there, and there are places for them
-pub record Stores (kind p q : ℕ) (lent entries : List ℤ) : Type 0 where
+-- what storing a net with this frame and these entries asks for: they are there, and there are places for them
+pub record Stores (kind p q : ℕ) (lent frame entries : List ℤ) : Type 0 where
   pub places : 193 ≤ length lent
+  pub nine : length frame ≡ 9
   pub fit : numberCount (groupsOf kind p q) ≤ 180
   pub enough : numberCount (groupsOf kind p q) ≤ length entries
+
+-- the net that is stored
+abbrev pub netWith : ℕ → ℕ → ℕ → List ℤ → List ℤ → Net
+netWith kind p q frame entries =
+    let gs = groupsOf kind p q in
+    record { kind = kind; degree = p; second = q; frames = framesOf gs frame; entries = take (numberCount gs) entries }
 
 -- the number that is answered where a net is to be stored, and the places after it: a net that is not in range is not stored
 pub record Stored (net : Net) (in-range : Bool) (lent : List ℤ) (number : ℕ) (after : List ℤ) : Type 0 where

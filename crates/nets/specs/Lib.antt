@@ -4,4 +4,5 @@ pub mod Flips
 pub mod Parts
 pub mod Coordinates
 pub mod FirstNet
+pub mod Frames
 pub mod Calls

@@ -1,5 +1,5 @@
-// Calls on a net: what is refused of them, and what they do. The functions here get the part of the lent
-// places that holds the entries, beside kind and degrees.
+// Calls on a net: what is refused of them for its entries and their arguments, and what they do to its entries. The
+// functions here get the part of the lent places that holds the entries, beside kind and degrees.
 ghost use mathlib.Core.Path.{_≡_};
 ghost use Prim.Native.Nat.{ℕ, _*_, _≤_};
 ghost use mathlib.Core.List.{[], _∷_};
@@ -9,9 +9,9 @@ ghost use Rattle.integers.specs.Test.{all};
 ghost use Rattle.projection.specs.Projection.{isZero};
 ghost use Rattle.entries.specs.Entries.{numberCount};
 ghost use Rattle.entries.specs.Rows.{size};
-ghost use Rattle.kinds.specs.Kinds.{group, groupsOf, dimensionOf, laterDimension};
+ghost use Rattle.kinds.specs.Kinds.{group, groupsOf, dimensionOf};
 ghost use Rattle.machine.specs.Refusals.{_else_, firstFailed};
-ghost use Rattle.machine.specs.Calls.{weightList, beforeSize};
+ghost use Rattle.machine.specs.Calls.{weightList, ownTests};
 ghost use Rattle.machine.specs.Nets.{handedTests};
 ghost use Rattle.nets.specs.Levels.{Descends, Replaces};
 ghost use Rattle.nets.specs.Flips.{flippedList};
@@ -25,7 +25,6 @@ ghost use Rattle.nets.specs.Parts.{
 ghost use Rattle.nets.specs.Calls.{
   netFrom,
   weightsFit,
-  Accepted,
   InOrder,
   Stepped,
   FirstDescends,
@@ -121,7 +120,7 @@ fn all_zero(weights: Weights) -> bool
 // What is refused of a move for its own arguments, on a net of one group of any degree.
 fn judge_move(dimension: usize, operation: u8, vertex: u8, weights: Weights) -> u8
     requires { ⌜ (1 ≤ dimension) × (dimension ≤ 2) ⌝ }
-    ensures { λ k. ⌜ ((m : ℕ) → k ≡ firstFailed (beforeSize (group dimension m ∷ []) (Call.Move operation vertex weights))) ⌝ }
+    ensures { λ k. ⌜ ((m : ℕ) → k ≡ firstFailed (ownTests (group dimension m ∷ []) (Call.Move operation vertex weights))) ⌝ }
 {
     if vertex == 0 {
         return 8;
@@ -150,7 +149,7 @@ fn judge_move(dimension: usize, operation: u8, vertex: u8, weights: Weights) -> 
 // What is refused of a point for its own weights, on a net of one group of any degree.
 fn judge_point(dimension: usize, weights: Weights) -> u8
     requires { ⌜ (1 ≤ dimension) × (dimension ≤ 2) ⌝ }
-    ensures { λ k. ⌜ ((m : ℕ) → k ≡ firstFailed (beforeSize (group dimension m ∷ []) (Call.Point weights))) ⌝ }
+    ensures { λ k. ⌜ ((m : ℕ) → k ≡ firstFailed (ownTests (group dimension m ∷ []) (Call.Point weights))) ⌝ }
 {
     if !weights_fit(weights, dimension) {
         return 8;
@@ -161,16 +160,20 @@ fn judge_point(dimension: usize, weights: Weights) -> u8
     0
 }
 
-// What is refused of a move for its own arguments, on a net of two groups: it is judged in the group of its
-// vertex. Where there is a second group, the first has two vertices.
-fn judge_vertex(kind: u8, operation: u8, vertex: u8, weights: Weights) -> u8
-    requires { ⌜ (laterDimension kind ≡ 0 → ⊥) ⌝ }
-    ensures { λ k. ⌜ ((p q : ℕ) → k ≡ firstFailed (beforeSize (groupsOf kind p q) (Call.Move operation vertex weights))) ⌝ }
+// What is refused of a move for its own arguments: it is judged in the group of its vertex. Where there is a
+// second group, the first has two vertices.
+pub(crate) fn judge_vertex(kind: u8, operation: u8, vertex: u8, weights: Weights) -> u8
+    requires { ⌜ 1 ≤ dimensionOf kind ⌝ }
+    ensures { λ k. ⌜ ((p q : ℕ) → k ≡ firstFailed (ownTests (groupsOf kind p q) (Call.Move operation vertex weights))) ⌝ }
 {
+    let later = later_dimension(kind);
+    if later == 0 {
+        return judge_move(dimension_of(kind), operation, vertex, weights);
+    }
     if vertex <= 2 {
         return judge_move(dimension_of(kind), operation, vertex, weights);
     }
-    judge_move(later_dimension(kind), operation, vertex - 2, weights)
+    judge_move(later, operation, vertex - 2, weights)
 }
 
 // Whether two numbers are both 0.
@@ -185,7 +188,7 @@ fn both_zero(a: i64, b: i64) -> bool
 
 // What is refused of a point for its own weights, on a net of two groups of two vertices.
 fn judge_pairs(weights: Weights) -> u8
-    ensures { λ k. ⌜ ((p q : ℕ) → k ≡ firstFailed (beforeSize (group 1 p ∷ group 1 q ∷ []) (Call.Point weights))) ⌝ }
+    ensures { λ k. ⌜ ((p q : ℕ) → k ≡ firstFailed (ownTests (group 1 p ∷ group 1 q ∷ []) (Call.Point weights))) ⌝ }
 {
     if !is_within(weights.r, WEIGHT) {
         return 8;
@@ -209,9 +212,9 @@ fn judge_pairs(weights: Weights) -> u8
 }
 
 // What is refused of a point for its own weights.
-fn judge_weights(kind: u8, weights: Weights) -> u8
+pub(crate) fn judge_weights(kind: u8, weights: Weights) -> u8
     requires { ⌜ 1 ≤ dimensionOf kind ⌝ }
-    ensures { λ k. ⌜ ((p q : ℕ) → k ≡ firstFailed (beforeSize (groupsOf kind p q) (Call.Point weights))) ⌝ }
+    ensures { λ k. ⌜ ((p q : ℕ) → k ≡ firstFailed (ownTests (groupsOf kind p q) (Call.Point weights))) ⌝ }
 {
     if later_dimension(kind) == 0 {
         return judge_point(dimension_of(kind), weights);
@@ -220,7 +223,7 @@ fn judge_weights(kind: u8, weights: Weights) -> u8
 }
 
 // What is refused of a handed net before the call is looked at.
-fn judge_net(entries: &[i64], kind: u8, degree: u8, second: u8) -> u8
+pub(crate) fn judge_net(entries: &[i64], kind: u8, degree: u8, second: u8) -> u8
     requires { ⌜ length (now entries) ≡ 180 ⌝ }
     ensures { λ k. ⌜ k ≡ firstFailed (handedTests (netFrom kind degree second (now (entries .entry)))) ⌝ }
 {
@@ -473,7 +476,8 @@ fn size_number(in_range: bool) -> u8
 }
 
 // What a replace that is not refused for its own arguments does: the number 10, or 0 and the vertex replaced.
-// Seen from the first group, a net has a row of the later groups' numbers for each entry.
+// Seen from the first group, a net has a row of the later groups' numbers for each entry. A net of one group goes
+// its own way, on which the compiler knows the width of its rows and leaves out all that there is of a second group.
 pub(crate) fn replace_vertex(
     entries: &mut [i64],
     kind: u8,
@@ -489,17 +493,14 @@ pub(crate) fn replace_vertex(
     let n = dimension_of(kind);
     let m = degree as usize;
     let v = vertex as usize - 1;
+    let later = later_dimension(kind);
+    if later == 0 {
+        return size_number(replace_entries(entries, n, v, m, weights));
+    }
     if v <= n {
         return size_number(replace_wide(entries, n, v, m, later_count(kind, second), weights));
     }
-    size_number(replace_later(
-        entries,
-        m + 1,
-        later_dimension(kind),
-        v - 2,
-        second as usize,
-        weights,
-    ))
+    size_number(replace_later(entries, m + 1, later, v - 2, second as usize, weights))
 }
 
 // What a flip that is not refused for its own arguments does.
@@ -518,17 +519,16 @@ pub(crate) fn flip_vertex(
     let n = dimension_of(kind);
     let m = degree as usize;
     let v = vertex as usize - 1;
+    let later = later_dimension(kind);
+    if later == 0 {
+        flip_entries(entries, n, v, m, 4);
+        return;
+    }
     if v <= n {
         flip_entries(entries, n, v, m, later_count(kind, second));
         return;
     }
-    flip_parts(
-        entries,
-        m + 1,
-        later_dimension(kind),
-        v - 2,
-        second as usize,
-    );
+    flip_parts(entries, m + 1, later, v - 2, second as usize);
 }
 
 // What a move that is not refused for its own arguments does: the number 10, or 0 and the move made.
@@ -549,78 +549,6 @@ pub(crate) fn make_move(
     }
     flip_vertex(entries, kind, degree, second, operation, vertex, weights);
     0
-}
-
-// A move on a net of one group that is not refused itself: what is refused of it for its own arguments, or
-// what it does. The rows of such a net have four numbers.
-pub(crate) fn move_one(
-    entries: &mut [i64],
-    kind: u8,
-    degree: u8,
-    second: u8,
-    operation: u8,
-    vertex: u8,
-    weights: Weights,
-) -> u8
-    requires { ⌜ Accepted kind degree second (now entries) × (laterDimension kind ≡ 0) ⌝ }
-    ensures { λ k. ⌜ Stepped (netFrom kind degree second (now (entries .entry))) (Call.Move operation vertex weights) k (now (entries .entry)) (now (entries .exit)) ⌝ }
-{
-    let n = dimension_of(kind);
-    let number = judge_move(n, operation, vertex, weights);
-    if number != 0 {
-        return number;
-    }
-    let m = degree as usize;
-    let v = vertex as usize - 1;
-    if operation == 1 {
-        return size_number(replace_entries(entries, n, v, m, weights));
-    }
-    flip_entries(entries, n, v, m, 4);
-    0
-}
-
-// The same on a net of two groups.
-pub(crate) fn move_two(
-    entries: &mut [i64],
-    kind: u8,
-    degree: u8,
-    second: u8,
-    operation: u8,
-    vertex: u8,
-    weights: Weights,
-) -> u8
-    requires { ⌜ Accepted kind degree second (now entries) × (laterDimension kind ≡ 0 → ⊥) ⌝ }
-    ensures { λ k. ⌜ Stepped (netFrom kind degree second (now (entries .entry))) (Call.Move operation vertex weights) k (now (entries .entry)) (now (entries .exit)) ⌝ }
-{
-    let number = judge_vertex(kind, operation, vertex, weights);
-    if number != 0 {
-        return number;
-    }
-    make_move(entries, kind, degree, second, operation, vertex, weights)
-}
-
-// A move, whatever its numbers are. A net of one group goes its own way, on which the compiler knows the width
-// of its rows and leaves out all that there is of a second group.
-pub(crate) fn judge_and_move(
-    entries: &mut [i64],
-    kind: u8,
-    degree: u8,
-    second: u8,
-    operation: u8,
-    vertex: u8,
-    weights: Weights,
-) -> u8
-    requires { ⌜ length (now entries) ≡ 180 ⌝ }
-    ensures { λ k. ⌜ Stepped (netFrom kind degree second (now (entries .entry))) (Call.Move operation vertex weights) k (now (entries .entry)) (now (entries .exit)) ⌝ }
-{
-    let refusal = judge_net(entries, kind, degree, second);
-    if refusal != 0 {
-        return refusal;
-    }
-    if later_dimension(kind) == 0 {
-        return move_one(entries, kind, degree, second, operation, vertex, weights);
-    }
-    move_two(entries, kind, degree, second, operation, vertex, weights)
 }
 
 // The weights of the second of two groups of two vertices.
@@ -712,27 +640,4 @@ pub(crate) fn make_point(
     }
     let mut cur = [0; PLACES];
     point_in(&mut cur, entries, kind, degree, second, weights, found)
-}
-
-// A point, whatever its weights are.
-pub(crate) fn judge_and_point(
-    entries: &[i64],
-    kind: u8,
-    degree: u8,
-    second: u8,
-    weights: Weights,
-    found: &mut [i64],
-) -> u8
-    requires { ⌜ (length (now entries) ≡ 180) × (4 ≤ length (now found)) ⌝ }
-    ensures { λ k. ⌜ Pointed (netFrom kind degree second (now (entries .entry))) (Call.Point weights) k (now (found .entry)) (now (found .exit)) ⌝ }
-{
-    let refusal = judge_net(entries, kind, degree, second);
-    if refusal != 0 {
-        return refusal;
-    }
-    let number = judge_weights(kind, weights);
-    if number != 0 {
-        return number;
-    }
-    make_point(entries, kind, degree, second, weights, found)
 }

@@ -5,6 +5,7 @@ mod calls;
 mod coordinates;
 mod first;
 mod flips;
+mod frames;
 mod levels;
 mod rows;
 
@@ -24,19 +25,32 @@ ghost use Rattle.machine.specs.Lent.{
   callFound,
 };
 ghost use Rattle.nets.specs.Calls.{
-  netFrom,
+  netIn,
+  MoveAsked,
+  Moved,
+  netWith,
   FirstAsked,
   Stores,
   Stored,
   FirstStored,
 };
-use crate::calls::judge_and_move;
-use crate::calls::judge_and_point;
+use crate::calls::judge_net;
+use crate::calls::judge_vertex;
+use crate::calls::judge_weights;
+use crate::calls::make_move;
+use crate::calls::make_point;
 use crate::first::judge_first;
 use crate::first::make_in;
+use crate::frames::FRAME;
+use crate::frames::frame_within;
+use crate::frames::new_vertex;
+use crate::frames::own_vertex;
+use crate::frames::put_vertex;
+use crate::frames::vertex_within;
 use crate::rows::FEW;
 use crate::rows::PLACES;
 use crate::rows::copy;
+use kinds::frame_count;
 use kinds::number_count;
 use machine::Call;
 use machine::Weights;
@@ -99,19 +113,28 @@ fn first_nine(frame: &[i64]) -> [i64; 9]
 }
 
 // Stores a net that is in range, or tells the number of the refusal.
-fn store(net: &mut [i64], in_range: bool, kind: u8, degree: u8, second: u8, entries: &[i64]) -> u8
-    requires { ⌜ Stores kind degree second (now net) (now entries) ⌝ }
-    ensures { λ k. ⌜ Stored (netFrom kind degree second (now (entries .entry))) in_range (now (net .entry)) k (now (net .exit)) ⌝ }
+fn store(
+    net: &mut [i64],
+    in_range: bool,
+    kind: u8,
+    degree: u8,
+    second: u8,
+    frame: &[i64],
+    entries: &[i64],
+) -> u8
+    requires { ⌜ Stores kind degree second (now net) (now frame) (now entries) ⌝ }
+    ensures { λ k. ⌜ Stored (netWith kind degree second (now (frame .entry)) (now (entries .entry))) in_range (now (net .entry)) k (now (net .exit)) ⌝ }
 {
     if !in_range {
         return 7;
     }
-    put_head(&mut *net, kind, degree, second);
     copy(
         &mut net[ENTRIES..END],
         entries,
         number_count(kind, degree, second),
     );
+    copy(&mut net[FRAME..ENTRIES], frame, frame_count(kind));
+    put_head(net, kind, degree, second);
     0
 }
 
@@ -144,7 +167,7 @@ fn make_first(
             frame,
             coefficients,
         );
-        return store(net, in_range, kind, degree, second, &out);
+        return store(net, in_range, kind, degree, second, frame, &out);
     }
     let mut work = [0; PLACES];
     let mut cur = [0; PLACES];
@@ -161,7 +184,7 @@ fn make_first(
         frame,
         coefficients,
     );
-    store(net, in_range, kind, degree, second, &out)
+    store(net, in_range, kind, degree, second, frame, &out)
 }
 
 // Makes the first net of polynomials over a frame, in places that the caller lends, and answers 0; or
@@ -196,7 +219,49 @@ pub fn first_net(
     make_first(net, kind, degree, second, &corners, coefficients)
 }
 
-// Makes a move on a net; a refused one leaves every place as it was.
+// Makes a move that only its q and its size may refuse. The new vertex is put in its place when the entries are
+// made.
+fn make_moved(
+    net: &mut [i64],
+    kind: u8,
+    degree: u8,
+    second: u8,
+    operation: u8,
+    vertex: u8,
+    weights: Weights,
+) -> u8
+    requires { ⌜ MoveAsked kind degree second (now net) (Call.Move operation vertex weights) ⌝ }
+    ensures { λ k. ⌜ Moved (netIn kind degree second (now (net .entry))) (Call.Move operation vertex weights) k (now (net .entry)) (now (net .exit)) ⌝ }
+{
+    let own = own_vertex(kind, vertex);
+    let moved = new_vertex(net, own, operation, weights);
+    if !vertex_within(moved) {
+        return 12;
+    }
+    let size = make_move(
+        &mut net[ENTRIES..END],
+        kind,
+        degree,
+        second,
+        operation,
+        vertex,
+        weights,
+    );
+    if size != 0 {
+        return size;
+    }
+    put_vertex(
+        net,
+        own.start + own.count * own.index,
+        own.count,
+        moved.first,
+        moved.second,
+        moved.third,
+    );
+    0
+}
+
+// Makes a move on a net; a refused one leaves every place as it was. The tests are in the order of the table.
 pub fn take_move(net: &mut [i64], operation: u8, vertex: u8, weights: Weights) -> u8
     ensures number { λ k. ⌜ k ≡ callNumber (Call.Move operation vertex weights) (now (net .entry)) [] ⌝ }
     ensures places { λ _. ⌜ now (net .exit) ≡ callPlaces (Call.Move operation vertex weights) (now (net .entry)) [] ⌝ }
@@ -207,18 +272,22 @@ pub fn take_move(net: &mut [i64], operation: u8, vertex: u8, weights: Weights) -
     let kind = byte_of(net[0]);
     let degree = byte_of(net[1]);
     let second = byte_of(net[2]);
-    judge_and_move(
-        &mut net[ENTRIES..END],
-        kind,
-        degree,
-        second,
-        operation,
-        vertex,
-        weights,
-    )
+    let refusal = judge_net(&net[ENTRIES..END], kind, degree, second);
+    if refusal != 0 {
+        return refusal;
+    }
+    let number = judge_vertex(kind, operation, vertex, weights);
+    if number != 0 {
+        return number;
+    }
+    if !frame_within(net, kind) {
+        return 12;
+    }
+    make_moved(net, kind, degree, second, operation, vertex, weights)
 }
 
-// Finds a point of a net: x, y, z and w go into the first four places of `found`, or nothing does.
+// Finds a point of a net: x, y, z and w go into the first four places of `found`, or nothing does. The tests are in
+// the order of the table.
 pub fn find_point(net: &[i64], weights: Weights, found: &mut [i64]) -> u8
     ensures number { λ k. ⌜ k ≡ callNumber (Call.Point weights) (now (net .entry)) (now (found .entry)) ⌝ }
     ensures found { λ _. ⌜ now (found .exit) ≡ callFound (Call.Point weights) (now (net .entry)) (now (found .entry)) ⌝ }
@@ -232,5 +301,16 @@ pub fn find_point(net: &[i64], weights: Weights, found: &mut [i64]) -> u8
     let kind = byte_of(net[0]);
     let degree = byte_of(net[1]);
     let second = byte_of(net[2]);
-    judge_and_point(&net[ENTRIES..END], kind, degree, second, weights, found)
+    let refusal = judge_net(&net[ENTRIES..END], kind, degree, second);
+    if refusal != 0 {
+        return refusal;
+    }
+    let number = judge_weights(kind, weights);
+    if number != 0 {
+        return number;
+    }
+    if !frame_within(net, kind) {
+        return 12;
+    }
+    make_point(&net[ENTRIES..END], kind, degree, second, weights, found)
 }

@@ -12,7 +12,7 @@ use Rattle.polar.specs.Order.{joined}
 use Rattle.projection.specs.Projection.{projectionOf}
 use Rattle.machine.specs.Refusals.{firstFailed}
 use Rattle.machine.specs.Steps.{refusalNumber, pointValues, foundAt, stepBy, after, answers}
-use Rattle.machine.specs.Calls.{beforeSize}
+use Rattle.machine.specs.Calls.{ownTests}
 use Rattle.machine.specs.Nets.{Net, netGroups, netTests, accepted, stepOf}
 use Rattle.machine.specs.Lent.{netAt, putAt, unlessRefused, room, callNumber, callPlaces, callFound}
 use Rattle.machine.specs.declared.Weights.{Weights}
@@ -79,7 +79,7 @@ module _ (lent : List ℤ) (stands : Stands lent) (value : List ℕ) (k : ℕ) {
       let net = netAt lent in
       let same : callAt value k ≡ call.Move o v w = sym (move-call value k) ∙ ap callOf (sym is ∙ e) in
       let refused = improper-refused value k (net .kind) (net .degree) (net .second) (sym is ∙ e) in
-      refused-early lent stands (callAt value k) (ap (λ c. firstFailed (beforeSize (netGroups net) c)) same ∙ refused)
+      refused-early lent stands (callAt value k) (ap (λ c. firstFailed (ownTests (netGroups net) c)) same ∙ refused)
 
   -- a proper one is made as the call that it is
   pub proper-made : {number : ℕ} {left : List ℤ} → m ≡ Proper o v w → number ≡ callNumber (call.Move o v w) lent [] → left ≡ callPlaces (call.Move o v w) lent []

@@ -19,7 +19,7 @@ use Rattle.text.specs.Parts.{restOfLine, pairText, between, TwoOrThree, 
 
 -- ---- any line
 
-line-first : (w : List ℕ) (words : List (List ℕ)) → line (w ∷ words) ≡ w ++ restOfLine words
+pub line-first : (w : List ℕ) (words : List (List ℕ)) → line (w ∷ words) ≡ w ++ restOfLine words
 unfolding line
 line-first w [] = refl
 line-first w (v ∷ words) = ap (λ l. w ++ (32 ∷ l)) (line-first v words)

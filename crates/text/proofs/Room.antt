@@ -1,5 +1,5 @@
--- No text that netprint writes is longer than 4096 bytes. A line is as long as its words with one more byte for each, so a bound on every word bounds the line;
--- and there are at most 32 lines of moves, 45 of entries and one of a point after the first.
+-- No text that netprint writes is longer than 4183 bytes. A line is as long as its words with one more byte for each, so a bound on every word bounds the line;
+-- and there are at most 32 lines of moves, one of a frame, 45 of entries and one of a point after the first.
 use Prim.Native.Nat.{ℕ, zero, suc, _+_, _*_, _^_, _≤_, _<_}
 use native.Mathlib.Nat.{suc-mul, add-mul, min-le-left, mul-le-mul, le-trans}
 use native.Mathlib.Omega.{arith}
@@ -25,23 +25,25 @@ use Rattle.projection.specs.declared.Projection.the-variants.{Finite, Direction
 use Rattle.projection.proofs.Gcd.{gcd-up-to}
 use Rattle.projection.proofs.Signed.{within, natAbs-negated, quot-small}
 use Rattle.kinds.specs.Kinds.{groupsOf, dimensionOf, laterGroups, known}
-use Rattle.kinds.specs.Frames.{Frames}
+use Rattle.kinds.specs.Frames.{Frames, numbersOf}
 use Rattle.kinds.specs.Scales.{scaleOf, scaleRow, atDegree, rowNumber}
 use Rattle.kinds.proofs.Limits.{by-known}
-use Rattle.kinds.proofs.Counts.{entries-fit}
+use Rattle.kinds.proofs.Counts.{entries-fit, frame-few}
+use Rattle.kinds.proofs.Frames.{length-numbers}
 use Rattle.kinds.proofs.Scales.{up-to, scale-read, row-low}
 use Rattle.machine.specs.Refusals.{Test, _else_, firstFailed}
-use Rattle.machine.specs.Calls.{beforeSize}
-use Rattle.machine.specs.Sizes.{callTests}
+use Rattle.machine.specs.Calls.{ownTests}
+use Rattle.machine.specs.Frames.{pointsOf}
+use Rattle.machine.specs.Sizes.{beforeSize, callTests}
 use Rattle.machine.specs.Steps.{refusalNumber, foundAt, stepBy, after, answers}
 use Rattle.machine.specs.Nets.{Net, netGroups, netInRange}
-use Rattle.machine.specs.Comparison.{Polynomials, groups, scaledValue, pointsOf, machinePolar, machineAccepted, machineStep, netOver}
+use Rattle.machine.specs.Comparison.{Polynomials, groups, scaledValue, machineTests, machineAccepted, machineStep, netOver}
 use Rattle.machine.specs.declared.Call.{Call}
 use Rattle.machine.specs.declared.Call.the-variants as call
 use Rattle.machine.proofs.Over.{Reached}
 use Rattle.machine.proofs.Demand3.{along}
 use Rattle.text.specs.Words.{decimal, signedDecimal, line}
-use Rattle.text.specs.Text.{word, refusedLine, headLine, moveLine, moveLines, named, indices, entryLine, entryLines, netLines, pointRefusedLine, coordinateWord, projectionLine, pointLine, acceptedText}
+use Rattle.text.specs.Text.{word, refusedLine, headLine, moveLine, moveLines, named, indices, entryLine, entryLines, frameLine, netLines, pointRefusedLine, coordinateWord, projectionLine, pointLine, acceptedText}
 use Rattle.text.proofs.Decimal.{length-decimal, length-u64, length-component, length-hexBits}
 
 -- ---- a line by its words
@@ -68,12 +70,12 @@ spaced-append (w ∷ a) b = omega (arith, spaced-append a b)
 
 -- ---- a refused record
 
-pub refused-room : (number offset : ℕ) → number < 256 → offset < 2 ^ 64 → length (refusedLine number offset) ≤ 4096
+pub refused-room : (number offset : ℕ) → number < 256 → offset < 2 ^ 64 → length (refusedLine number offset) ≤ 4183
 unfolding refusedLine
 refused-room number offset small fits =
     let n = length-decimal number 3 (omega arith) (omega arith) in
     let o = length-u64 offset fits in
-    line-room 4096 (word "refused" ∷ decimal number ∷ word "at" ∷ decimal offset ∷ []) (omega arith) (omega arith)
+    line-room 4183 (word "refused" ∷ decimal number ∷ word "at" ∷ decimal offset ∷ []) (omega arith) (omega arith)
 
 -- ---- the first line
 
@@ -111,7 +113,7 @@ head-room kind degree second h =
     (omega (arith, length-decimal p 1 (omega (arith, m .high)) (omega arith), length-decimal q 1 (omega (arith, n .high)) (omega arith))))
     kind degree second h (scale-few kind degree second h)
 
--- ---- a call's refusal is a number of the table up to 10
+-- ---- a call's refusal is a number of the table up to 12
 
 -- no row of a table has a number above n
 abbrev upTo : ℕ → List Test → Bool
@@ -123,14 +125,14 @@ first-up n [] h = omega arith
 first-up n (true else k ∷ tests) h = first-up n tests (and-parts (leb k n) (upTo n tests) h .1)
 first-up n (false else k ∷ tests) h = leb-true k n (and-parts (leb k n) (upTo n tests) h .0)
 
-refusal-small : (gs : List Group) (c : Call) (P : ℕ → List (List ℕ) → ℤ) → firstFailed (callTests gs c P) ≤ 10
-unfolding callTests beforeSize
-refusal-small gs (call.Move operation vertex weights) P = first-up 10 (callTests gs (call.Move operation vertex weights) P) refl
-refusal-small gs (call.Point weights) P = first-up 10 (callTests gs (call.Point weights) P) refl
+refusal-small : (f : Polynomials) (frames : Frames) (c : Call) → firstFailed (machineTests f frames c) ≤ 12
+unfolding machineTests callTests beforeSize ownTests
+refusal-small f frames (call.Move operation vertex weights) = first-up 12 (machineTests f frames (call.Move operation vertex weights)) refl
+refusal-small f frames (call.Point weights) = first-up 12 (machineTests f frames (call.Point weights)) refl
 
 -- ---- the moves
 
-move-room : (k number : ℕ) → k < 100 → number ≤ 10 → length (moveLine k number) ≤ 19
+move-room : (k number : ℕ) → k < 100 → number ≤ 12 → length (moveLine k number) ≤ 19
 unfolding moveLine
 move-room k zero h small = omega arith
 move-room k (suc number) h small =
@@ -139,7 +141,7 @@ move-room k (suc number) h small =
     line-room 19 (word "move" ∷ decimal k ∷ word "refused" ∷ decimal (suc number) ∷ []) (omega arith) (omega arith)
 
 -- an answer has the number of the refusal, and that of an accepted call has none
-number-small : (j : ℕ) (f : Polynomials) (frames : Frames) (c : Call) → j ≤ 10 → refusalNumber (stepBy j frames (machineAccepted f frames c) .answer) ≤ 10
+number-small : (j : ℕ) (f : Polynomials) (frames : Frames) (c : Call) → j ≤ 12 → refusalNumber (stepBy j frames (machineAccepted f frames c) .answer) ≤ 12
 unfolding stepBy machineAccepted foundAt
 number-small zero f frames (call.Move operation vertex weights) h = h
 number-small zero f frames (call.Point weights) h = h
@@ -150,8 +152,7 @@ unfolding moveLines answers machineStep
 moves-room f frames k [] h = omega arith
 moves-room f frames k (c ∷ cs) h =
     let step = machineStep f frames c in
-    let number = firstFailed (callTests (groups f) c (machinePolar f frames c)) in
-    let first = move-room k (refusalNumber (step .answer)) (omega arith) (number-small number f frames c (refusal-small (groups f) c (machinePolar f frames c))) in
+    let first = move-room k (refusalNumber (step .answer)) (omega arith) (number-small (firstFailed (machineTests f frames c)) f frames c (refusal-small f frames c)) in
     let rest = moves-room f (step .left) (suc k) cs (omega arith) in
     omega (arith, length-append (moveLine k (refusalNumber (step .answer))) (moveLines (suc k) (answers (machineStep f) (step .left) cs)))
 
@@ -257,19 +258,30 @@ entries-room kind degree second h (es ∷ ess) each xs fits =
     let rest = entries-room kind degree second h ess (λ x m. each x (List·Memᴰ·tail m)) (drop 4 xs) (both .1) in
     omega (arith, length-append (entryLine es (take 4 xs)) (entryLines ess (drop 4 xs)))
 
--- 45 entries at most
-net-room : (net : Net) → known (net .kind) (net .degree) (net .second) ≡ true → netInRange net ≡ true → length (netLines net) ≤ 3330
+-- nine numbers of a frame at most
+frame-room : (net : Net) → length (numbersOf (net .frames)) ≤ 9 → all inRange (numbersOf (net .frames)) ≡ true → length (frameLine net) ≤ 159
+unfolding frameLine
+frame-room net nine near =
+    let n = numbers-room (numbersOf (net .frames)) near in
+    line-room 159 (word "frame" ∷ map signedDecimal (numbersOf (net .frames))) (omega arith) (omega arith)
+
+-- and 45 entries
+net-room : (net : Net) → known (net .kind) (net .degree) (net .second) ≡ true → netInRange net ≡ true → length (numbersOf (net .frames)) ≤ 9 → all inRange (numbersOf (net .frames)) ≡ true
+    → length (netLines net) ≤ 3489
 unfolding netLines
-net-room net right fits =
+net-room net right fits nine near =
+    let entries = entryLines (countsOver (netGroups net)) (net .entries) in
     omega (
       arith,
+      length-append (frameLine net) entries,
+      frame-room net nine near,
       entries-fit (net .kind) (net .degree) (net .second) right,
       entries-room (net .kind) (net .degree) (net .second) right (countsOver (netGroups net)) (counts-over (netGroups net)) (net .entries) fits,
     )
 
 -- ---- the point
 
-refused-point-room : (number : ℕ) → number ≤ 10 → length (pointRefusedLine number) ≤ 72
+refused-point-room : (number : ℕ) → number ≤ 12 → length (pointRefusedLine number) ≤ 72
 unfolding pointRefusedLine
 refused-point-room number small =
     let n = length-decimal number 2 (omega arith) (omega arith) in
@@ -312,11 +324,11 @@ projection-room x y z w = by (allInRange x y z w) (isZero w) (allZero x y z) ref
     by true true false h = let in-range = within x y z w h in direction-room x y z (in-range .0) (in-range .1) (in-range .2)
     by true true true h = line-room 72 (word "nowhere" ∷ []) (omega arith) (omega arith)
 
-point-room : (j : ℕ) (f : Polynomials) (frames : Frames) (c : Call) → j ≤ 10 → length (pointLine (stepBy j frames (machineAccepted f frames c) .answer)) ≤ 72
+point-room : (j : ℕ) (f : Polynomials) (frames : Frames) (c : Call) → j ≤ 12 → length (pointLine (stepBy j frames (machineAccepted f frames c) .answer)) ≤ 72
 unfolding stepBy machineAccepted foundAt pointLine
 point-room zero f frames (call.Move operation vertex weights) h = omega arith
 point-room zero f frames (call.Point weights) h =
-    let v = scaledValue f (pointsOf f frames (call.Point weights)) in
+    let v = scaledValue f (pointsOf (groups f) frames (call.Point weights)) in
     projection-room (v 0) (v 1) (v 2) (v 3)
 point-room (suc j) f frames c h = refused-point-room (suc j) h
 
@@ -325,19 +337,21 @@ unfolding answers machineStep
 points-room f frames [] = omega arith
 points-room f frames (c ∷ cs) =
     let step = machineStep f frames c in
-    let first = point-room (firstFailed (callTests (groups f) c (machinePolar f frames c))) f frames c (refusal-small (groups f) c (machinePolar f frames c)) in
+    let first = point-room (firstFailed (machineTests f frames c)) f frames c (refusal-small f frames c) in
     let rest = points-room f (step .left) cs in
     omega (arith, length-append (pointLine (step .answer)) (joined pointLine (answers (machineStep f) (step .left) cs)))
 
 -- ---- the whole text
 
-reached-net-room : (f : Polynomials) (frames : Frames) → Reached f frames → length (netLines (netOver f frames)) ≤ 3330
+reached-net-room : (f : Polynomials) (frames : Frames) → Reached f frames → length (netLines (netOver f frames)) ≤ 3489
 unfolding netOver
-reached-net-room f frames at = net-room (netOver f frames) (at .right) (at .fits)
+reached-net-room f frames at =
+    let nine : length (numbersOf frames) ≤ 9 = omega (arith, length-numbers (groups f) frames (at .long), frame-few (f .kind) (f .degree) (f .second)) in
+    net-room (netOver f frames) (at .right) (at .fits) nine (at .near)
 
--- 14 + 608 + 3330 + 72 bytes at most
+-- 14 + 608 + 159 + 3330 + 72 bytes at most
 pub accepted-room : (f : Polynomials) (frames : Frames) → Reached f frames → (moves points : List Call) → length moves ≤ 32 → length points ≤ 1
-    → length (acceptedText f frames moves points) ≤ 4096
+    → length (acceptedText f frames moves points) ≤ 4183
 unfolding acceptedText
 accepted-room f frames at moves points some one =
     let reached = after (machineStep f) frames moves in

@@ -4,7 +4,7 @@ use Prim.Native.Nat.{ℕ, zero, suc, _+_, _-_, _≤_, _<_}
 use native.Mathlib.Omega.{arith}
 use mathlib.Core.Path.{_≡_, refl, sym, ap, ap₂, _∙_}
 use mathlib.Core.Bool.{true}
-use mathlib.Core.List.{List, [], _∷_}
+use mathlib.Core.List.{List, [], _∷_, _++_, map}
 use lib.IntN.{ℤ, pos}
 use lib.ListN.{length, getD, take, drop, length-drop}
 use lib.Seq.{length-take-le}
@@ -12,20 +12,24 @@ use borrow.Author.Tests.{le-leb}
 use Rattle.polar.specs.Groups.{countsOver}
 use Rattle.entries.specs.Entries.{numberCount}
 use Rattle.kinds.specs.Kinds.{groupsOf, known}
+use Rattle.kinds.specs.Frames.{frameCount, numbersOf}
 use Rattle.kinds.proofs.Limits.{limits}
-use Rattle.kinds.proofs.Counts.{entries-fit}
+use Rattle.kinds.proofs.Counts.{entries-fit, frame-few}
+use Rattle.kinds.proofs.Frames.{numbers-back}
 use Rattle.machine.specs.Refusals.{_else_, firstFailed, allPass}
-use Rattle.machine.specs.Calls.{beforeSize}
-use Rattle.machine.specs.Sizes.{callTests}
+use Rattle.machine.specs.Calls.{ownTests}
 use Rattle.machine.specs.Steps.{refusalNumber, foundAt, stepBy, after}
-use Rattle.machine.specs.Nets.{Net, netGroups, netPolar, handedTests, netTests, accepted, stepOf}
+use Rattle.machine.specs.Nets.{Net, netGroups, handedTests, netTests, accepted, stepOf}
 use Rattle.machine.specs.Lent.{byteOf, netAt, put, wide, unlessRefused, room, callNumber, callPlaces}
 use Rattle.machine.specs.declared.Call.{Call}
 use Rattle.machine.specs.declared.Call.the-variants as call
-use Rattle.machine.proofs.Refusals.{none-failed, row-passes, passed-first, refused-first}
-use Rattle.machine.proofs.Lent.{Sound, accepted-sound, read-back, put-long}
-use Rattle.text.specs.Text.{headLine, entryLines, netLines}
-use Rattle.text.specs.Parts.{Stands, Made, Answered, netHead}
+use Rattle.machine.proofs.Refusals.{none-failed, row-passes}
+use Rattle.machine.proofs.Lent.{Sound, stood-sound, accepted-sound, read-back, put-long}
+use Rattle.nets.proofs.Steps.{by-arguments}
+use Rattle.text.specs.Words.{signedDecimal}
+use Rattle.text.specs.Text.{word, headLine, frameLine, entryLines, netLines}
+use Rattle.text.specs.Parts.{numbersText, Stands, Made, Answered, netHead}
+use Rattle.text.proofs.InParts.{line-first}
 
 module _ (lent : List ℤ) (stands : Stands lent) where
   pub enough : wide lent ≡ true
@@ -55,15 +59,22 @@ module _ (lent : List ℤ) (stands : Stands lent) where
   second-there = (let l = stands .long in omega (arith, l), head-below .2)
 
   pub sound : Sound (netAt lent)
-  unfolding netAt
-  sound =
-      record {
-        right = right;
-        exact =
-            let fit = entries-fit (netAt lent .kind) (netAt lent .degree) (netAt lent .second) right in
-            let l = stands .long in
-            length-take-le (numberCount (netGroups (netAt lent))) (drop 12 lent) (simp length-drop (omega arith));
-      }
+  sound = stood-sound lent enough right
+
+  -- the frame's numbers are r, which stand behind the head
+  module _ {k r : ℕ} (kind : k ≡ byteOf (getD lent 0 (pos 0))) (count : (p q : ℕ) → r ≡ frameCount (groupsOf k p q)) where
+    pub frame-there : frameLine (netAt lent) ≡ word "frame" ++ numbersText (take (3 + r - 3) (drop 3 lent))
+    unfolding frameLine netAt
+    frame-there =
+        let d = byteOf (getD lent 1 (pos 0)) in
+        let e = byteOf (getD lent 2 (pos 0)) in
+        let cut : r ≡ 3 + r - 3 = omega arith in
+        let l = stands .long in
+        let room = frame-few (byteOf (getD lent 0 (pos 0))) d e in
+        line-first (word "frame") (map signedDecimal (numbersOf (netAt lent .frames)))
+        ∙ ap (λ numbers. word "frame" ++ numbersText numbers)
+        (numbers-back (groupsOf (byteOf (getD lent 0 (pos 0))) d e) (drop 3 lent) (simp length-drop (omega arith))
+        ∙ ap (λ n. take n (drop 3 lent)) (sym (count d e ∙ ap (λ j. frameCount (groupsOf j d e)) kind) ∙ cut))
 
   -- kind and degrees as they are read
   module _ {k d e : ℕ} (kind : k ≡ byteOf (getD lent 0 (pos 0))) (degree : d ≡ byteOf (getD lent 1 (pos 0))) (second : e ≡ byteOf (getD lent 2 (pos 0))) where
@@ -87,12 +98,13 @@ module _ (lent : List ℤ) (stands : Stands lent) where
           let cut : 12 + r - 12 ≡ r = omega arith in
           length-take-le (12 + r - 12) (drop 12 lent) (simp length-drop (omega arith)) ∙ cut ∙ count
 
-      pub lines-there : netLines (netAt lent) ≡ entryLines (countsOver (groupsOf k d e)) (take (12 + r - 12) (drop 12 lent))
+      pub lines-there : netLines (netAt lent) ≡ frameLine (netAt lent) ++ entryLines (countsOver (groupsOf k d e)) (take (12 + r - 12) (drop 12 lent))
       unfolding netLines netAt
       lines-there =
           let cut : r ≡ 12 + r - 12 = omega arith in
-          sym (λ i. entryLines (countsOver (groupsOf (kind i) (degree i) (second i))) (take (numberCount (groupsOf (kind i) (degree i) (second i))) (drop 12 lent)))
-          ∙ ap (λ n. entryLines (countsOver (groupsOf k d e)) (take n (drop 12 lent))) (sym count ∙ cut)
+          ap (λ l. frameLine (netAt lent) ++ l)
+          (sym (λ i. entryLines (countsOver (groupsOf (kind i) (degree i) (second i))) (take (numberCount (groupsOf (kind i) (degree i) (second i))) (drop 12 lent)))
+          ∙ ap (λ n. entryLines (countsOver (groupsOf k d e)) (take n (drop 12 lent))) (sym count ∙ cut))
 
 -- ---- the number of a step
 
@@ -115,13 +127,10 @@ module _ (lent : List ℤ) (stands : Stands lent) (c : Call) where
       record { net = e; stands = record { long = long; handed = λ calls. ap (λ n. firstFailed (handedTests (after stepOf n calls))) e ∙ stands .handed (c ∷ calls) } }
 
   -- a call that is refused for its arguments leaves the places
-  pub refused-early : {k : ℕ} → firstFailed (beforeSize (netGroups net) c) ≡ suc k → Answered c lent lent (suc k)
-  unfolding stepOf stepBy netTests callTests
+  pub refused-early : {k : ℕ} → firstFailed (ownTests (netGroups net) c) ≡ suc k → Answered c lent lent (suc k)
+  unfolding stepOf stepBy after
   refused-early {k} h =
-      let number : firstFailed (netTests net c) ≡ suc k
-      = passed-first (handedTests net) (callTests (netGroups net) c (netPolar net c)) (passed lent stands)
-      ∙ refused-first (beforeSize (netGroups net) c) _ (λ none. let z : 0 ≡ suc k = sym none ∙ h in omega arith)
-      ∙ h in
+      let number : firstFailed (netTests net c) ≡ suc k = sym (by-arguments net c (stands .handed []) (λ none. omega arith) (sym h)) in
       record {
         numbered = sym (ap (λ n. refusalNumber (stepBy n net (accepted net c) .answer)) number);
         made = made-by (stands .long) (sym (ap (λ n. stepBy n net (accepted net c) .left) number));

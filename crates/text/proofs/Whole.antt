@@ -111,10 +111,10 @@ module _ (s : List ℕ) (ok : refusalIn s .number ≡ 0) where
   unfolding textOf
   text-of = machine-text (polynomialsIn s) (framesFrom s) at-start (movesIn s) (pointIn s) ∙ sym (ap (λ k. textBy k s) ok)
 
-  text-room : length (textOf s) ≤ 4096
+  text-room : length (textOf s) ≤ 4183
   unfolding textOf
   text-room =
-      subst (λ k. length (textBy k s) ≤ 4096) (sym ok)
+      subst (λ k. length (textBy k s) ≤ 4183) (sym ok)
       (accepted-room (polynomialsIn s) (framesFrom s) at-start (movesIn s) (pointIn s) (moves-few s) (point-few s))
 
 -- ---- a record as the code has opened it, in 193 places
@@ -146,7 +146,7 @@ module _ (s : List ℕ) (lent : List ℤ) {net : List ℤ} {o : Opened} (long : 
         let first : netAt net ≡ firstNetFrom s = ap netAt places-are ∙ first-stands s accepted lent long enough .0 in
         (λ i. netText (first i) (movesOf (bytesOf (opened-is i .layout .moves) s)) (pointOf (bytesOf (opened-is i .layout .point) s))) ∙ text-of s accepted
 
-    pub opened-room : length (textOf s) ≤ 4096
+    pub opened-room : length (textOf s) ≤ 4183
     opened-room = text-room s accepted
 
   pub refused-text : (o .refusal .number ≡ 0 → ⊥) → refusedLine (o .refusal .number) (o .refusal .offset) ≡ textOf s

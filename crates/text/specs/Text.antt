@@ -14,7 +14,7 @@ use Rattle.projection.specs.Projection.{refusal}
 use Rattle.projection.specs.declared.Projection.{Projection}
 use Rattle.projection.specs.declared.Projection.the-variants.{Finite, Direction, Nowhere, OutOfRange}
 use Rattle.kinds.specs.Kinds.{groupsOf}
-use Rattle.kinds.specs.Frames.{Frames}
+use Rattle.kinds.specs.Frames.{Frames, numbersOf}
 use Rattle.kinds.specs.Scales.{scaleOf}
 use Rattle.machine.specs.Steps.{Answer, Taken, Found, Refused as NotTaken, refusalNumber, after, answers}
 use Rattle.machine.specs.Nets.{Net, netGroups}
@@ -67,7 +67,11 @@ unfoldable pub moveLines : ℕ → List Answer → List ℕ
 moveLines k [] = []
 moveLines k (a ∷ rest) = moveLine k (refusalNumber a) ++ moveLines (suc k) rest
 
--- ---- the net: a line for each entry, its indices and its four numbers
+-- ---- the net: its frame, and a line for each entry with its indices and its four numbers
+
+-- 'printed right before the entries on a line `frame` with its numbers'
+unfoldable pub frameLine : Net → List ℕ
+frameLine net = line (word "frame" ∷ map signedDecimal (numbersOf (net .frames)))
 
 unfoldable pub entryLine : List (List ℕ) → List ℤ → List ℕ
 entryLine es numbers = line (map decimal (indices es) ++ map signedDecimal numbers)
@@ -78,7 +82,7 @@ entryLines [] numbers = []
 entryLines (es ∷ ess) numbers = entryLine es (take 4 numbers) ++ entryLines ess (drop 4 numbers)
 
 unfoldable pub netLines : Net → List ℕ
-netLines net = entryLines (countsOver (netGroups net)) (net .entries)
+netLines net = frameLine net ++ entryLines (countsOver (netGroups net)) (net .entries)
 
 -- ---- the point
 

@@ -26,7 +26,7 @@ use records::Refusal;
 use records::value;
 
 // No text has more bytes.
-const LONGEST: usize = 4096;
+const LONGEST: usize = 4183;
 
 // What writing a text answers.
 pub enum Written {
@@ -38,7 +38,7 @@ pub enum Written {
 
 // Makes the one line of a refused record.
 fn write_refusal(out: &mut [u8], refusal: Refusal) -> usize
-    requires { ⌜ 4096 ≤ length (now out) ⌝ }
+    requires { ⌜ 4183 ≤ length (now out) ⌝ }
     ensures { λ r. ⌜ Wrote (now (out .entry)) 0 (refusedLine (refusal .number) (refusal .offset)) (now (out .exit)) r ⌝ }
 {
     put_pair(
@@ -65,7 +65,7 @@ fn write_accepted(out: &mut [u8], net: &mut [i64], moves: &[u8], point: &[u8]) -
 
 // Makes the text in a buffer that every text fits into.
 fn make_text(out: &mut [u8], input: &[u8]) -> usize
-    requires { ⌜ 4096 ≤ length (now out) ⌝ }
+    requires { ⌜ 4183 ≤ length (now out) ⌝ }
     ensures { λ r. ⌜ Wrote (now (out .entry)) 0 (textOf (now (input .entry))) (now (out .exit)) r ⌝ }
 {
     let mut net = [0i64; NET];

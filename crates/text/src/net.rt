@@ -1,4 +1,4 @@
-// The lines of a net: the first line, and one for each entry in the specification's order. The entries go by the counts
+// The lines of a net: the first line, that of the frame, and one for each entry in the specification's order. The entries go by the counts
 // of the first group and, where these are the same, by those of the group after it, if there is one. In row h of the
 // first group the vertices after its first are taken h times together, and k of them are the third.
 ghost use mathlib.Core.Path.{_≡_};
@@ -11,7 +11,7 @@ ghost use Rattle.entries.specs.Entries.{numberCount};
 ghost use Rattle.kinds.specs.Kinds.{groupsOf, laterGroups, laterDimension, known};
 ghost use Rattle.machine.specs.Lent.{byteOf, netAt};
 ghost use Rattle.text.specs.Words.{Room, Wrote};
-ghost use Rattle.text.specs.Text.{entryLines, netLines};
+ghost use Rattle.text.specs.Text.{entryLines, frameLine, netLines};
 ghost use Rattle.text.specs.Parts.{
   TwoOrThree,
   nameText,
@@ -27,10 +27,13 @@ use crate::words::put_decimal;
 use crate::words::put_labelled;
 use crate::words::put_line;
 use kinds::dimension_of;
+use kinds::frame_count;
 use kinds::later_count;
 use kinds::number_count;
 
-// Where the entries begin in the places of a net.
+// Where the frame and the entries begin in the places of a net.
+const FRAME: usize = 3;
+
 const ENTRIES: usize = 12;
 
 // The indices of a group by the counts of its vertices: of two vertices the copies of the second, of three
@@ -163,14 +166,24 @@ pub(crate) fn write_first(out: &mut [u8], at: usize, net: &[i64]) -> usize
     )
 }
 
-// The lines of its entries.
+// The line of its frame.
+pub(crate) fn write_frame(out: &mut [u8], at: usize, net: &[i64]) -> usize
+    requires { ⌜ Stands (now net) × Room (now out) at (frameLine (netAt (now net))) ⌝ }
+    ensures { λ r. ⌜ Wrote (now (out .entry)) at (frameLine (netAt (now (net .entry)))) (now (out .exit)) r ⌝ }
+{
+    let end = FRAME + frame_count(head_byte(net, 0));
+    put_line(out, at, b"frame", &net[FRAME..end])
+}
+
+// That line, and the lines of its entries.
 pub(crate) fn write_net(out: &mut [u8], at: usize, net: &[i64]) -> usize
     requires { ⌜ Stands (now net) × Room (now out) at (netLines (netAt (now net))) ⌝ }
     ensures { λ r. ⌜ Wrote (now (out .entry)) at (netLines (netAt (now (net .entry)))) (now (out .exit)) r ⌝ }
 {
+    let after_frame = write_frame(&mut *out, at, net);
     let kind = head_byte(net, 0);
     let degree = head_byte(net, 1);
     let second = head_byte(net, 2);
     let end = ENTRIES + number_count(kind, degree, second);
-    write_entries(out, at, kind, degree, second, &net[ENTRIES..end])
+    write_entries(out, after_frame, kind, degree, second, &net[ENTRIES..end])
 }

@@ -4,7 +4,7 @@ ghost use Rattle.vectors.specs.Compared.{FirstDifference, AllMarks};
 use text::Written;
 use text::write_text;
 
-// The byte that fills a buffer before it is lent, as io::buffer makes it. No text has it: it is no
+// The byte that fills a buffer before it is lent. No text has it: it is no
 // letter, digit, sign, space or line feed.
 const MARK: u8 = 0;
 
@@ -76,16 +76,16 @@ fn judge_text(record: &[u8], out: &[u8], n: usize, expected: &[u8]) -> Verdict
     if !all_marks(&out[n..]) {
         return Verdict::PastTheText;
     }
-    let mut other = io::buffer();
+    let mut other = [0u8; 4183];
     if !short_is_refused(record, n, &mut other) {
         return Verdict::ShortBuffer;
     }
     Verdict::Equal
 }
 
-// The record's text in a buffer of 4096 bytes, judged. The answer 11 counts as a text with no byte.
+// The record's text in a buffer of 4183 bytes, judged. The answer 11 counts as a text with no byte.
 pub(crate) fn judge(record: &[u8], expected: &[u8]) -> Verdict {
-    let mut out = io::buffer();
+    let mut out = [0u8; 4183];
     match write_text(record, &mut out) {
         Written::Bytes(n) => judge_text(record, &out, n, expected),
         Written::Refused(_) => Verdict::DiffersAt(0),

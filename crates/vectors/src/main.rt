@@ -7,7 +7,7 @@
 //
 // For each vector there is a line `LABEL equal` or `LABEL differs at N`, N being the place of the
 // first byte that is not the expected one; a last line has both counts. `equal` says three things:
-// - in a buffer of 4096 bytes the text is the expected one, byte for byte;
+// - in a buffer of 4183 bytes the text is the expected one, byte for byte;
 // - the rest of that buffer is as it was before;
 // - a buffer one byte shorter than the text is refused with 11, and not a byte of it is written.
 // Where the text is right and one of the other two fails, the line says which.
@@ -62,7 +62,7 @@ fn one_vector() -> Outcome {
     }
     let mut record = [0u8; 4096];
     let r = part(two_bytes(), &mut record);
-    let mut expected = [0u8; 4096];
+    let mut expected = [0u8; 4183];
     let e = part(two_bytes(), &mut expected);
     io::write_all(STDOUT_FILENO, &label[..l]);
     if write_verdict(judge(&record[..r], &expected[..e])) {

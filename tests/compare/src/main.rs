@@ -7,6 +7,7 @@
 use gadwemosh::raw;
 use independent::calls::Weights;
 use independent::compare::compare_calls;
+use independent::counts::OF_A_LIBRARY;
 use independent::first::Given;
 use independent::handed::Net;
 use independent::library::Library;
@@ -115,8 +116,8 @@ fn main() -> ExitCode {
         }
     };
     let seconds = started.elapsed().as_secs_f64();
-    println!("{}\n{seconds:.1} s, {:.0} calls a second; disagreements 0", counts.closing_lines(11), counts.calls as f64 / seconds);
-    let missing = counts.missing(11);
+    println!("{}\n{seconds:.1} s, {:.0} calls a second; disagreements 0", counts.closing_lines(OF_A_LIBRARY), counts.calls as f64 / seconds);
+    let missing = counts.missing(OF_A_LIBRARY);
     if missing.is_empty() {
         return ExitCode::SUCCESS;
     }

@@ -1,4 +1,4 @@
-//! Calls on a net, their answers, and what is refused before size is looked at.
+//! Calls on a net, their answers, and what is refused before frame and size are looked at.
 
 use crate::projection::Projection;
 use crate::shape::{Kind, MOST_VERTICES};
@@ -28,9 +28,9 @@ pub enum Answer {
     Refused(u8),
 }
 
-/// The number of a refusal that needs no polar value, if there is one; where both
-/// causes hold, 8 goes before 9.
-pub fn refused_before_size(kind: Kind, call: &Call) -> Option<u8> {
+/// The number of a refusal that needs neither a frame nor a polar value, if there is one;
+/// where both causes hold, 8 goes before 9.
+pub fn refused_by_itself(kind: Kind, call: &Call) -> Option<u8> {
     let (outside, idle) = match *call {
         Call::Move { operation, vertex, .. } if operation_or_vertex_outside(kind, operation, vertex) => (true, false),
         Call::Move { operation, vertex, weights } => {
@@ -88,8 +88,8 @@ mod tests {
 
     #[test]
     fn eight_comes_before_nine() {
-        let curve = |call| refused_before_size(Kind::Curve, &call);
-        let patch = |call| refused_before_size(Kind::Patch, &call);
+        let curve = |call| refused_by_itself(Kind::Curve, &call);
+        let patch = |call| refused_by_itself(Kind::Patch, &call);
         assert_eq!(curve(moved(1, 1, [4096, -4096, 0, 0])), None);
         assert_eq!(curve(moved(1, 1, [4097, 0, 0, 0])), Some(8));
         assert_eq!(curve(moved(1, 1, [0, 1, 0, 0])), Some(9));
@@ -112,7 +112,7 @@ mod tests {
     /// A move's two weights are its own pair's, whichever that is; a point has two pairs.
     #[test]
     fn a_rectangular_patch_has_two_weights_a_pair() {
-        let rect = |call| refused_before_size(Kind::Rect, &call);
+        let rect = |call| refused_by_itself(Kind::Rect, &call);
         assert_eq!(rect(moved(1, 3, [4096, -4096, 0, 0])), None);
         assert_eq!(rect(moved(1, 3, [0, 1, 0, 0])), Some(9));
         assert_eq!(rect(moved(1, 4, [0, 1, 0, 0])), None);

@@ -1,17 +1,18 @@
 //! A library, answer by answer and net by net, against the machine and the
 //! handed-net model.
 
-use crate::calls::{refused_before_size, Answer, Call, NO_WEIGHTS};
+use crate::calls::{Answer, Call, NO_WEIGHTS};
 use crate::counts::Counts;
 use crate::generate::{any_first, any_record, any_room, any_run, any_shape, encode, everywhere, four_numbers, handed, made};
 use crate::generate::{Caller, Mood};
 use crate::handed::Net;
 use crate::library::{answer, Library};
+use crate::exact::Exact;
 use crate::machine::Machine;
 use crate::projection::project_into;
 use crate::random::Random;
 use crate::record::{field_of, read_with_net, told_kind, Record, Refusal};
-use crate::shape::{in_range, Kind, Shape};
+use crate::shape::{Kind, Shape};
 use crate::text::text;
 
 /// A full sweep of damages, at every byte, once in so many lists.
@@ -81,7 +82,7 @@ impl Run<'_> {
             }
         }
         check_net(&machine, &net).map_err(|what| context(what, &calls))?;
-        self.counts.frame(frame_bits(&machine));
+        self.counts.list(net.frame(machine.shape()));
         Ok(())
     }
 
@@ -150,8 +151,11 @@ impl Run<'_> {
             (_, Answer::Point { x, y, z, w, .. }) => wanted[..4].copy_from_slice(&[x, y, z, w]),
             _ => {}
         }
-        if let (Call::Point { weights }, Some(shape)) = (*call, rect_in_order(&before, call)) {
-            self.counts.point_of_a_rect(&before, shape, weights);
+        if let (Call::Point { weights }, Ok(shape)) = (*call, before.judged(call)) {
+            self.counts.point_in_order(&before, shape, weights);
+        }
+        if expected == Answer::Refused(12) {
+            self.counts.twelve(&before, call);
         }
         let given = answer(self.library, net, call, &mut found);
         self.counts.answer(before.kind(), &given);
@@ -165,7 +169,9 @@ impl Run<'_> {
             return Err(format!("{call:?} leaves {found:?} for the point, expected {wanted:?}"));
         }
         if given == Answer::Taken {
-            self.counts.limit(net.shape().map_or(&[], |shape| net.numbers(shape)));
+            let shape = net.shape().expect("the model's net, on which a move is taken");
+            self.counts.limit(net.numbers(shape));
+            self.counts.frame_limit(net.frame(shape));
         }
         Ok(given)
     }
@@ -176,7 +182,7 @@ impl Run<'_> {
         let expected = match &judged {
             _ if net.is_short() => Err(Refusal { number: 11, offset: 0 }),
             Ok((record, first)) => {
-                expected_net.write(record.shape, first);
+                expected_net.write_first(record, first);
                 Ok(record.shape)
             }
             Err(refusal) => Err(*refusal),
@@ -259,29 +265,22 @@ impl Run<'_> {
     }
 }
 
-/// The shape of a rectangular patch on which nothing but size can refuse the call.
-fn rect_in_order(net: &Net, call: &Call) -> Option<Shape> {
-    let shape = if net.is_short() { None } else { net.shape() };
-    let in_range = |shape: &Shape| net.numbers(*shape).iter().all(|&number| in_range(number));
-    shape.filter(|shape| shape.kind == Kind::Rect && refused_before_size(Kind::Rect, call).is_none()).filter(in_range)
-}
-
-/// The net left must be of the machine's shape and hold what the machine's own frame
-/// gives, entry by entry.
+/// The net left must be of the machine's shape, carry the machine's own frame, number by
+/// number, and hold what that frame gives, entry by entry.
 pub fn check_net(machine: &Machine, net: &Net) -> Result<(), String> {
     let shape = net.shape().ok_or("the net has lost its shape")?;
     if shape != machine.shape() {
         return Err(format!("the net is {shape:?}, the record {:?}", machine.shape()));
+    }
+    let frame: Vec<Exact> = net.frame(shape).iter().map(|&number| Exact::from_i64(number)).collect();
+    if frame != machine.frame_numbers() {
+        return Err(format!("the frame is {:?}, the machine's {:?}", net.frame(shape), machine.frame_numbers()));
     }
     let expected = machine.net().ok_or("an entry over the machine's frame is out of range")?;
     if net.used(shape) != expected {
         return Err(format!("entries {:?}, over the machine's frame {expected:?}", net.used(shape)));
     }
     Ok(())
-}
-
-pub fn frame_bits(machine: &Machine) -> usize {
-    machine.frame().iter().flatten().map(|number| number.bits()).max().unwrap_or(0)
 }
 
 pub fn hex(bytes: &[u8]) -> String {
@@ -291,6 +290,6 @@ pub fn hex(bytes: &[u8]) -> String {
 /// The first net of a record as a net.
 pub fn first_net(record: &Record) -> Net {
     let mut net = Net::empty();
-    net.write(record.shape, &record.first_net().expect("an accepted record"));
+    net.write_first(record, &record.first_net().expect("an accepted record"));
     net
 }

@@ -1,12 +1,17 @@
 //! How often every refusal and every kind of projection occurred, in all and for each
 //! kind of net.
 
-use crate::calls::{Answer, Weights};
+use crate::calls::{Answer, Call, Weights, FLIP};
 use crate::handed::{Net, PLACES};
 use crate::projection::{Projection, Room, COORDINATES, DIRECTION};
 use crate::record::{Lookup, Refusal};
 use crate::shape::{Kind, Shape, RANGE};
 use crate::text::Outcome;
+
+/// The refusals that a program can give for a record, and those that a library can give: 11
+/// is that of lent buffers.
+pub const OF_A_PROGRAM: &[usize] = &[1, 2, 3, 4, 5, 6, 7, 8, 9, 10, 12];
+pub const OF_A_LIBRARY: &[usize] = &[1, 2, 3, 4, 5, 6, 7, 8, 9, 10, 11, 12];
 
 /// What was answered.
 #[derive(Clone, Copy, Debug, Default)]
@@ -14,7 +19,9 @@ pub struct Tally {
     pub taken: u64,
     pub found: u64,
     /// At place N, the refusals with number N.
-    pub refusals: [u64; 12],
+    pub refusals: [u64; 13],
+    /// How many of the refusals 12 are for the handed frame; the others are for q.
+    pub frames_beyond: u64,
     pub finite: u64,
     pub direction: u64,
     pub nowhere: u64,
@@ -29,9 +36,8 @@ pub struct Counts {
     /// The same of curves, patches and rectangular patches alone, by what the record or
     /// the net says that it is, refused or not.
     pub kinds: [Tally; 3],
-    /// Lists after which the frame had a number past 2 to the 48th.
-    pub large_frames: u64,
-    pub largest_frame_bits: usize,
+    /// Lists after which the frame had a number of exactly 2 to the 48th.
+    pub full_frames: u64,
     /// Nets left or points found with a component of exactly 2 to the 48th.
     pub at_the_limit: u64,
     /// Accepted records of each shape, in the order of `Shape::all`.
@@ -48,7 +54,16 @@ pub struct Counts {
     pub rooms: [u64; 3],
     /// Points on rectangular patches, as `STAGES` names them.
     pub stages: [u64; 3],
+    /// Calls at the limits of a frame, as `FRAMES` names them.
+    pub frames: [u64; 9],
 }
+
+/// What is refused 12, for the handed frame and for q; and what is not.
+const FRAMES: [&str; 9] = [
+    "a replace refused for the handed frame", "a flip refused for it", "a point refused for it",
+    "a replace refused for q alone", "one of them just one beyond 2^48", "just one beyond -2^48", "one with values out of range besides",
+    "a move taken with a number of exactly 2^48", "a point found at a q beyond",
+];
 
 /// By the two stages of their size test, which is not symmetric in the pairs.
 const STAGES: [&str; 3] = ["refused with the first pair", "refused with the second", "taken, refused with the pairs exchanged"];
@@ -82,17 +97,23 @@ impl Tally {
         }
     }
 
-    /// What never occurred, of the refusals up to `last` and of the rest.
-    fn missing(&self, last: usize) -> Vec<String> {
-        let refusals = (1..=last).filter(|&n| self.refusals[n] == 0).map(|n| format!("refusal {n}"));
+    /// How many of the refusals 12 are for the q of a replace.
+    fn qs_beyond(&self) -> u64 {
+        self.refusals[12] - self.frames_beyond
+    }
+
+    /// What never occurred, of these refusals and of the rest.
+    fn missing(&self, numbers: &[usize]) -> Vec<String> {
+        let refusals = numbers.iter().filter(|&&n| self.refusals[n] == 0).map(|n| format!("refusal {n}"));
         let words = [("finite", self.finite), ("direction", self.direction), ("nowhere", self.nowhere), ("taken", self.taken)];
         refusals.chain(words.into_iter().filter(|word| word.1 == 0).map(|word| word.0.to_string())).collect()
     }
 
-    fn line(&self, last: usize) -> String {
-        let refusals: Vec<String> = (1..=last).map(|n| format!("{n}:{}", self.refusals[n])).collect();
+    fn line(&self, numbers: &[usize]) -> String {
+        let refusals: Vec<String> = numbers.iter().map(|&n| format!("{n}:{}", self.refusals[n])).collect();
         let (finite, direction, nowhere) = (self.finite, self.direction, self.nowhere);
         let made = format!("taken {}; found {}; refused {}", self.taken, self.found, refusals.join(" "));
+        let made = format!("{made} (12 for the handed frame {}, for q {})", self.frames_beyond, self.qs_beyond());
         format!("{made}; finite {finite} direction {direction} nowhere {nowhere}")
     }
 }
@@ -129,8 +150,38 @@ impl Counts {
         self.inner_answer(kind, answer);
     }
 
+    /// A call that the handed net refuses 12.
+    pub fn twelve(&mut self, net: &Net, call: &Call) {
+        let Some(shape) = net.shape() else { return };
+        let of_frame = !net.frame_in_range(shape);
+        self.tally(Some(shape.kind), |tally| tally.frames_beyond += u64::from(of_frame));
+        match *call {
+            Call::Move { operation: FLIP, .. } => self.frames[1] += 1,
+            Call::Point { .. } => self.frames[2] += 1,
+            Call::Move { .. } if of_frame => self.frames[0] += 1,
+            Call::Move { operation, vertex, weights } => {
+                let (limit, q) = (i128::from(RANGE), net.new_vertex(shape, operation, vertex, weights));
+                let (least, most) = (q.iter().min().map_or(0, |n| *n), q.iter().max().map_or(0, |n| *n));
+                self.frames[3] += 1;
+                self.frames[4] += u64::from(most == limit + 1 && least >= -limit);
+                self.frames[5] += u64::from(least == -limit - 1 && most <= limit);
+                self.frames[6] += u64::from(over_zeros(net, shape).answer(call) == Answer::Refused(10));
+            }
+        }
+    }
+
     /// A point that nothing but size can refuse.
-    pub fn point_of_a_rect(&mut self, net: &Net, shape: Shape, [r1, s1, r2, s2]: Weights) {
+    pub fn point_in_order(&mut self, net: &Net, shape: Shape, weights: Weights) {
+        let refused = net.refused_in_pair(shape, weights);
+        let groups = shape.kind.grouped(&weights).into_iter().enumerate();
+        let beyond = |(group, weights): (usize, Vec<i64>)| net.named(shape, group, &weights).iter().any(|n| n.abs() > i128::from(RANGE));
+        self.frames[8] += u64::from(refused.is_none() && groups.map(beyond).any(|is| is));
+        if shape.kind == Kind::Rect {
+            self.point_of_a_rect(net, shape, weights);
+        }
+    }
+
+    fn point_of_a_rect(&mut self, net: &Net, shape: Shape, [r1, s1, r2, s2]: Weights) {
         let exchanged = Shape::rect(shape.degrees[1], shape.degrees[0]);
         let other = || net.with_pairs_exchanged(shape).refused_in_pair(exchanged, [r2, s2, r1, s1]);
         match net.refused_in_pair(shape, [r1, s1, r2, s2]) {
@@ -210,21 +261,26 @@ impl Counts {
         self.at_the_limit += u64::from(components.iter().any(|component| component.abs() == RANGE));
     }
 
-    pub fn frame(&mut self, bits: usize) {
-        self.lists += 1;
-        self.large_frames += u64::from(bits > 49);
-        self.largest_frame_bits = self.largest_frame_bits.max(bits);
+    /// The frame that a move taken leaves.
+    pub fn frame_limit(&mut self, frame: &[i64]) {
+        self.frames[7] += u64::from(is_full(frame));
     }
 
-    /// What never occurred, for each kind, of the refusals up to `last` and the
-    /// projections, and of the shapes; where `last` is 11, of what is lent too.
-    pub fn missing(&self, last: usize) -> Vec<String> {
+    /// The frame that a list on a record leaves.
+    pub fn list(&mut self, frame: &[i64]) {
+        self.lists += 1;
+        self.full_frames += u64::from(is_full(frame));
+    }
+
+    /// What never occurred, for each kind, of these refusals and the projections, and of the
+    /// shapes; where 11 is among them, of what is lent too.
+    pub fn missing(&self, numbers: &[usize]) -> Vec<String> {
         let of = |kind: Kind| move |what: String| format!("{what} of a {}", kind.word());
-        let answers = Kind::ALL.into_iter().flat_map(|kind| self.kinds[place(kind)].missing(last).into_iter().map(of(kind)));
+        let answers = Kind::ALL.into_iter().flat_map(|kind| self.kinds[place(kind)].missing(numbers).into_iter().map(of(kind)));
         let shapes = Shape::all().into_iter().enumerate();
         let unseen = shapes.filter(|(place, _)| self.shapes.get(*place).is_none_or(|count| *count == 0));
         let unseen = unseen.map(|(_, shape)| format!("{} of degrees {:?}", shape.kind.word(), shape.degrees));
-        let lent = if last < 11 { Vec::new() } else { self.missing_of_what_is_lent() };
+        let lent = if numbers.contains(&11) { self.missing_of_what_is_lent() } else { Vec::new() };
         answers.chain(unseen).chain(lent).collect()
     }
 
@@ -237,17 +293,21 @@ impl Counts {
         let words = ["too few places", "just enough places", "more places"];
         let rooms = words.map(|word| format!("a projection into {word}")).into_iter().zip(self.rooms);
         let stages = STAGES.map(|word| format!("a point of a rect {word}")).into_iter().zip(self.stages);
-        let all = firsts.into_iter().chain(runs).chain(second).chain(lookups).chain(rooms).chain(stages);
+        let frames = FRAMES.map(str::to_string).into_iter().zip(self.frames);
+        let twelve = Kind::ALL.into_iter().flat_map(|kind| {
+            let (tally, word) = (&self.kinds[place(kind)], kind.word());
+            [(format!("12 for the handed frame of a {word}"), tally.frames_beyond), (format!("12 for q of a {word}"), tally.qs_beyond())]
+        });
+        let all = firsts.into_iter().chain(runs).chain(second).chain(lookups).chain(rooms).chain(stages).chain(frames).chain(twelve);
         all.filter(|word| word.1 == 0).map(|word| word.0).collect()
     }
 
     /// Lines with every count, the last ones for each kind.
-    pub fn closing_lines(&self, last: usize) -> String {
-        let (calls, read, answered) = (self.calls, self.records_read, self.all.line(last));
+    pub fn closing_lines(&self, numbers: &[usize]) -> String {
+        let (calls, read, answered) = (self.calls, self.records_read, self.all.line(numbers));
         let mut line = format!("calls {calls}; records accepted {read}; {answered}; at 2^48 exactly {}", self.at_the_limit);
         if self.lists > 0 {
-            let (lists, large, bits) = (self.lists, self.large_frames, self.largest_frame_bits);
-            line += &format!("; lists {lists}, frames past 2^48 after {large} of them, largest {bits} bits");
+            line += &format!("; lists {}, a number of the frame 2^48 exactly after {} of them", self.lists, self.full_frames);
             let ([short, exact, longer], [curve, patch, rect]) = (self.runs, self.second_degrees);
             line += &format!("; handed runs short {short} exact {exact} longer {longer}");
             line += &format!(", second degree alone at fault in curves {curve} patches {patch} rects {rect}");
@@ -258,8 +318,10 @@ impl Counts {
             line += &format!("\nlookups of {}", lookups.collect::<Vec<String>>().join(", "));
             let [short, exact, longer] = self.rooms;
             line += &format!("; projections into too few places {short} just enough {exact} more {longer}");
+            let frames = FRAMES.iter().zip(self.frames).map(|(word, count)| format!("{word} {count}"));
+            line += &format!("\nframes: {}", frames.collect::<Vec<String>>().join("; "));
         }
-        let kinds = Kind::ALL.map(|kind| format!("\n{}: {}", kind.word(), self.kinds[place(kind)].line(last)));
+        let kinds = Kind::ALL.map(|kind| format!("\n{}: {}", kind.word(), self.kinds[place(kind)].line(numbers)));
         line += &kinds.concat();
         if self.lists > 0 {
             let stages = STAGES.iter().zip(self.stages).map(|(word, count)| format!("{word} {count}"));
@@ -269,6 +331,18 @@ impl Counts {
     }
 }
 
+/// Whether a number is 2 to the 48th exactly, for either sign.
+fn is_full(frame: &[i64]) -> bool {
+    frame.iter().any(|number| number.unsigned_abs() == RANGE as u64)
+}
+
+/// The same net over a frame of zeros: no q is refused there, whatever the weights.
+fn over_zeros(net: &Net, shape: Shape) -> Net {
+    let mut other = net.clone();
+    other.write_frame(&vec![0; shape.kind.frame_numbers()]);
+    other
+}
+
 #[cfg(test)]
 mod tests {
     use super::*;
@@ -276,13 +350,16 @@ mod tests {
     /// What came for the other kinds does not make up for what never came for one.
     #[test]
     fn each_kind_must_have_every_refusal_and_projection() {
-        let full = Tally { taken: 1, found: 3, refusals: [1; 12], finite: 1, direction: 1, nowhere: 1 };
+        let full = Tally { taken: 1, found: 3, refusals: [1; 13], frames_beyond: 0, finite: 1, direction: 1, nowhere: 1 };
         let mut counts = Counts { all: full, kinds: [full; 3], shapes: vec![1; Shape::all().len()], ..Counts::default() };
-        assert_eq!(counts.missing(10), Vec::<String>::new());
+        assert_eq!(counts.missing(OF_A_PROGRAM), Vec::<String>::new());
         counts.kinds[2].refusals[7] = 0;
         counts.kinds[2].nowhere = 0;
         counts.shapes[42] = 0;
-        assert_eq!(counts.missing(10), ["refusal 7 of a rect", "nowhere of a rect", "rect of degrees [5, 5]"]);
-        assert!(counts.missing(11).contains(&"a point of a rect refused with the second".to_string()));
+        assert_eq!(counts.missing(OF_A_PROGRAM), ["refusal 7 of a rect", "nowhere of a rect", "rect of degrees [5, 5]"]);
+        let missing = counts.missing(OF_A_LIBRARY);
+        assert!(missing.contains(&"a point of a rect refused with the second".to_string()));
+        assert!(missing.contains(&"12 for the handed frame of a curve".to_string()));
+        assert!(!missing.contains(&"12 for q of a curve".to_string()));
     }
 }

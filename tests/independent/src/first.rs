@@ -32,7 +32,7 @@ impl Given {
         let coefficients = coefficients(&self.coefficients[..4 * shape.places()]).ok_or(6)?;
         let record = Record { shape, frame, coefficients, moves: Vec::new(), point: None, coefficients_at: 0 };
         let entries = record.first_net().map_err(|refusal| refusal.number)?;
-        net.write(shape, &entries);
+        net.write_first(&record, &entries);
         Ok(())
     }
 }
@@ -57,6 +57,7 @@ mod tests {
         let mut net = Net::empty();
         large(4, 4).make(&mut net).unwrap();
         assert_eq!((&net.0[..3], net.0[12]), (&[3, 4, 4][..], 25 * 144 << (2 * 8 + 20)));
+        assert_eq!(net.0[3..12], [4, 4, 1, 0, 4, 4, 1, 0, 0]);
     }
 
     #[test]
@@ -72,6 +73,6 @@ mod tests {
         assert_eq!(spoil(|given| (given.frame[7], given.coefficients[143]) = (1, 1 << 21)), Err(5));
         assert_eq!(spoil(|given| given.coefficients[143] = (1 << 20) + 1), Err(6));
         assert_eq!(spoil(|given| given.coefficients[144] = (1 << 20) + 1), Err(7));
-        assert_eq!(spoil(|given| drop(given.frame.pop())), Err(11));
+        assert_eq!(spoil(|given| given.frame.truncate(FRAME - 1)), Err(11));
     }
 }

@@ -1,22 +1,28 @@
 //! Calls on a handed net of any numbers at all. Nothing is known of polynomials
 //! here: polar values are linear in each place, so a q is traded for the vertices,
-//! each with its weight, until only entries of the net are left.
+//! each with its weight, until only entries of the net are left. The frame that the
+//! net carries is taken as it is: whether it is that of the entries nobody asks.
 
-use crate::calls::{place_of, refused_before_size, Answer, Call, Weights, FLIP};
+use crate::calls::{place_of, refused_by_itself, Answer, Call, Weights, FLIP, REPLACE};
 use crate::projection::project;
-use crate::shape::{in_range, Copies, Kind, Shape};
+use crate::record::Record;
+use crate::shape::{in_range, Copies, Kind, Shape, RANGE};
+use std::ops::Range;
 
 /// So many places a net has at least; fewer are refused, 11, and further ones are its
 /// owner's.
 pub const PLACES: usize = 193;
 
-/// Where the entries begin, after kind, degree, second degree and nine places that
-/// nothing uses.
+/// Where the frame begins, after kind, degree and second degree.
+pub const FRAME: usize = 3;
+
+/// Where the entries begin, after nine places for the frame.
 pub const ENTRIES: usize = 12;
 
 /// A net in a run of 64-bit numbers: kind, degree and second degree (0 for a curve or
-/// triangular patch) at 0, 1 and 2, the components of entry e at 12 + 4e and the three places
-/// after it. All other places hold anything.
+/// triangular patch) at 0, 1 and 2, the numbers of the frame from 3 on, vertex by vertex (four of
+/// a curve, nine of a patch, eight of a rectangular patch), the components of entry e at 12 + 4e
+/// and the three places after it. All other places hold anything.
 #[derive(Clone, Debug, PartialEq, Eq)]
 pub struct Net(pub Vec<i64>);
 
@@ -31,7 +37,18 @@ impl Net {
         self.0.len() < PLACES
     }
 
-    /// Writes kind, degrees and entries; the unused places keep their values.
+    /// Writes a first net: kind, degrees, the record's frame and the entries.
+    pub fn write_first(&mut self, record: &Record, entries: &[[i64; 4]]) {
+        self.write(record.shape, entries);
+        self.write_frame(&record.frame_numbers());
+    }
+
+    /// Writes the numbers of a frame; the places past them keep their values.
+    pub fn write_frame(&mut self, numbers: &[i64]) {
+        self.0[FRAME..FRAME + numbers.len()].copy_from_slice(numbers);
+    }
+
+    /// Writes kind, degrees and entries; the frame and the unused places keep their values.
     pub fn write(&mut self, shape: Shape, entries: &[[i64; 4]]) {
         self.0[..3].copy_from_slice(&head(shape));
         for (place, number) in self.0[ENTRIES..].iter_mut().zip(entries.iter().flatten()) {
@@ -48,6 +65,41 @@ impl Net {
         Shape::named(self.0[0], self.0[1], self.0[2])
     }
 
+    /// The numbers of the frame.
+    pub fn frame(&self, shape: Shape) -> &[i64] {
+        &self.0[FRAME..FRAME + shape.kind.frame_numbers()]
+    }
+
+    /// Where the numbers of a vertex stand; vertices are counted from 1.
+    pub fn vertex_places(shape: Shape, vertex: u8) -> Range<usize> {
+        let numbers = shape.kind.vertex_numbers();
+        let first = FRAME + numbers * place_of(vertex);
+        first..first + numbers
+    }
+
+    /// q of the weights of one group, in 128 bits: a handed frame has any 64-bit numbers.
+    pub fn named(&self, shape: Shape, group: usize, weights: &[i64]) -> Vec<i128> {
+        let mut q = vec![0; shape.kind.vertex_numbers()];
+        for (place, &weight) in shape.groups()[group].span().zip(weights) {
+            for (sum, number) in q.iter_mut().zip(&self.0[Net::vertex_places(shape, place as u8 + 1)]) {
+                *sum += i128::from(weight) * i128::from(*number);
+            }
+        }
+        q
+    }
+
+    /// The vertex that a move puts in place of this one, by the weights or by a flip.
+    pub fn new_vertex(&self, shape: Shape, operation: u8, vertex: u8, weights: Weights) -> Vec<i128> {
+        if operation == FLIP {
+            return self.0[Net::vertex_places(shape, vertex)].iter().map(|&number| -i128::from(number)).collect();
+        }
+        self.named(shape, shape.kind.group_of(place_of(vertex)), &weights)
+    }
+
+    pub fn frame_in_range(&self, shape: Shape) -> bool {
+        self.frame(shape).iter().all(|&number| in_range(number))
+    }
+
     /// The numbers of the entries that this shape uses.
     pub fn numbers(&self, shape: Shape) -> &[i64] {
         &self.0[ENTRIES..ENTRIES + 4 * shape.places()]
@@ -59,13 +111,15 @@ impl Net {
         self.numbers(shape).chunks(4).map(entry).collect()
     }
 
-    /// The net of the same rectangular patch with its two pairs exchanged.
+    /// The net of the same rectangular patch with its two pairs exchanged, frame and entries.
     pub fn with_pairs_exchanged(&self, shape: Shape) -> Net {
         let [p, q] = shape.degrees;
         let entries = self.used(shape);
         let turned: Entries = (0..=q).flat_map(|j| (0..=p).map(move |i| i * (q + 1) + j)).map(|place| entries[place]).collect();
         let mut other = self.clone();
         other.write(Shape::rect(q, p), &turned);
+        let (first, second) = self.frame(shape).split_at(shape.kind.frame_numbers() / 2);
+        other.write_frame(&[second, first].concat());
         other
     }
 
@@ -75,35 +129,65 @@ impl Net {
         at_point(shape, self.used(shape), weights).err()
     }
 
-    /// The room is judged first (11), then the net itself (4, then 10), whatever the
-    /// call; then the call (8, 9, 10). A refused call leaves the net, and so does a point.
+    /// The shape of a net on which nothing but size can refuse this call, or the number of the
+    /// first refusal before: the room (11), the net itself (4, then 10), the call (8, 9), the
+    /// handed frame, whatever the call, and the q of a replace (12).
+    pub fn judged(&self, call: &Call) -> Result<Shape, u8> {
+        if self.is_short() {
+            return Err(11);
+        }
+        let shape = self.shape().ok_or(4)?;
+        if !self.numbers(shape).iter().all(|&component| in_range(component)) {
+            return Err(10);
+        }
+        if let Some(number) = refused_by_itself(shape.kind, call) {
+            return Err(number);
+        }
+        let q = match *call {
+            Call::Move { operation: REPLACE, vertex, weights } => self.new_vertex(shape, REPLACE, vertex, weights),
+            _ => Vec::new(),
+        };
+        if !self.frame_in_range(shape) || !q.iter().all(|&number| within_range(number)) {
+            return Err(12);
+        }
+        Ok(shape)
+    }
+
+    /// What is refused before size, then size (10). A refused call leaves the net, and so does
+    /// a point. A move that is taken leaves all of the frame but its vertex.
     pub fn answer(&mut self, call: &Call) -> Answer {
         self.try_answer(call).unwrap_or_else(Answer::Refused)
     }
 
     fn try_answer(&mut self, call: &Call) -> Result<Answer, u8> {
-        if self.is_short() {
-            return Err(11);
-        }
-        let shape = self.shape().ok_or(4)?;
+        let shape = self.judged(call)?;
         let entries = self.used(shape);
-        if !all_in_range(&entries) {
-            return Err(10);
-        }
-        if let Some(number) = refused_before_size(shape.kind, call) {
-            return Err(number);
-        }
-        match *call {
-            Call::Move { operation: FLIP, vertex, .. } => self.write(shape, &flipped(shape, &entries, vertex)),
-            Call::Move { vertex, weights, .. } => {
-                let group = shape.kind.group_of(place_of(vertex));
-                let levels = levels(shape, entries, group, &weights).ok_or(10)?;
-                self.write(shape, &replaced(shape, &levels, vertex));
-            }
+        let (operation, vertex, weights) = match *call {
+            Call::Move { operation, vertex, weights } => (operation, vertex, weights),
             Call::Point { weights } => return found(at_point(shape, entries, weights).map_err(|_| 10)?),
-        }
+        };
+        let moved = if operation == FLIP {
+            flipped(shape, &entries, vertex)
+        } else {
+            let group = shape.kind.group_of(place_of(vertex));
+            replaced(shape, &levels(shape, entries, group, &weights).ok_or(10)?, vertex)
+        };
+        let new = self.new_vertex(shape, operation, vertex, weights);
+        self.write(shape, &moved);
+        self.write_vertex(shape, vertex, &new);
         Ok(Answer::Taken)
     }
+
+    /// The numbers of a vertex in its places; they are known to be 64-bit ones.
+    pub fn write_vertex(&mut self, shape: Shape, vertex: u8, numbers: &[i128]) {
+        for (place, &number) in Net::vertex_places(shape, vertex).zip(numbers) {
+            self.0[place] = number as i64;
+        }
+    }
+}
+
+fn within_range(number: i128) -> bool {
+    number.abs() <= i128::from(RANGE)
 }
 
 /// Kind, degree and second degree.
@@ -198,13 +282,85 @@ mod tests {
         let mut net = Net((0..200).map(|place| i64::MIN + place).collect());
         let before = net.clone();
         net.write(shape, &[[1, 2, 3, 4], [5, 6, 7, 8]]);
-        assert_eq!(net.0[..3], [1, 1, 0]);
-        assert_eq!(net.0[3..12], before.0[3..12]);
+        net.write_frame(&[0, 1, 1, 1]);
+        assert_eq!(net.0[..7], [1, 1, 0, 0, 1, 1, 1]);
+        assert_eq!(net.0[7..12], before.0[7..12]);
         assert_eq!(net.0[12..20], [1, 2, 3, 4, 5, 6, 7, 8]);
         assert_eq!(net.0[20..], before.0[20..]);
-        let flip = Call::Move { operation: FLIP, vertex: 1, weights: NO_WEIGHTS };
+        let flip = Call::Move { operation: FLIP, vertex: 2, weights: NO_WEIGHTS };
         assert_eq!(net.answer(&flip), Answer::Taken);
-        assert_eq!(net.0[12..21], [-1, -2, -3, -4, 5, 6, 7, 8, before.0[20]]);
+        assert_eq!(net.0[..7], [1, 1, 0, 0, 1, -1, -1]);
+        assert_eq!(net.0[7..12], before.0[7..12]);
+        assert_eq!(net.0[12..21], [1, 2, 3, 4, -5, -6, -7, -8, before.0[20]]);
+    }
+
+    /// A net of zeros of degree 1 over this frame.
+    fn zeros(shape: Shape, frame: &[i64]) -> Net {
+        let mut net = Net::empty();
+        net.write(shape, &vec![[0; 4]; shape.places()]);
+        net.write_frame(frame);
+        net
+    }
+
+    #[test]
+    fn a_move_changes_its_own_vertex_in_the_frame() {
+        let replace = |vertex, weights| Call::Move { operation: REPLACE, vertex, weights };
+        let flip = |vertex| Call::Move { operation: FLIP, vertex, weights: NO_WEIGHTS };
+        let (patch, rect) = (Shape::patch(1), Shape::rect(1, 1));
+        for (shape, frame, call, wanted) in [
+            (patch, &[1, 2, 3, 4, 5, 6, 7, 8, 9][..], replace(2, [1, 10, -1, 0]), &[1, 2, 3, 34, 44, 54, 7, 8, 9][..]),
+            (patch, &[1, 2, 3, 4, 5, 6, 7, 8, 9], flip(3), &[1, 2, 3, 4, 5, 6, -7, -8, -9]),
+            (rect, &[1, 2, 3, 4, 5, 6, 7, 8], replace(3, [2, 1, 0, 0]), &[1, 2, 3, 4, 17, 20, 7, 8]),
+            (rect, &[1, 2, 3, 4, 5, 6, 7, 8], replace(2, [2, 1, 0, 0]), &[1, 2, 5, 8, 5, 6, 7, 8]),
+            (rect, &[1, 2, 3, 4, 5, 6, 7, 8], flip(4), &[1, 2, 3, 4, 5, 6, -7, -8]),
+            (patch, &[0; 9], replace(1, [1, 1, 1, 0]), &[0; 9]),
+        ] {
+            let mut net = zeros(shape, frame);
+            assert_eq!(net.answer(&call), Answer::Taken);
+            assert_eq!(net, zeros(shape, wanted));
+        }
+    }
+
+    /// 2 to the 48th passes in the frame and in q, one more is 12: in the frame for every call,
+    /// in q for a replace alone. 8 and 9 go before it, and size comes after it.
+    #[test]
+    fn a_frame_beyond_the_range_is_twelve() {
+        let shape = Shape::curve(1);
+        let replace = |weights| Call::Move { operation: REPLACE, vertex: 2, weights };
+        let flip = Call::Move { operation: FLIP, vertex: 2, weights: NO_WEIGHTS };
+        let point = |weights| Call::Point { weights };
+        let answer = |frame: [i64; 4], x: i64, call: Call| {
+            let mut net = zeros(shape, &frame);
+            net.0[ENTRIES + 4] = x;
+            match net.answer(&call) {
+                Answer::Refused(number) => number,
+                _ => 0,
+            }
+        };
+        for edge in [RANGE, -RANGE] {
+            let one = edge.signum();
+            let frame = [0, edge, 1, one];
+            assert_eq!(answer(frame, 0, replace([1, 0, 0, 0])), 9);
+            assert_eq!(answer(frame, 0, replace([1, -1, 0, 0])), 0);
+            assert_eq!(answer(frame, 0, replace([1, 1, 0, 0])), 12);
+            assert_eq!(answer(frame, 0, replace([4096, 0, 0, 0])), 9);
+            assert_eq!(answer(frame, 0, replace([4096, 1, 1, 0])), 8);
+            assert_eq!(answer(frame, RANGE, replace([1, 2, 0, 0])), 12);
+            assert_eq!(answer(frame, RANGE, replace([0, 2, 0, 0])), 10);
+            assert_eq!(answer(frame, RANGE + 1, replace([1, 1, 0, 0])), 10);
+            assert_eq!(answer(frame, 0, point([4096, 4096, 0, 0])), 0);
+            assert_eq!(answer(frame, 0, flip), 0);
+        }
+        for beyond in [RANGE + 1, -RANGE - 1, i64::MAX, i64::MIN] {
+            for frame in [[beyond, 0, 0, 0], [0, beyond, 0, 0], [0, 0, beyond, 0], [0, 0, 0, beyond]] {
+                assert_eq!(answer(frame, 0, replace([0, 1, 0, 0])), 12);
+                assert_eq!(answer(frame, 0, flip), 12);
+                assert_eq!(answer(frame, 0, point([0, 1, 0, 0])), 12);
+                assert_eq!(answer(frame, 0, point([0, 0, 0, 0])), 9);
+                assert_eq!(answer(frame, RANGE, point([0, 2, 0, 0])), 12);
+                assert_eq!(answer(frame, RANGE + 1, flip), 10);
+            }
+        }
     }
 
     #[test]

@@ -41,7 +41,7 @@ impl Library for Model {
             return Err(Refusal { number: 11, offset: 0 });
         }
         let (record, first) = record::read_with_net(bytes)?;
-        net.write(record.shape, &first);
+        net.write_first(&record, &first);
         Ok(())
     }
 

@@ -1,7 +1,7 @@
 //! The comparison machine: polynomials and a frame of numbers of any size. It is
 //! never shown a net, so its answers do not lean on the ones it checks.
 
-use crate::calls::{place_of, refused_before_size, Answer, Call, Weights, FLIP};
+use crate::calls::{place_of, refused_by_itself, Answer, Call, Weights, FLIP};
 use crate::exact::Exact;
 use crate::polar::{parameter, Parameter, Polynomials, Whole};
 use crate::projection::project;
@@ -28,9 +28,14 @@ impl Machine {
         &self.frame
     }
 
+    /// The numbers of the frame, vertex by vertex: T, Z or U, V, Z.
+    pub fn frame_numbers(&self) -> Vec<Exact> {
+        self.frame.iter().flat_map(|vertex| self.shape().kind.numbers_of(vertex)).collect()
+    }
+
     /// Only a move that is taken touches the frame.
     pub fn answer(&mut self, call: &Call) -> Answer {
-        if let Some(number) = refused_before_size(self.shape().kind, call) {
+        if let Some(number) = refused_by_itself(self.shape().kind, call) {
             return Answer::Refused(number);
         }
         match *call {
@@ -57,12 +62,16 @@ impl Machine {
         Answer::Taken
     }
 
-    /// The new vertex's own group is mixed with it, the other one is not.
+    /// The new vertex itself is judged before its polar values (12 before 10). Its own group
+    /// is mixed with it, the other one is not.
     fn replace(&mut self, vertex: u8, weights: Weights) -> Answer {
         let place = place_of(vertex);
         let mut groups = self.groups();
         let own = self.shape().kind.group_of(place);
         let q = named(&groups[own], &weights);
+        if q.iter().any(|number| number.when_in_range().is_none()) {
+            return Answer::Refused(12);
+        }
         mix(&mut groups[own], &q);
         if !self.polynomials.all_in_range(&groups) {
             return Answer::Refused(10);
@@ -72,8 +81,8 @@ impl Machine {
     }
 
     /// One group after the other: its own are mixed with its q, those before it have only
-    /// their q, and those after it have their frame. The value comes from powers, by another
-    /// way than the σ of the size test.
+    /// their q, and those after it have their frame. The numbers of q may be of any size. The
+    /// value comes from powers, by another way than the σ of the size test.
     fn point(&self, weights: Weights) -> Answer {
         let mut groups = self.groups();
         let mut qs = Vec::new();

@@ -2,7 +2,7 @@
 
 use independent::compare::{compare_calls, hex};
 use independent::compare_text::{compare_text, records};
-use independent::counts::Counts;
+use independent::counts::{Counts, OF_A_LIBRARY, OF_A_PROGRAM};
 use independent::library::Model;
 use independent::selftest::selftest;
 use independent::text::{text, LONGEST_INPUT};
@@ -27,15 +27,15 @@ fn main() -> ExitCode {
             _ => usage(),
         },
         Some("compare-text") => match (words.get(1), number(2, 1000), number(3, 1)) {
-            (Some(program), Some(count), Some(seed)) => close(compare_text(program, count as usize, seed), started, 10),
+            (Some(program), Some(count), Some(seed)) => close(compare_text(program, count as usize, seed), started, OF_A_PROGRAM),
             _ => usage(),
         },
         Some("selftest") => match (number(1, 2000), number(2, 1)) {
-            (Some(lists), Some(seed)) => close(selftest(lists as usize, seed), started, 11),
+            (Some(lists), Some(seed)) => close(selftest(lists as usize, seed), started, OF_A_LIBRARY),
             _ => usage(),
         },
         Some("counts") => match (number(1, 4000), number(2, 1)) {
-            (Some(lists), Some(seed)) => close(compare_calls(&mut Model, lists as usize, seed), started, 11),
+            (Some(lists), Some(seed)) => close(compare_calls(&mut Model, lists as usize, seed), started, OF_A_LIBRARY),
             _ => usage(),
         },
         _ => usage(),
@@ -72,7 +72,7 @@ fn print_records(count: usize, seed: u64) -> ExitCode {
 }
 
 /// The closing lines; a disagreement fails, and so does anything that never occurred.
-fn close(result: Result<Counts, String>, started: Instant, last_refusal: usize) -> ExitCode {
+fn close(result: Result<Counts, String>, started: Instant, refusals: &[usize]) -> ExitCode {
     let counts = match result {
         Ok(counts) => counts,
         Err(what) => {
@@ -80,10 +80,10 @@ fn close(result: Result<Counts, String>, started: Instant, last_refusal: usize) 
             return ExitCode::FAILURE;
         }
     };
-    let missing = counts.missing(last_refusal);
+    let missing = counts.missing(refusals);
     let seconds = started.elapsed().as_secs_f64();
     let rate = counts.calls as f64 / seconds.max(1e-9);
-    println!("{}\n{seconds:.1} s, {rate:.0} a second; disagreements 0", counts.closing_lines(last_refusal));
+    println!("{}\n{seconds:.1} s, {rate:.0} a second; disagreements 0", counts.closing_lines(refusals));
     if missing.is_empty() {
         return ExitCode::SUCCESS;
     }

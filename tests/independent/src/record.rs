@@ -6,7 +6,7 @@ use crate::shape::{Kind, Shape};
 
 /// 2 to the 20th, either sign.
 pub const LARGEST_COEFFICIENT: i64 = 1_048_576;
-/// Either sign, and only as read: moves may take the frame past it.
+/// Either sign, and only as read: moves may take the frame past it, up to 2 to the 48th.
 pub const LARGEST_FRAME_NUMBER: i64 = 4;
 pub const LARGEST_MOVE_COUNT: usize = 32;
 
@@ -32,6 +32,11 @@ pub struct Record {
 impl Record {
     pub fn polynomials(&self) -> Polynomials {
         Polynomials::new(self.shape, &self.coefficients)
+    }
+
+    /// The numbers of the frame, vertex by vertex: T, Z or U, V, Z.
+    pub fn frame_numbers(&self) -> Vec<i64> {
+        self.frame.iter().flat_map(|vertex| self.shape.kind.numbers_of(vertex)).collect()
     }
 
     /// Polar values of the frame's own vertices, in the net's order; 7 if one of them
@@ -202,8 +207,7 @@ pub fn frame(kind: Kind, numbers: &[i64]) -> Option<Vec<[i64; 3]>> {
     if !numbers.iter().all(|number| limits.contains(number)) {
         return None;
     }
-    let numbers_of_each = if kind == Kind::Patch { 3 } else { 2 };
-    let frame: Vec<[i64; 3]> = numbers.chunks(numbers_of_each).map(vertex).collect();
+    let frame: Vec<[i64; 3]> = numbers.chunks(kind.vertex_numbers()).map(vertex).collect();
     is_frame(kind, &frame).then_some(frame)
 }
 

@@ -11,7 +11,7 @@ use crate::record::Record;
 use crate::shape::Shape;
 use crate::text::text;
 
-pub const CIRCLE_TEXT: &str = "curve 2 2\n0 2 0 0 2\n1 2 2 0 2\n2 0 4 0 4\nat 3fe3333333333333 3fe999999999999a 0000000000000000\n";
+pub const CIRCLE_TEXT: &str = "curve 2 2\nframe 0 1 1 1\n0 2 0 0 2\n1 2 2 0 2\n2 0 4 0 4\nat 3fe3333333333333 3fe999999999999a 0000000000000000\n";
 
 /// The circle record, byte by byte as the paper has it.
 pub fn circle_record() -> Vec<u8> {
@@ -41,7 +41,7 @@ pub fn rect_record() -> Vec<u8> {
 }
 
 /// s2 becomes r2 + s2; the point is at q1 = (1, 2) and q2 = r2 − s2 = (−1, −1).
-pub const RECT_TEXT: &str = "rect 1 1 1\nmove 2 refused 8\n0 0 0 0 0 1\n0 1 0 1 0 2\n1 0 1 0 0 1\n1 1 2 1 1 2\n\
+pub const RECT_TEXT: &str = "rect 1 1 1\nmove 2 refused 8\nframe 0 1 1 1 0 1 1 2\n0 0 0 0 0 1\n0 1 0 1 0 2\n1 0 1 0 0 1\n1 1 2 1 1 2\n\
                              at 3fe0000000000000 3ff0000000000000 3fe0000000000000\n";
 
 fn from_hex(digits: &str) -> Vec<u8> {
@@ -128,6 +128,10 @@ impl Bench {
     fn entries(&self) -> Vec<[i64; 4]> {
         self.net.used(self.machine.shape())
     }
+
+    fn frame(&self) -> &[i64] {
+        self.net.frame(self.machine.shape())
+    }
 }
 
 fn same<T: PartialEq + std::fmt::Debug>(name: &str, given: T, wanted: T) -> Result<(), String> {
@@ -156,7 +160,8 @@ pub fn check_samples() -> Result<(), String> {
     line_samples()?;
     weight_samples()?;
     saddle_samples()?;
-    torus_samples()
+    torus_samples()?;
+    frame_samples()
 }
 
 fn circle_samples() -> Result<(), String> {
@@ -232,6 +237,31 @@ fn torus_samples() -> Result<(), String> {
     same("torus, third second net", bench.entries(), wanted(|i, j| 4 - i - j))?;
     bench.call(flip(1))?;
     same("torus, second second net", bench.entries(), wanted(|_, j| 2 - j))
+}
+
+/// E5: the frame of the circle along B3 and B4, and x = T³ over r = (0, 1), whose entries
+/// do not see r: it comes to 2 to the 48th, and r + s is one beyond.
+fn frame_samples() -> Result<(), String> {
+    let mut bench = Bench::new(&circle());
+    same("circle's frame", bench.frame(), &[0, 1, 1, 1])?;
+    bench.call(replace(2, [1, 1, 0, 0]))?;
+    same("frame after B3", bench.frame(), &[0, 1, 1, 2])?;
+    bench.call(flip(1))?;
+    same("frame after a flip of r", bench.frame(), &[0, -1, 1, 2])?;
+    bench.call(replace(1, [0, 1, 0, 0]))?;
+    same("frame after a refusal", bench.frame(), &[0, -1, 1, 2])?;
+    let mut bench = Bench::new(&curve([[0, 0, 1], [1, 0, 1]], &[[0; 4], [0; 4], [0; 4], [1, 0, 0, 0]]));
+    for _ in 0..4 {
+        same("r grows", bench.call(replace(1, [4096, 0, 0, 0]))?, Answer::Taken)?;
+    }
+    same("2^48", bench.frame(), &[0, 1 << 48, 1, 1])?;
+    same("2^48 + 1", bench.call(replace(2, [1, 1, 0, 0]))?, Answer::Refused(12))?;
+    same("a point's q", components(bench.call(Call::Point { weights: [4096, 1, 0, 0] })?), [3, 0, 0, 0])?;
+    same("2^48 - 1", bench.call(replace(2, [-1, 1, 0, 0]))?, Answer::Taken)?;
+    same("entries", bench.entries(), vec![[0; 4], [0; 4], [0; 4], [3, 0, 0, 0]])?;
+    same("negative", bench.frame(), &[0, 1 << 48, 1, 1 - (1 << 48)])?;
+    bench.call(flip(1))?;
+    same("-2^48", bench.frame(), &[0, -(1 << 48), 1, 1 - (1 << 48)])
 }
 
 #[cfg(test)]

@@ -38,11 +38,12 @@ pub type Copies = [usize; MOST_VERTICES];
 /// a rectangular patch, each in its own group.
 pub type Exponents = (usize, usize);
 
-/// 2 to the 48th, itself still in range, for either sign.
+/// 2 to the 48th, itself still in range, for either sign: of a component of an entry, and
+/// of a number of a frame.
 pub const RANGE: i64 = 281_474_976_710_656;
 
-pub fn in_range(component: i64) -> bool {
-    (-RANGE..=RANGE).contains(&component)
+pub fn in_range(number: i64) -> bool {
+    (-RANGE..=RANGE).contains(&number)
 }
 
 impl Kind {
@@ -112,9 +113,22 @@ impl Kind {
         self.sizes().iter().sum()
     }
 
-    /// How many numbers a frame has: a vertex has as many as its group has vertices.
+    /// How many numbers a vertex has: as many as its group has vertices.
+    pub fn vertex_numbers(self) -> usize {
+        self.sizes()[0]
+    }
+
+    /// How many numbers a frame has.
     pub fn frame_numbers(self) -> usize {
-        self.sizes().iter().map(|size| size * size).sum()
+        self.vertices() * self.vertex_numbers()
+    }
+
+    /// The numbers of a parameter point (U, V, Z): all three, or T and Z of (T, 0, Z).
+    pub fn numbers_of<N: Clone>(self, [u, v, z]: &[N; 3]) -> Vec<N> {
+        match self {
+            Kind::Patch => vec![u.clone(), v.clone(), z.clone()],
+            Kind::Curve | Kind::Rect => vec![u.clone(), z.clone()],
+        }
     }
 
     /// All shapes of this kind.
@@ -298,6 +312,8 @@ mod tests {
         assert_eq!(counts(Kind::Patch), (3, 9, vec![0..3]));
         assert_eq!(counts(Kind::Rect), (4, 8, vec![0..2, 2..4]));
         assert_eq!([0, 1, 2, 3].map(|place| Kind::Rect.group_of(place)), [0, 0, 1, 1]);
+        assert_eq!(Kind::Rect.numbers_of(&[5, 0, 7]), [5, 7]);
+        assert_eq!(Kind::Patch.numbers_of(&[5, 6, 7]), [5, 6, 7]);
     }
 
     #[test]

@@ -10,11 +10,11 @@ use crate::shape::{Copies, Kind, Shape};
 /// What comes after so many bytes is not read.
 pub const LONGEST_INPUT: usize = 2048;
 
-/// What a record comes to: the refusal, or the moves' answers, the net reached and
-/// the point's answer.
+/// What a record comes to: the refusal, or the moves' answers, the net reached with the
+/// numbers of its frame, and the point's answer.
 pub enum Outcome {
     Refused(Refusal),
-    Made { shape: Shape, moves: Vec<Answer>, net: Vec<[i64; 4]>, point: Option<Answer> },
+    Made { shape: Shape, moves: Vec<Answer>, frame: Vec<i64>, net: Vec<[i64; 4]>, point: Option<Answer> },
 }
 
 pub fn outcome(bytes: &[u8]) -> Outcome {
@@ -28,10 +28,10 @@ pub fn outcome(bytes: &[u8]) -> Outcome {
 fn made(record: &Record, first: &[[i64; 4]]) -> Outcome {
     let shape = record.shape;
     let mut net = Net::empty();
-    net.write(shape, first);
+    net.write_first(record, first);
     let moves = record.moves.iter().map(|call| net.answer(call)).collect();
     let point = record.point.map(|weights| net.answer(&Call::Point { weights }));
-    Outcome::Made { shape, moves, net: net.used(shape), point }
+    Outcome::Made { shape, moves, frame: net.frame(shape).to_vec(), net: net.used(shape), point }
 }
 
 pub fn text(bytes: &[u8]) -> String {
@@ -41,9 +41,10 @@ pub fn text(bytes: &[u8]) -> String {
 pub fn write(outcome: &Outcome) -> String {
     match outcome {
         Outcome::Refused(Refusal { number, offset }) => format!("refused {number} at {offset}\n"),
-        Outcome::Made { shape, moves, net, point } => {
+        Outcome::Made { shape, moves, frame, net, point } => {
             let mut text = first_line(*shape);
             text.extend(moves.iter().enumerate().map(|(before, answer)| move_line(before + 1, answer)));
+            text += &frame_line(frame);
             text.extend(shape.copies().iter().zip(net).map(|(copies, entry)| entry_line(shape.kind, copies, entry)));
             text.extend(point.iter().map(point_line));
             text
@@ -63,6 +64,12 @@ fn move_line(number: usize, answer: &Answer) -> String {
 fn first_line(shape: Shape) -> String {
     let degrees: String = shape.groups().iter().map(|group| format!(" {}", group.degree)).collect();
     format!("{}{degrees} {}\n", shape.kind.word(), scale(shape))
+}
+
+/// The frame that the net is over, right before its entries.
+fn frame_line(frame: &[i64]) -> String {
+    let numbers: String = frame.iter().map(|number| format!(" {number}")).collect();
+    format!("frame{numbers}\n")
 }
 
 /// One line an entry: its index, one number, three or two, before its components.

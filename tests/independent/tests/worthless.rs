@@ -1,15 +1,16 @@
 //! Libraries that are wrong in one place each, the paper's worthless boards among
 //! them. The comparison must find every one.
 
-use independent::calls::{Weights, FLIP, REPLACE};
+use independent::calls::{place_of, Weights, FLIP, REPLACE};
 use independent::compare::compare_calls;
 use independent::first::Given;
-use independent::handed::{Net, ENTRIES, PLACES};
+use independent::handed::{Net, ENTRIES, FRAME, PLACES};
 use independent::library::{Library, Model};
 use independent::polar::scale;
 use independent::projection::{project, Projection, Room, COORDINATES, DIRECTION};
-use independent::record::{told_kind, Lookup, Refusal};
+use independent::record::{read_with_net, told_kind, Lookup, Refusal};
 use independent::shape::{in_range, Copies, Kind, Shape, RANGE};
+use independent::text::text;
 
 #[derive(Clone, Copy, Debug, PartialEq)]
 enum Fault {
@@ -86,6 +87,39 @@ enum Fault {
     OneDeterminantOfAFirstNet,
     FirstNetOfARectNeverTooLarge,
     SecondDegreePrintedFirst,
+    FrameKept,
+    FrameKeptByAFlip,
+    FrameKeptByAReplace,
+    NewVertexInTheNextPlace,
+    QOfTheOtherPair,
+    RefusalLeavesTheNewVertex,
+    TwelveAfterSize,
+    TwelveAfterSizeOfAPoint,
+    TwelveBeforeEight,
+    TwelveBeforeNine,
+    TwelveBeforeTheEntries,
+    FrameLimitOneLess,
+    FrameLimitOneMore,
+    QNotTested,
+    NegativeQNotTested,
+    LastNumberOfQNotTested,
+    PointsQTested,
+    HandedFrameNotTested,
+    HandedFrameNotTestedByFlips,
+    HandedFrameNotTestedByPoints,
+    HandedFrameNotTestedByReplaces,
+    NegativeFramesNotTested,
+    OnlyTheOwnPairTested,
+    OnlyTheMovedVertexTested,
+    UnusedFramePlacesTested,
+    HandedDeterminantTested,
+    FirstNetWithoutItsFrame,
+    RecordsNetWithoutItsFrame,
+    FirstNetZeroesTheFramesRest,
+    TextWithoutTheFrame,
+    TextWithTheRecordsFrame,
+    TextWithTheFrameBeforeTheMoves,
+    TextWithTheFrameLast,
 }
 
 struct Spoiled {
@@ -107,13 +141,164 @@ impl Spoiled {
             Fault::WritesPastTheNet => PLACES,
             _ => return None,
         };
-        (place < net.0.len() && !(place == 191 && net.0[..2] == [2, 8])).then_some(place)
+        let in_use = (place == 191 && net.0[..2] == [2, 8]) || (place == 11 && net.0[0] == 2);
+        (place < net.0.len() && !in_use).then_some(place)
     }
 
     fn write_elsewhere(&self, net: &mut Net) {
         if let Some(place) = self.written_place(net) {
             net.0[place] = 0;
         }
+    }
+
+    /// What a first net leaves in the places of the frame, which held `before`.
+    fn spoil_first_frame(&self, net: &mut Net, before: &[i64]) {
+        let Some(shape) = net.shape() else { return };
+        let used = shape.kind.frame_numbers();
+        match self.fault {
+            Fault::FirstNetWithoutItsFrame | Fault::RecordsNetWithoutItsFrame => net.write_frame(&before[FRAME..FRAME + used]),
+            Fault::FirstNetZeroesTheFramesRest => net.0[FRAME + used..ENTRIES].fill(0),
+            _ => {}
+        }
+    }
+
+    /// Whether a move that is refused 12 passes where the test is as this fault has it.
+    fn overlooks(&self, net: &Net, shape: Shape, operation: u8, vertex: u8, weights: Weights) -> bool {
+        let q = if operation == REPLACE { net.new_vertex(shape, operation, vertex, weights) } else { Vec::new() };
+        let largest = q.iter().map(|number| number.abs()).max().unwrap_or(0);
+        let (frame_good, q_good, limit) = (net.frame_in_range(shape), largest <= i128::from(RANGE), i128::from(RANGE));
+        let good = |places: std::ops::Range<usize>| net.0[places].iter().all(|&number| in_range(number));
+        match self.fault {
+            Fault::FrameLimitOneMore => frame_good && largest == limit + 1,
+            Fault::QNotTested => frame_good,
+            Fault::NegativeQNotTested => frame_good && q.iter().all(|number| *number <= limit),
+            Fault::LastNumberOfQNotTested => frame_good && q.iter().rev().skip(1).all(|number| number.abs() <= limit),
+            Fault::HandedFrameNotTested => q_good,
+            Fault::HandedFrameNotTestedByFlips => operation == FLIP,
+            Fault::HandedFrameNotTestedByReplaces => operation == REPLACE && q_good,
+            Fault::NegativeFramesNotTested => q_good && net.frame(shape).iter().all(|&number| number <= RANGE),
+            Fault::OnlyTheMovedVertexTested => q_good && good(Net::vertex_places(shape, vertex)),
+            Fault::OnlyTheOwnPairTested if shape.kind == Kind::Rect => {
+                let pair = FRAME + 4 * shape.kind.group_of(place_of(vertex));
+                q_good && good(pair..pair + 4)
+            }
+            _ => false,
+        }
+    }
+
+    /// A move without the test for 12, on a net and with weights that are else in order.
+    fn take_unjudged(&mut self, net: &mut Net, shape: Shape, operation: u8, vertex: u8, weights: Weights) -> Result<(), u8> {
+        let mut moved = over_zeros(net, shape);
+        self.model.take(&mut moved, operation, vertex, weights)?;
+        moved.write_frame(net.frame(shape));
+        moved.write_vertex(shape, vertex, &net.new_vertex(shape, operation, vertex, weights));
+        *net = moved;
+        Ok(())
+    }
+
+    /// Moves that are wrong in the frame alone: what they leave in its places, and what they answer
+    /// for it. Nothing if this fault has no say here.
+    fn spoil_frame(
+        &mut self,
+        (net, before): (&mut Net, &Net),
+        answer: Result<(), u8>,
+        (operation, vertex, weights): (u8, u8, Weights),
+    ) -> Option<Result<(), u8>> {
+        let shape = if before.is_short() { None } else { before.shape() };
+        let shape = shape?;
+        let known = (1..=2).contains(&operation) && (1..=shape.vertices()).contains(&usize::from(vertex));
+        let beyond = !before.frame_in_range(shape);
+        match (self.fault, answer) {
+            (_, Err(12)) if self.overlooks(before, shape, operation, vertex, weights) => {
+                return Some(self.take_unjudged(net, shape, operation, vertex, weights));
+            }
+            (Fault::TwelveAfterSize, Err(12)) => {
+                let size = self.model.take(&mut over_zeros(before, shape), operation, vertex, weights);
+                return Some(if size == Err(10) { size } else { answer });
+            }
+            (Fault::TwelveBeforeEight, Err(8)) if beyond => return Some(Err(12)),
+            (Fault::TwelveBeforeNine, Err(9)) => {
+                let q = before.new_vertex(shape, operation, vertex, weights);
+                let large = q.iter().any(|number| number.abs() > i128::from(RANGE));
+                return Some(Err(if beyond || large { 12 } else { 9 }));
+            }
+            (Fault::TwelveBeforeTheEntries, Err(10)) if beyond => return Some(Err(12)),
+            (Fault::RefusalLeavesTheNewVertex, Err(10)) if known && !beyond => {
+                net.write_vertex(shape, vertex, &before.new_vertex(shape, operation, vertex, weights));
+            }
+            (Fault::UnusedFramePlacesTested, Ok(())) if !before.0[FRAME..ENTRIES].iter().all(|&number| in_range(number)) => {
+                *net = before.clone();
+                return Some(Err(12));
+            }
+            (Fault::HandedDeterminantTested, Ok(())) if shape.kind == Kind::Curve && flat(before.frame(shape)) => {
+                *net = before.clone();
+                return Some(Err(12));
+            }
+            (Fault::FrameLimitOneLess, Ok(())) if operation == REPLACE && net.frame(shape).iter().any(|number| number.abs() == RANGE) => {
+                *net = before.clone();
+                return Some(Err(12));
+            }
+            (Fault::FrameKept, Ok(())) => net.write_frame(before.frame(shape)),
+            (Fault::FrameKeptByAFlip, Ok(())) if operation == FLIP => net.write_frame(before.frame(shape)),
+            (Fault::FrameKeptByAReplace, Ok(())) if operation == REPLACE => net.write_frame(before.frame(shape)),
+            (Fault::NewVertexInTheNextPlace, Ok(())) => {
+                net.write_frame(before.frame(shape));
+                let next = place_of(vertex + 1) % shape.vertices();
+                net.write_vertex(shape, next as u8 + 1, &before.new_vertex(shape, operation, vertex, weights));
+            }
+            (Fault::QOfTheOtherPair, Ok(())) if operation == REPLACE && shape.kind == Kind::Rect => {
+                let other = 1 - shape.kind.group_of(place_of(vertex));
+                net.write_vertex(shape, vertex, &before.named(shape, other, &weights));
+            }
+            _ => return None,
+        }
+        Some(answer)
+    }
+
+    /// A point that is wrong in its test of the frame.
+    fn spoil_point(&mut self, net: &Net, answer: Result<(), u8>, weights: Weights, found: &mut [i64]) -> Option<Result<(), u8>> {
+        let shape = if net.is_short() { None } else { net.shape() };
+        let shape = shape?;
+        let beyond = |(group, weights): (usize, Vec<i64>)| net.named(shape, group, &weights).iter().any(|n| n.abs() > i128::from(RANGE));
+        match (self.fault, answer) {
+            (Fault::PointsQTested, Ok(())) => {
+                let large = shape.kind.grouped(&weights).into_iter().enumerate().any(beyond);
+                return Some(if large { Err(12) } else { answer });
+            }
+            (Fault::TwelveAfterSizeOfAPoint, Err(12)) => {
+                let size = self.model.find(&over_zeros(net, shape), weights, &mut [0; 4]);
+                return Some(if size == Err(10) { size } else { answer });
+            }
+            (Fault::NegativeFramesNotTested, Err(12)) if net.frame(shape).iter().any(|&number| number > RANGE) => return None,
+            (Fault::HandedFrameNotTested | Fault::HandedFrameNotTestedByPoints | Fault::NegativeFramesNotTested, Err(12)) => {
+                return Some(self.model.find(&over_zeros(net, shape), weights, found));
+            }
+            (Fault::TwelveBeforeNine, Err(9)) | (Fault::TwelveBeforeEight, Err(8)) if !net.frame_in_range(shape) => {
+                return Some(Err(12));
+            }
+            _ => None,
+        }
+    }
+
+    /// A text with the line of the frame spoiled.
+    fn spoil_text(&self, record: &[u8]) -> Option<String> {
+        let right = text(record);
+        let lines: Vec<&str> = right.split_inclusive('\n').collect();
+        let at = lines.iter().position(|line| line.starts_with("frame"))?;
+        let mut others = lines.clone();
+        let line = others.remove(at);
+        match self.fault {
+            Fault::TextWithoutTheFrame => {}
+            Fault::TextWithTheFrameBeforeTheMoves => others.insert(1, line),
+            Fault::TextWithTheFrameLast => others.push(line),
+            Fault::TextWithTheRecordsFrame => {
+                let numbers = read_with_net(record).ok()?.0.frame_numbers();
+                let line: String = numbers.iter().map(|number| format!(" {number}")).collect();
+                return Some([&lines[..at].concat(), "frame", &line, "\n", &lines[at + 1..].concat()].concat());
+            }
+            _ => return None,
+        }
+        Some(others.concat())
     }
 
     /// A first net of a rectangular patch with the wrong scale or order.
@@ -203,6 +388,18 @@ fn expand(net: &Net, shape: Shape, copies: Copies, qs: &[(usize, &[i64])]) -> [i
     sum
 }
 
+/// The same net over a frame of zeros, where no call is refused 12.
+fn over_zeros(net: &Net, shape: Shape) -> Net {
+    let mut other = net.clone();
+    other.write_frame(&vec![0; shape.kind.frame_numbers()]);
+    other
+}
+
+/// Whether the four numbers of a curve's frame have the determinant 0.
+fn flat(frame: &[i64]) -> bool {
+    i128::from(frame[0]) * i128::from(frame[3]) == i128::from(frame[1]) * i128::from(frame[2])
+}
+
 /// The shape of a net, if it is a rectangular patch.
 fn rect(net: &Net) -> Option<Shape> {
     let shape = if net.is_short() { None } else { net.shape() };
@@ -260,9 +457,11 @@ impl Library for Spoiled {
         if let (Fault::ThreeBytesForACurve, [1, 0, 3, 1 | 2, degree, 0, rest @ ..]) = (self.fault, record) {
             return self.model.read(&[&[1, 0, 2, record[3], *degree], rest].concat(), net);
         }
+        let lent = net.0.clone();
         let before = net.0.get(2).copied().unwrap_or(0);
         let answer = self.model.read(record, net);
         match (self.fault, answer) {
+            (Fault::RecordsNetWithoutItsFrame | Fault::FirstNetZeroesTheFramesRest, Ok(())) => self.spoil_first_frame(net, &lent),
             (Fault::OneScaleForBothPairs | Fault::EntriesJThenI, Ok(())) => self.spoil_first_net(net),
             (Fault::FirstNetOfARectNeverTooLarge, Err(Refusal { number: 7, .. })) if told_kind(record) == Some(Kind::Rect) => {
                 return Ok(());
@@ -283,8 +482,10 @@ impl Library for Spoiled {
     }
 
     fn first(&mut self, given: &Given, net: &mut Net) -> Result<(), u8> {
+        let lent = net.0.clone();
         let answer = self.model.first(given, net);
         match self.fault {
+            Fault::FirstNetWithoutItsFrame | Fault::FirstNetZeroesTheFramesRest if answer.is_ok() => self.spoil_first_frame(net, &lent),
             Fault::FirstNetLooksAtUnusedCoefficients if answer.is_ok() => {
                 let outside = given.coefficients[..180].iter().any(|a| a.unsigned_abs() > 1 << 20);
                 return if outside { Err(6) } else { Ok(()) };
@@ -318,11 +519,14 @@ impl Library for Spoiled {
             let answer = self.model.take(&mut read, operation, vertex, weights);
             if answer.is_ok() {
                 let end = net.0.len();
-                net.0[ENTRIES..].copy_from_slice(&read.0[ENTRIES..end]);
+                net.0[FRAME..].copy_from_slice(&read.0[FRAME..end]);
             }
             return answer;
         }
         let answer = self.model.take(net, operation, vertex, weights);
+        if let Some(spoiled) = self.spoil_frame((&mut *net, &before), answer, (operation, vertex, weights)) {
+            return spoiled;
+        }
         let shape = if before.is_short() { None } else { before.shape() };
         match self.fault {
             Fault::FlipDoesNothing if operation == 2 => *net = before,
@@ -345,6 +549,7 @@ impl Library for Spoiled {
                     let values = plain_replace(&before, shape, vertex, weights);
                     if within(&values, limit) {
                         net.write(shape, &narrow(&values));
+                        net.write_vertex(shape, vertex, &before.new_vertex(shape, operation, vertex, weights));
                         return Ok(());
                     }
                 }
@@ -385,6 +590,9 @@ impl Library for Spoiled {
             return self.model.find(net, [r2, s2, r1, s1], found);
         }
         let answer = self.model.find(net, weights, found);
+        if let Some(spoiled) = self.spoil_point(net, answer, weights, found) {
+            return spoiled;
+        }
         match self.fault {
             Fault::SecondStageLeftOut if answer == Err(10) => {
                 if let Some(value) = self.without_second_stage(net, weights) {
@@ -496,6 +704,11 @@ impl Library for Spoiled {
     }
 
     fn text(&mut self, record: &[u8], buffer: &mut [u8]) -> Result<usize, u8> {
+        if let Some(spoiled) = self.spoil_text(record) {
+            let room = buffer.get_mut(..spoiled.len()).ok_or(11)?;
+            room.copy_from_slice(spoiled.as_bytes());
+            return Ok(spoiled.len());
+        }
         let answer = self.model.text(record, buffer);
         match (self.fault, answer) {
             (Fault::WritesShortBuffers, Err(11)) => buffer.iter_mut().take(1).for_each(|byte| *byte = byte.wrapping_add(1)),
@@ -541,7 +754,14 @@ fn every_fault_is_found() {
         FourthWeightOfAPoint, ThreeBytesForACurve, PairsExchanged, PairsOfAPointExchanged, SecondStageLeftOut,
         SymmetricSizeTest, SecondPairIdle, ThirdWeightOfARect, FlipOnlyInTheFirstPair, OneScaleForBothPairs,
         EntriesJThenI, OneDeterminantOfARecord, OneDeterminantOfAFirstNet, FirstNetOfARectNeverTooLarge,
-        SecondDegreePrintedFirst,
+        SecondDegreePrintedFirst, FrameKept, FrameKeptByAFlip, FrameKeptByAReplace, NewVertexInTheNextPlace, QOfTheOtherPair,
+        RefusalLeavesTheNewVertex, TwelveAfterSize, TwelveAfterSizeOfAPoint, TwelveBeforeEight, TwelveBeforeNine,
+        TwelveBeforeTheEntries, FrameLimitOneLess, FrameLimitOneMore, QNotTested, NegativeQNotTested,
+        LastNumberOfQNotTested, PointsQTested, HandedFrameNotTested, HandedFrameNotTestedByFlips,
+        HandedFrameNotTestedByPoints, HandedFrameNotTestedByReplaces, NegativeFramesNotTested, OnlyTheOwnPairTested,
+        OnlyTheMovedVertexTested, UnusedFramePlacesTested, HandedDeterminantTested, FirstNetWithoutItsFrame,
+        RecordsNetWithoutItsFrame, FirstNetZeroesTheFramesRest, TextWithoutTheFrame, TextWithTheRecordsFrame,
+        TextWithTheFrameBeforeTheMoves, TextWithTheFrameLast,
     ];
     for fault in faults {
         let mut library = Spoiled { fault, model: Model };

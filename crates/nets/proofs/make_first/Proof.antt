@@ -24,8 +24,8 @@ module _ (s : tie.Start) where
   fit : numberCount (groupsOf (s .args .kind) (s .args .degree) (s .args .second)) ≤ 180
   fit = entries-fit (s .args .kind) (s .args .degree) (s .args .second) right
 
-  stores : (room : ℕ) (out : List ℤ) → length out ≡ room → numberCount (groupsOf (s .args .kind) (s .args .degree) (s .args .second)) ≤ room → Stores (s .args .kind) (s .args .degree) (s .args .second) (s .args .net .now) out
-  stores room out kept enough = record { places = s .pre .1; fit = fit; enough = le-trans enough (le-of-eq (sym kept)) }
+  stores : (room : ℕ) (out : List ℤ) → length out ≡ room → numberCount (groupsOf (s .args .kind) (s .args .degree) (s .args .second)) ≤ room → Stores (s .args .kind) (s .args .degree) (s .args .second) (s .args .net .now) (s .args .frame .now) out
+  stores room out kept enough = record { places = s .pre .1; nine = s .pre .0 .nine; fit = fit; enough = le-trans enough (le-of-eq (sym kept)) }
 
 -- the test for small rooms
 few : (c : tie.Then1) → let a = c .before .before .args in numberCount (groupsOf (a .kind) (a .degree) (a .second)) ≤ 24

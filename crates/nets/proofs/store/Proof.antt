@@ -1,41 +1,135 @@
--- `store` meets its contract: the head and the entries go into their places, if the net is in range.
+-- `store` meets its contract: the entries, the frame's numbers and the head go into their places, if the net is in range.
 use borrow.Author.Needs.{needs}
 use borrow.Author.Tests.{not-true, not-false}
-use Prim.Native.Nat.{_≤_}
-use mathlib.Core.Path.{refl, sym, ap, subst}
-use mathlib.Core.List.{[], _∷_, _++_}
-use lib.ListN.{length, take, drop}
+use Prim.Native.Nat.{ℕ, _+_, _≤_}
+use native.Mathlib.Omega.{arith}
+use mathlib.Core.Path.{_≡_, refl, sym, ap, _∙_, subst}
+use borrow.Rule.Slice.PartMut.{putMid}
+use mathlib.Core.List.{List, [], _∷_}
+use lib.IntN.{ℤ}
+use lib.ListN.{length, take, drop, length-drop}
+use lib.Seq.{length-take-le}
+use Rattle.entries.specs.Entries.{numberCount}
+use Rattle.kinds.specs.Kinds.{groupsOf}
+use Rattle.kinds.specs.Frames.{frameCount}
+use Rattle.kinds.proofs.Counts.{frame-few}
 use Rattle.machine.specs.Refusals.{_else_, firstFailed}
-use Rattle.nets.proofs.FirstSteps.{net-put, part-room}
+use Rattle.machine.specs.Lent.{putAt}
+use Rattle.machine.proofs.Lent.{put-length}
+use Rattle.nets.proofs.FirstSteps.{part-copied, net-put}
 use Rattle.nets.proofs.store.Statement.{statement}
 use Rattle.nets.proofs.store.Tie as tie
 
 returns : tie.Need-returns
 returns c = record { number-is = sym (ap (λ b. firstFailed (b else 7 ∷ [])) (not-true (c .before .args .in-range) (c .if1 .taken))); places-are = refl }
 
+-- a part of n places from `at` on
+part-long : (at n : ℕ) (lent : List ℤ) → at + n ≤ length lent → length (take n (drop at lent)) ≡ n
+part-long at n lent h = length-take-le n (drop at lent) (simp length-drop (omega arith))
+
+-- ---- the entries
+
+abbrev first : tie.After-number-count → tie.Start
+first c = c .before .before .before
+
+counted : (c : tie.After-number-count) → let a = first c .args in c .number-count .result ≡ numberCount (groupsOf (a .kind) (a .degree) (a .second))
+counted c = c .number-count .ensures .entries
+
 copy-requires : tie.Need-copy-requires
 copy-requires c κs =
-    let head = c .before .before .before in
-    let s = head .before .before .before in
-    let a = s .args in
-    let count = c .number-count .ensures .entries in (
-      subst (λ k. k ≤ length (take 180 (drop 12 (head .put-head .last .0)))) (sym count) (part-room (a .kind) (a .degree) (a .second) (a .net .now) (a .entries .now) (s .pre) (head .put-head .last .0) (head .put-head .kept .0)),
-      subst (λ k. k ≤ length (a .entries .now)) (sym count) (s .pre .enough),
-    )
+    let s = first c in
+    let room = s .pre .places in
+    (omega (arith, s .pre .fit, part-long 12 180 (s .args .net .now) (omega arith), counted c), omega (arith, s .pre .enough, counted c))
+
+-- the places with the entries
+module _ (c : tie.After-net) where
+  abbrev start : tie.Start
+  start = first (c .before .before)
+
+  abbrev entries : List ℤ
+  entries = take (numberCount (groupsOf (start .args .kind) (start .args .degree) (start .args .second))) (start .args .entries .now)
+
+  abbrev some : List ℤ
+  some = putMid 12 180 (start .args .net .now) (c .before .copy .last .0)
+
+  some-is : some ≡ putAt 12 entries (start .args .net .now)
+  some-is =
+      let lent = start .args .net .now in
+      let room = start .pre .places in
+      let is = counted (c .before .before) in
+      ap (putMid 12 180 lent) (c .before .copy .ensures)
+      ∙ part-copied 12 180 lent (start .args .entries .now) (c .before .before .number-count .result) (omega arith) (omega (arith, start .pre .fit)) (omega (arith, start .pre .enough))
+      ∙ ap (λ k. putAt 12 (take k (start .args .entries .now)) lent) is
+
+  some-long : 193 ≤ length some
+  some-long =
+      let room = start .pre .places in
+      let few = length-take-le (numberCount (groupsOf (start .args .kind) (start .args .degree) (start .args .second))) (start .args .entries .now) (start .pre .enough) in
+      subst (λ k. 193 ≤ k) (sym (ap length some-is ∙ put-length 12 entries (start .args .net .now) (omega (arith, few, start .pre .fit)))) room
+
+-- ---- the frame's numbers
+
+abbrev second : tie.After-frame-count → tie.After-net
+second c = c .before .before
+
+numbered : (c : tie.After-frame-count) → let a = start (second c) .args in c .frame-count .result ≡ frameCount (groupsOf (a .kind) (a .degree) (a .second))
+numbered c = let a = start (second c) .args in c .frame-count .ensures (a .degree) (a .second)
+
+numbers-few : (c : tie.After-frame-count) → c .frame-count .result ≤ 9
+numbers-few c = let a = start (second c) .args in omega (arith, numbered c, frame-few (a .kind) (a .degree) (a .second))
+
+copy-requires-2 : tie.Need-copy-requires-2
+copy-requires-2 c κs =
+    let few = numbers-few c in
+    let room = some-long (second c) in
+    (omega (arith, part-long 3 9 (some (second c)) (omega arith)), omega (arith, start (second c) .pre .nine))
+
+-- the places with them too
+module _ (c : tie.After-net2) where
+  abbrev with-entries : tie.After-net
+  with-entries = second (c .before .before)
+
+  abbrev numbers : List ℤ
+  numbers = let a = start with-entries .args in take (frameCount (groupsOf (a .kind) (a .degree) (a .second))) (a .frame .now)
+
+  abbrev more : List ℤ
+  more = putMid 3 9 (some with-entries) (c .before .copy2 .last .0)
+
+  more-is : more ≡ putAt 3 numbers (some with-entries)
+  more-is =
+      let a = start with-entries .args in
+      let room = some-long with-entries in
+      let few = numbers-few (c .before .before) in
+      ap (putMid 3 9 (some with-entries)) (c .before .copy2 .ensures)
+      ∙ part-copied 3 9 (some with-entries) (a .frame .now) (c .before .before .frame-count .result) (omega arith) few (omega (arith, start with-entries .pre .nine))
+      ∙ ap (λ k. putAt 3 (take k (a .frame .now)) (some with-entries)) (numbered (c .before .before))
+
+  more-long : 193 ≤ length more
+  more-long =
+      let a = start with-entries .args in
+      let room = some-long with-entries in
+      let few = frame-few (a .kind) (a .degree) (a .second) in
+      let nine = start with-entries .pre .nine in
+      let own = length-take-le (frameCount (groupsOf (a .kind) (a .degree) (a .second))) (a .frame .now) (omega arith) in
+      subst (λ k. 193 ≤ k) (sym (ap length more-is ∙ put-length 3 numbers (some with-entries) (omega (arith, own)))) room
+
+-- ---- the head
+
+put-head-requires : tie.Need-put-head-requires
+put-head-requires c κs = let room = more-long (c .before) in omega arith
 
 returns-2 : tie.Need-returns-2
 returns-2 c =
-    let copied = c .before in
-    let count = copied .before in
-    let head = count .before .before .before in
-    let branch = head .before .before in
-    let s = branch .before in
+    let head = c .before in
+    let numbered-too = head .before .before in
+    let with-them = with-entries numbered-too in
+    let s = start with-them in
     let a = s .args in
     record {
-      number-is = sym (ap (λ b. firstFailed (b else 7 ∷ [])) (not-false (a .in-range) (branch .if1 .left)));
+      number-is = sym (ap (λ b. firstFailed (b else 7 ∷ [])) (not-false (a .in-range) (with-them .before .before .before .before .if1 .left)));
       places-are =
-          net-put (a .kind) (a .degree) (a .second) (a .net .now) (a .entries .now) (s .pre) (head .put-head .last .0) _ (count .number-count .result) (head .put-head .ensures) (head .put-head .kept .0) (count .number-count .ensures .entries)
-          (ap (λ l. take 12 (head .put-head .last .0) ++ (l ++ drop 180 (drop 12 (head .put-head .last .0)))) (copied .copy .ensures));
+          net-put (a .kind) (a .degree) (a .second) (a .net .now) (a .frame .now) (a .entries .now) (s .pre) (some with-them) (more numbered-too) (head .put-head .last .0)
+          (some-is with-them) (more-is numbered-too) (head .put-head .ensures);
     }
 
 pub store-spec : {M : Type 1} → statement M
@@ -43,11 +137,16 @@ store-spec =
     tie.close
     (tie.spec
     returns
-    (λ c κs. search needs)
     (λ c. search needs)
     (λ c. search needs)
     (λ c. search needs)
     (λ c κs. search needs)
     copy-requires
+    (λ c. search needs)
+    (λ c. search needs)
+    (λ c. search needs)
+    (λ c κs. search needs)
+    copy-requires-2
+    put-head-requires
     (λ c. search needs)
     returns-2)

@@ -1,5 +1,5 @@
 -- `length_allowed` meets its contract: each arm is the row of its field. Kind and degrees are bytes, so nothing wraps.
-use mathlib.Core.Path.{_≡_, refl, ap}
+use mathlib.Core.Path.{_≡_, ap}
 use Prim.Native.Nat.{ℕ, _*_, _<_}
 use native.Mathlib.Omega.{arith}
 use lib.Dec.{eqb}

@@ -18,8 +18,10 @@ pub enum Mood {
     Units,
     /// Weights up to their limits.
     Wide,
-    /// A frame that grows without end under entries that do not.
+    /// A frame that grows as far as it may under entries that do not.
     Growth,
+    /// A frame that comes to 2 to the 48th exactly under entries that do not see it.
+    Frame,
     /// Mostly broken calls.
     Broken,
     /// Entries at 2 to the 48th, as in B10.
@@ -30,13 +32,13 @@ pub enum Mood {
 }
 
 impl Mood {
-    pub const ALL: [Mood; 7] =
-        [Mood::Plain, Mood::Units, Mood::Wide, Mood::Growth, Mood::Broken, Mood::Edge, Mood::Cancel];
+    pub const ALL: [Mood; 8] =
+        [Mood::Plain, Mood::Units, Mood::Wide, Mood::Growth, Mood::Broken, Mood::Edge, Mood::Cancel, Mood::Frame];
 
     pub fn length(self, random: &mut Random) -> usize {
         match self {
             Mood::Units => 50 + random.below(30),
-            Mood::Growth => 8 + random.below(50),
+            Mood::Growth | Mood::Frame => 8 + random.below(50),
             _ => random.below(40),
         }
     }
@@ -145,12 +147,15 @@ impl Caller {
         Call::Move { operation: REPLACE, vertex, weights }
     }
 
-    /// Large on the vertices that the entries do not see; elsewhere the vertex itself.
+    /// Large on the vertices that the entries do not see, or small once they are large
+    /// themselves; elsewhere the vertex itself.
     fn growing(&self, random: &mut Random, place: usize) -> Weights {
         let mut weights = NO_WEIGHTS;
         let span = &self.kind.spans()[self.kind.group_of(place)];
         for &still in self.still.iter().filter(|still| span.contains(still)) {
-            weights[still - span.start] = if random.once_in(3) { wide(random) } else { random.sign() * LARGEST_WEIGHT };
+            let small = if self.mood == Mood::Frame { !random.once_in(8) } else { random.once_in(3) };
+            let large = if random.once_in(3) { wide(random) } else { random.sign() * LARGEST_WEIGHT };
+            weights[still - span.start] = if small { random.between(-1, 1) } else { large };
         }
         if !self.still.contains(&place) {
             weights[place - span.start] = random.sign();
@@ -168,7 +173,7 @@ impl Caller {
     fn weight(&self, random: &mut Random) -> i64 {
         match self.mood {
             Mood::Plain | Mood::Cancel => random.between(-3, 3),
-            Mood::Units | Mood::Growth => random.between(-1, 1),
+            Mood::Units | Mood::Growth | Mood::Frame => random.between(-1, 1),
             Mood::Wide | Mood::Broken => wide(random),
             Mood::Edge => random.sign() * random.pick(&[0, 0, 0, 0, 1, 1, 2, 16]),
         }

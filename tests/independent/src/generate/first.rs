@@ -1,7 +1,7 @@
 //! Numbers for first nets without a record, proper ones and ones outside.
 
 use super::nets::any_number;
-use super::records::{any_made, frame_numbers};
+use super::records::any_made;
 use crate::first::{Given, COEFFICIENTS, FRAME};
 use crate::random::Random;
 use crate::record::{LARGEST_COEFFICIENT, LARGEST_FRAME_NUMBER};
@@ -12,7 +12,7 @@ pub fn any_first(random: &mut Random) -> Given {
     let record = any_made(random).record;
     let kind = record.shape.kind.number();
     let [degree, second] = record.shape.degrees.map(|degree| degree as u8);
-    let frame = frame_numbers(&record);
+    let frame = record.frame_numbers();
     let coefficients = record.coefficients.into_iter().flatten().collect();
     let mut given = Given { kind, degree, second, frame, coefficients };
     for _ in 0..random.pick(&[0, 0, 0, 0, 1, 1, 1, 2]) {

@@ -1,7 +1,7 @@
 //! Handed nets and quadruples of any numbers.
 
 use super::records::any_shape;
-use crate::handed::{head, Net, ENTRIES, PLACES};
+use crate::handed::{head, Net, ENTRIES, FRAME, PLACES};
 use crate::projection::Room;
 use crate::random::Random;
 use crate::shape::{Shape, RANGE};
@@ -13,6 +13,7 @@ pub fn handed(random: &mut Random) -> Net {
     let mut net = Net((0..length).map(|_| any_number(random)).collect());
     let shape = any_shape(random);
     net.0[..3].copy_from_slice(&head(shape));
+    any_frame(random, &mut net.0[FRAME..FRAME + shape.kind.frame_numbers()]);
     let sort = random.below(5);
     let used = &mut net.0[ENTRIES..ENTRIES + 4 * shape.places()];
     used.iter_mut().for_each(|number| *number = entry_number(random, sort));
@@ -28,6 +29,25 @@ pub fn handed(random: &mut Random) -> Net {
         shape_outside(random, &mut net);
     }
     net
+}
+
+/// The numbers of a handed frame: mostly small, at times of any size in range or at its ends,
+/// and now and then with one that is beyond. Nothing asks for a determinant.
+fn any_frame(random: &mut Random, numbers: &mut [i64]) {
+    let sort = random.below(6);
+    numbers.iter_mut().for_each(|number| *number = frame_number(random, sort));
+    if random.once_in(8) {
+        numbers[random.below(numbers.len())] = beyond(random);
+    }
+}
+
+fn frame_number(random: &mut Random, sort: usize) -> i64 {
+    match sort {
+        0 | 1 => random.between(-4, 4),
+        2 => random.pick(&[0, 1, -1]),
+        3 => random.between(-RANGE, RANGE) >> random.below(49),
+        _ => random.pick(&[0, 0, 0, 1, -1, RANGE, -RANGE, RANGE - 1, 1 - RANGE]),
+    }
 }
 
 /// The same, at times in a run that is too short.

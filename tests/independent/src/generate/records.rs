@@ -3,7 +3,7 @@
 use super::caller::{Caller, Mood};
 use super::damage::damaged;
 use super::polynomials::{any_sort, power_of_form, random_parameter, tame, without_coordinate, Aim};
-use crate::calls::{seats, Answer, Call, Weights, NO_WEIGHTS, REPLACE};
+use crate::calls::{seats, Answer, Call, Weights, LARGEST_WEIGHT, NO_WEIGHTS, REPLACE};
 use crate::machine::Machine;
 use crate::polar::{multinomial, scale};
 use crate::random::Random;
@@ -37,6 +37,7 @@ pub fn made(random: &mut Random, shape: Shape, mood: Mood) -> Made {
     for _ in 0..20 {
         let made = match mood {
             Mood::Growth => growing(random, shape),
+            Mood::Frame => full_frame(random, shape),
             Mood::Edge => Some(at_the_edge(random, shape)),
             Mood::Cancel => Some(cancelling(random, shape)),
             _ => Some(ordinary(random, shape)),
@@ -74,6 +75,27 @@ fn growing(random: &mut Random, shape: Shape) -> Option<Made> {
     let unseen = |vertex: &[i64; 3]| (0..3).map(|c| vertex[c] * form[c]).sum::<i64>() == 0;
     let (frame, still) = frame_with(random, shape, group, unseen, vertices - 1)?;
     Some(built(shape, frame, coefficients, Vec::new(), still))
+}
+
+/// A record of that sort, or one whose polynomials are 0, and the calls that bring vertices
+/// that the entries do not see to 2 to the 48th, where their numbers are powers of 2.
+fn full_frame(random: &mut Random, shape: Shape) -> Option<Made> {
+    let mut made = if random.once_in(2) { growing(random, shape)? } else { all_zero(random, shape) };
+    for place in made.still.clone() {
+        let largest = made.record.frame[place].iter().map(|number| number.abs()).max()?;
+        let last = random.sign() * LARGEST_WEIGHT / largest;
+        if !random.once_in(3) {
+            let by = [last, LARGEST_WEIGHT, LARGEST_WEIGHT, LARGEST_WEIGHT];
+            made.opening.extend(by.map(|by| times(shape.kind, place as u8 + 1, by)));
+        }
+    }
+    Some(made)
+}
+
+/// Polynomials that are 0 see no vertex.
+fn all_zero(random: &mut Random, shape: Shape) -> Made {
+    let (frame, still) = (random_frame(random, shape.kind), (0..shape.vertices()).collect());
+    built(shape, frame, vec![[0; 4]; shape.places()], Vec::new(), still)
 }
 
 /// Like B10: coefficients at their limit over a frame of units.
@@ -241,7 +263,7 @@ fn head(shape: Shape) -> Vec<u8> {
 /// The record's fields, one after the other; an absent one is left out.
 pub fn fields(record: &Record) -> Vec<Vec<u8>> {
     let mut list = vec![field(1, &head(record.shape))];
-    list.push(field(2, &shorts(&frame_numbers(record))));
+    list.push(field(2, &shorts(&record.frame_numbers())));
     let coefficients = record.coefficients.iter().flatten().flat_map(|&a| (a as i32).to_be_bytes());
     list.push(field(3, &coefficients.collect::<Vec<u8>>()));
     if !record.moves.is_empty() {
@@ -260,15 +282,6 @@ pub fn encode(record: &Record) -> Vec<u8> {
 pub fn field(tag: u8, value: &[u8]) -> Vec<u8> {
     let length = (value.len() as u16).to_be_bytes();
     [&[tag], &length[..], value].concat()
-}
-
-/// The numbers of a record's frame: T, Z or U, V, Z of each vertex.
-pub fn frame_numbers(record: &Record) -> Vec<i64> {
-    let numbers = |[u, v, z]: &[i64; 3]| match record.shape.kind {
-        Kind::Patch => vec![*u, *v, *z],
-        Kind::Curve | Kind::Rect => vec![*u, *z],
-    };
-    record.frame.iter().flat_map(numbers).collect()
 }
 
 fn shorts(numbers: &[i64]) -> Vec<u8> {

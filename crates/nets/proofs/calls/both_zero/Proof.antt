@@ -1,6 +1,5 @@
 -- `both_zero` meets its contract: the first number settles it, or the second.
-use borrow.Author.Needs.{needs, sfits-of}
-use mathlib.Core.Path.{_≡_, sym, ap, ap₂, _∙_}
+use mathlib.Core.Path.{sym, ap, _∙_}
 use mathlib.Core.Bool.{true, _&&_}
 use Rattle.integers.proofs.All.{and-one}
 use Rattle.projection.specs.Projection.{isZero}

@@ -6,8 +6,6 @@ use mathlib.Core.Path.{_≡_, refl, sym, ap, ap₂, _∙_, subst}
 use lib.IntN.{pos, natAbs}
 use lib.ListN.{getD}
 use Rattle.kinds.specs.Kinds.{laterDimension}
-use Rattle.machine.specs.Calls.{weightList}
-use Rattle.nets.specs.Rows.{weightSum}
 use Rattle.nets.specs.Levels.{Descends, Descended}
 use Rattle.nets.specs.Calls.{laterWeights}
 use Rattle.nets.proofs.calls.descend_later.Statement.{statement}

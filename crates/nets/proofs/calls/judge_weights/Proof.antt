@@ -8,14 +8,14 @@ use Rattle.polar.specs.Groups.{Group}
 use Rattle.kinds.specs.Kinds.{group, groupsOf, dimensionOf, laterGroups, laterDimension}
 use Rattle.kinds.proofs.Limits.{dimension-few, groups-some, later-none, later-one, pairs-only}
 use Rattle.machine.specs.Refusals.{firstFailed}
-use Rattle.machine.specs.Calls.{beforeSize}
+use Rattle.machine.specs.Calls.{ownTests}
 use Rattle.machine.specs.declared.Call.the-variants.{Point}
 use Rattle.nets.proofs.calls.judge_weights.Statement.{statement}
 use Rattle.nets.proofs.calls.judge_weights.Tie as tie
 
 -- the tests of a point, by the groups
 abbrev number : tie.Start → List Group → ℕ
-number s gs = firstFailed (beforeSize gs (Point (s .args .weights)))
+number s gs = firstFailed (ownTests gs (Point (s .args .weights)))
 
 groups : (s : tie.Start) (p q : ℕ) → groupsOf (s .args .kind) p q ≡ group (dimensionOf (s .args .kind)) p ∷ laterGroups (s .args .kind) q
 groups s p q = groups-some (s .args .kind) p q (λ none. let low = s .pre in omega arith)

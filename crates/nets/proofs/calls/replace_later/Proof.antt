@@ -3,7 +3,6 @@ use borrow.Author.Needs.{needs}
 use Prim.Native.Nat.{_*_, _≤_}
 use native.Mathlib.Omega.{arith}
 use mathlib.Core.Path.{_≡_, sym, ap, subst}
-use lib.ListN.{length}
 use Rattle.entries.specs.Rows.{size}
 use Rattle.nets.proofs.calls.replace_later.Statement.{statement}
 use Rattle.nets.proofs.calls.replace_later.Tie as tie

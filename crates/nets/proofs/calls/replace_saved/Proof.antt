@@ -1,15 +1,12 @@
 -- `replace_saved` meets its contract: the numbers are copied, worked on in their places, and put back where one part is out of range.
 use borrow.Author.Needs.{needs}
-use borrow.Author.Tests.{not-true, not-false}
 use Prim.Native.Nat.{ℕ, _*_, _≤_}
 use native.Mathlib.Omega.{arith}
 use mathlib.Core.Path.{_≡_, sym, ap, _∙_, subst}
-use mathlib.Core.Bool.{true, false}
-use mathlib.Core.List.{List}
-use lib.IntN.{ℤ, pos}
+use mathlib.Core.Bool.{false}
+use lib.IntN.{pos}
 use lib.ListN.{length, getD, take}
 use Rattle.entries.specs.Rows.{size}
-use Rattle.machine.specs.Calls.{weightList}
 use Rattle.nets.specs.Rows.{written}
 use Rattle.nets.proofs.Lists.{copied-front}
 use Rattle.nets.proofs.Parts.{put-back}

@@ -1,69 +1,95 @@
--- `replace_vertex` meets its contract: the vertex is one of the first group, which is replaced in its rows, or one of the second, which is replaced in each part.
+-- `replace_vertex` meets its contract: the vertex is one of the first group, which is replaced in its rows, of four numbers where there is no second group, or one of the second, which is
+-- replaced in each part.
 use borrow.Author.Needs.{needs}
 use Prim.Native.Nat.{_+_, _-_, _≤_, _<_}
 use native.Mathlib.Omega.{arith}
-use mathlib.Core.Path.{sym, subst}
+use mathlib.Core.Path.{_≡_, sym, _∙_, subst}
 use Rattle.entries.specs.Rows.{size}
 use Rattle.kinds.specs.Kinds.{dimensionOf, laterDimension}
 use Rattle.machine.specs.Calls.{weightList}
 use Rattle.nets.specs.Parts.{PartsReplaced, AllOrNone}
-use Rattle.nets.proofs.Made.{net-parts, part-few, move-light, move-low, own-high, past-two, second-group, replace-made, replace-asked, replace-stepped, parts-sized, parts-replaced}
+use Rattle.nets.proofs.Made.{rowNumbers, row-of-four, own-only, net-parts, part-few, move-light, move-low, own-high, past-two, second-group, replace-made, replace-asked, replace-stepped, parts-sized, parts-replaced}
 use Rattle.nets.proofs.calls.replace_vertex.Statement.{statement}
 use Rattle.nets.proofs.calls.replace_vertex.Tie as tie
 
 sub-v : tie.Need-sub-v
 sub-v c = move-low (c .before .pre .0)
 
--- ---- a vertex of the first group
+-- ---- the only group
 
-own-low : (c : tie.Then1) → let a = c .before .before .args in a .vertex - 1 ≤ dimensionOf (a .kind)
-own-low c = subst (λ n. c .before .before .args .vertex - 1 ≤ n) (c .before .dimension-of .ensures) (c .if1 .taken)
+none : (c : tie.Then1) → laterDimension (c .before .before .before .args .kind) ≡ 0
+none c = sym (c .before .later-dimension .ensures) ∙ c .if1 .taken
 
-replace-wide-requires : tie.Need-replace-wide-requires
-replace-wide-requires c κs =
-    let branch = c .before .before in
-    let d = branch .before in
-    replace-asked (d .before .pre .0) (own-low branch) (c .later-count .result) (d .dimension-of .result) (c .later-count .ensures) (d .dimension-of .ensures)
+four : (c : tie.Then1) → let a = c .before .before .before .args in 4 ≡ rowNumbers (a .kind) (a .second)
+four c = let a = c .before .before .before .args in sym (row-of-four (a .kind) (a .second) (none c))
+
+replace-entries-requires : tie.Need-replace-entries-requires
+replace-entries-requires c κs =
+    let branch = c .before in
+    let d = branch .before .before in
+    let o = d .before .pre .0 in
+    replace-asked o (own-only o (none branch)) 4 (d .dimension-of .result) (four branch) (d .dimension-of .ensures)
 
 returns : tie.Need-returns
 returns c =
     let r = c .before .before in
+    let branch = r .before .before in
+    let d = branch .before .before in
+    let s = d .before in
+    replace-stepped (s .pre .0) (own-only (s .pre .0) (none branch)) 4 (d .dimension-of .result) (four branch) (d .dimension-of .ensures)
+    (s .pre .1) (r .replace-entries .result) (c .size-number .result) (r .replace-entries .last .0) (c .size-number .ensures) (r .replace-entries .ensures)
+
+-- ---- a vertex of the first of two groups
+
+own-low : (c : tie.Then2) → let a = c .before .before .before .before .args in a .vertex - 1 ≤ dimensionOf (a .kind)
+own-low c = let d = c .before .before .before in subst (λ n. d .before .args .vertex - 1 ≤ n) (d .dimension-of .ensures) (c .if2 .taken)
+
+replace-wide-requires : tie.Need-replace-wide-requires
+replace-wide-requires c κs =
+    let branch = c .before .before in
+    let d = branch .before .before .before in
+    replace-asked (d .before .pre .0) (own-low branch) (c .later-count .result) (d .dimension-of .result) (c .later-count .ensures) (d .dimension-of .ensures)
+
+returns-2 : tie.Need-returns-2
+returns-2 c =
+    let r = c .before .before in
     let branch = r .before .before .before in
-    let d = branch .before in
+    let d = branch .before .before .before in
     let s = d .before in
     replace-stepped (s .pre .0) (own-low branch) (r .before .later-count .result) (d .dimension-of .result) (r .before .later-count .ensures) (d .dimension-of .ensures)
-    (s .pre .1) (r .replace-wide .result) (c .size-number .result) (r .replace-wide .last .0) (c .size-number .ensures) (r .replace-wide .ensures)
+    (s .pre .1) (r .replace-wide .result) (c .size-number2 .result) (r .replace-wide .last .0) (c .size-number2 .ensures) (r .replace-wide .ensures)
 
 -- ---- a vertex of the second group
 
-past : (c : tie.Else1) → let a = c .before .before .args in dimensionOf (a .kind) < a .vertex - 1
-past c = subst (λ n. n < c .before .before .args .vertex - 1) (c .before .dimension-of .ensures) (let over = c .if1 .left in omega arith)
+past : (c : tie.Else2) → let a = c .before .before .before .before .args in dimensionOf (a .kind) < a .vertex - 1
+past c = let d = c .before .before .before in subst (λ n. n < d .before .args .vertex - 1) (d .dimension-of .ensures) (let over = c .if2 .left in omega arith)
 
 sub-replace-later : tie.Need-sub-replace-later
-sub-replace-later c = let branch = c .before .before in past-two (branch .before .before .pre .0) (past branch)
+sub-replace-later c = let branch = c .before in past-two (branch .before .before .before .before .pre .0) (past branch)
 
-asked : (c : tie.Else1) → let s = c .before .before in PartsReplaced (laterDimension (s .args .kind)) (s .args .second) (s .args .vertex - 1 - 2) (s .args .degree + 1) (s .args .weights) (s .args .entries .now) × (size 4 (laterDimension (s .args .kind)) (s .args .second) ≤ 24)
+asked : (c : tie.Else2) → let s = c .before .before .before .before in PartsReplaced (laterDimension (s .args .kind)) (s .args .second) (s .args .vertex - 1 - 2) (s .args .degree + 1) (s .args .weights) (s .args .entries .now) × (size 4 (laterDimension (s .args .kind)) (s .args .second) ≤ 24)
 asked c =
-    let o = c .before .before .pre .0 in
+    let o = c .before .before .before .before .pre .0 in
     let some = second-group o (past c) in
     (record { parts = net-parts o some; vertex = own-high o (past c); light = move-light o }, part-few o some)
 
 replace-later-requires : tie.Need-replace-later-requires
 replace-later-requires c κs =
-    let branch = c .before .before in
-    let s = branch .before .before in
-    subst (λ d. PartsReplaced d (s .args .second) (s .args .vertex - 1 - 2) (s .args .degree + 1) (s .args .weights) (s .args .entries .now) × (size 4 d (s .args .second) ≤ 24)) (sym (c .later-dimension .ensures)) (asked branch)
+    let branch = c .before in
+    let later = branch .before .before in
+    let s = later .before .before in
+    subst (λ d. PartsReplaced d (s .args .second) (s .args .vertex - 1 - 2) (s .args .degree + 1) (s .args .weights) (s .args .entries .now) × (size 4 d (s .args .second) ≤ 24)) (sym (later .later-dimension .ensures)) (asked branch)
 
-returns-2 : tie.Need-returns-2
-returns-2 c =
+returns-3 : tie.Need-returns-3
+returns-3 c =
     let r = c .before .before in
-    let later = r .before in
-    let branch = later .before .before in
-    let s = branch .before .before in
+    let branch = r .before .before in
+    let later = branch .before .before in
+    let s = later .before .before in
     let o = s .pre .0 in
     let is =
     subst (λ d. AllOrNone d (s .args .second) (weightList (s .args .weights)) (s .args .vertex - 1 - 2) (s .args .degree + 1) (s .args .entries .now) (r .replace-later .result) (r .replace-later .last .0)) (later .later-dimension .ensures) (r .replace-later .ensures) in
-    replace-made o (s .pre .1) (r .replace-later .result) (c .size-number2 .result) (r .replace-later .last .0) (c .size-number2 .ensures)
+    replace-made o (s .pre .1) (r .replace-later .result) (c .size-number3 .result) (r .replace-later .last .0) (c .size-number3 .ensures)
     (parts-sized o (past branch) (s .pre .1) (r .replace-later .result) (is .0)) (parts-replaced o (past branch) (s .pre .1) (r .replace-later .result) (r .replace-later .last .0) (is .1))
 
 pub replace-vertex-spec : {M : Type 1} → statement M
@@ -73,14 +99,18 @@ replace-vertex-spec =
     (λ c κs. search needs)
     sub-v
     (λ c κs. search needs)
-    replace-wide-requires
+    replace-entries-requires
     (λ c κs. search needs)
     (λ c. search needs)
     returns
-    (λ c. search needs)
     (λ c κs. search needs)
+    replace-wide-requires
+    (λ c κs. search needs)
+    (λ c. search needs)
+    returns-2
+    (λ c. search needs)
     sub-replace-later
     replace-later-requires
     (λ c κs. search needs)
     (λ c. search needs)
-    returns-2)
+    returns-3)

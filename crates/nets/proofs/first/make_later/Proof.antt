@@ -1,7 +1,6 @@
 -- `make_later` meets its contract: where there is a second group its net over its frame is made in each part.
 use borrow.Author.Needs.{needs}
-use Prim.Native.Nat.{ℕ, _+_}
-use native.Mathlib.Omega.{arith}
+use Prim.Native.Nat.{_+_}
 use mathlib.Core.Path.{_≡_, refl, sym, ap, _∙_, subst}
 use lib.ListN.{take, drop}
 use Rattle.entries.specs.Rows.{size}

@@ -1,8 +1,7 @@
 -- `make_part` meets its contract: over the frame of the coordinates the group's net holds the polar values, so the rows made from it are those of the net over the frame.
 use borrow.Author.Needs.{needs}
 use Prim.Native.Nat.{_≤_}
-use mathlib.Core.Path.{_≡_, sym, ap, _∙_, subst}
-use lib.ListN.{length}
+use mathlib.Core.Path.{sym, _∙_, subst}
 use Rattle.entries.specs.Rows.{size}
 use Rattle.nets.specs.Coordinates.{rowPolar}
 use Rattle.nets.specs.FirstNet.{framed}

@@ -1,0 +1,288 @@
+-- What a move does to the frame that stands in lent places: the code's new vertex is the definition's, its numbers are tested for 12, and to put them into their places is to put the frame
+-- that the move reaches.
+use Prim.Native.Nat.{ℕ, zero, suc, pred, _+_, _*_, _≤_, _<_}
+use native.Mathlib.Nat.{mul-le-mul-left, mul-suc, add-assoc, zero-add}
+use native.Mathlib.Omega.{arith}
+use mathlib.Core.Path.{_≡_, refl, sym, ap, ap₂, _∙_, subst}
+use mathlib.Core.Bool.{Bool, true, false, cond}
+use mathlib.Core.List.{List, [], _∷_, _++_, map}
+use borrow.Author.Tests.{leb-true}
+use borrow.Rule.Slice.PartMut.{putMid, put-same, post-is}
+use lib.Dec.{eqb, lit≤}
+use lib.IntN.{ℤ, pos, negℤ, natAbs}
+use lib.ListN.{length, getD, take, drop, length-drop}
+use lib.Seq.{take-take, drop-drop, getD-drop}
+use Rattle.integers.specs.Test.{all}
+use Rattle.integers.proofs.All.{all-first}
+use Rattle.polar.specs.Sigma.{Point}
+use Rattle.polar.specs.Groups.{Group}
+use Rattle.projection.specs.Projection.{inRange}
+use Rattle.entries.specs.Frame.{combination, vertexAt}
+use Rattle.entries.proofs.Groups.{Framed}
+use Rattle.entries.proofs.ListedOver.{length-listed-over}
+use Rattle.kinds.specs.Kinds.{groupsOf, known}
+use Rattle.kinds.specs.Frames.{Frames, frameOf, frameCount, framesOf, numbersOf}
+use Rattle.kinds.proofs.Counts.{entries-fit, frame-few}
+use Rattle.kinds.proofs.Frames.{framed-numbers, vertex-taken}
+use Rattle.machine.specs.Refusals.{_else_, firstFailed}
+use Rattle.machine.proofs.Refusals.{passes, fails}
+use Rattle.machine.specs.Calls.{weightList, groupAt, ownAt, verticesAt}
+use Rattle.machine.specs.Frames.{pointsOf, framesAfter, newNumbers}
+use Rattle.machine.specs.Nets.{Net, entriesAfter, accepted}
+use Rattle.machine.specs.Lent.{putAt, unlessRefused}
+use Rattle.machine.proofs.Frames.{in-range-numbers, in-range-negative}
+use Rattle.machine.proofs.Over.{located}
+use Rattle.machine.proofs.Lent.{drop-take, put-before, put-within, put-length, part-put}
+use Rattle.machine.specs.declared.Weights.{Weights}
+use Rattle.machine.specs.declared.Call.{Call}
+use Rattle.machine.specs.declared.Call.the-variants.{Move}
+use Rattle.nets.specs.Frames.{frameStart, OwnVertex, Small, NewVertex, pointAt, negativeAt, newVertex, padded}
+use Rattle.nets.specs.Calls.{netFrom, netIn, sizeTest, Stepped, MoveAsked, Moved}
+use Rattle.nets.proofs.Made.{right, move-light, move-high}
+use Rattle.nets.proofs.InPlaces.{frame-numbers, size-same, left-same}
+use Rattle.nets.proofs.Vertices.{vertices-few, start-fits, frame-at, framed-at, point-at, numbers-put, point-long, negative-long, padded-range, padded-taken}
+
+module _ {kind degree second : ℕ} {lent : List ℤ} {operation vertex : ℕ} {weights : Weights} (asked : MoveAsked kind degree second lent (Move operation vertex weights)) where
+  abbrev gs : List Group
+  gs = groupsOf kind degree second
+
+  abbrev frames : Frames
+  frames = framesOf gs (drop 3 lent)
+
+  abbrev move : Call
+  move = Move operation vertex weights
+
+  -- the vertex's group, and its number there
+  abbrev i : ℕ
+  i = groupAt gs (pred vertex)
+
+  abbrev v : ℕ
+  v = ownAt gs (pred vertex)
+
+  abbrev d : ℕ
+  d = verticesAt gs i
+
+  abbrev from : ℕ
+  from = frameStart gs i
+
+  framed : Framed gs frames
+  framed = framed-numbers gs (drop 3 lent)
+
+  place : (i < length gs) × (v < length (getD frames i []))
+  place = located gs frames framed (pred vertex) (move-high (asked .ordered))
+
+  inside : v < d
+  inside = subst (λ k. v < k) (framed-at gs frames i framed (place .0)) (place .1)
+
+  few : (2 ≤ d) × (d ≤ 3)
+  few = vertices-few kind degree second (right (asked .ordered)) i (place .0)
+
+  fits : from + d * d ≤ frameCount gs
+  fits = start-fits gs i (place .0)
+
+  -- the vertex stands within the frame of its group
+  within-square : d * v + d ≤ d * d
+  within-square = let up = mul-le-mul-left d inside in omega (arith, up, mul-suc d v)
+
+  count-few : frameCount gs ≤ 9
+  count-few = frame-few kind degree second
+
+  long : 193 ≤ length lent
+  long = asked .places
+
+  numbers-are : numbersOf frames ≡ take (frameCount gs) (drop 3 lent)
+  numbers-are = frame-numbers kind degree second lent long
+
+  near : all inRange (numbersOf frames) ≡ true
+  near = ap (all inRange) numbers-are ∙ asked .near
+
+  -- its group's frame, which stands behind those of the groups before it
+  frame-is : getD frames i [] ≡ frameOf d (drop (3 + from) lent)
+  frame-is = frame-at gs i (drop 3 lent) (place .0) ∙ ap (frameOf d) (drop-drop from 3 lent)
+
+  small-at : (k : ℕ) → k < d * d → Small lent (3 + from + k)
+  small-at k h =
+      let room = fits in
+      let nine = count-few in
+      let l = long in
+      let at : 3 + (from + k) ≡ 3 + from + k = omega arith in
+      let number = leb-true (natAbs (getD (drop 3 lent) (from + k) (pos 0))) 281474976710656
+      (all-first inRange (frameCount gs) (drop 3 lent) (asked .near) (from + k) (omega arith) (subst (λ j. from + k < j) (sym (length-drop 3 lent)) (omega arith))) in
+      subst (λ x. natAbs x ≤ 281474976710656) (getD-drop 3 lent (from + k) (pos 0) ∙ ap (λ j. getD lent j (pos 0)) at) number
+
+  -- ---- what the code asks for, and gets
+
+  module _ (start count index : ℕ) (own : OwnVertex gs vertex start count index) where
+    pub new-asked : NewVertex lent start count index weights
+    new-asked =
+        subst (λ s. NewVertex lent s count index weights) (sym (own .start-is))
+        (subst (λ c. NewVertex lent (3 + from) c index weights) (sym (own .count-is))
+        (subst (λ j. NewVertex lent (3 + from) d j weights) (sym (own .index-is))
+        (record {
+          blends =
+              record {
+                two = few .0;
+                three = few .1;
+                long = let room = fits in let nine = count-few in let l = long in omega arith;
+                small = small-at;
+                light = move-light (asked .ordered);
+              };
+          inside = inside;
+        })))
+
+    abbrev new : Point
+    new = newVertex start count index operation weights lent
+
+    -- q or the negative
+    abbrev goes : Point
+    goes = cond (eqb operation 1) (getD (pointsOf gs frames move) i []) (map negℤ (vertexAt (getD frames i []) v))
+
+    q-is : pointAt (3 + from) d weights lent ≡ getD (pointsOf gs frames move) i []
+    unfolding pointsOf
+    q-is = sym (point-at gs (weightList weights) frames i (place .0) ∙ ap (λ f. combination d (weightList weights) (vertexAt f)) frame-is)
+
+    negative-is : negativeAt (3 + from + d * v) d lent ≡ map negℤ (vertexAt (getD frames i []) v)
+    negative-is =
+        let room = fits in
+        let nine = count-few in
+        let l = long in
+        let square = within-square in
+        ap (map negℤ)
+        (ap (take d) (sym (drop-drop (d * v) (3 + from) lent))
+        ∙ sym (vertex-taken d (drop (3 + from) lent) v inside (subst (λ k. d * v + d ≤ k) (sym (length-drop (3 + from) lent)) (omega arith)))
+        ∙ ap (λ f. vertexAt f v) (sym frame-is))
+
+    new-is : new ≡ goes
+    new-is =
+        (λ j. newVertex (own .start-is j) (own .count-is j) (own .index-is j) operation weights lent)
+        ∙ ap₂ (cond (eqb operation 1)) q-is negative-is
+
+    goes-long : length goes ≡ d
+    goes-long = ap length (sym new-is) ∙ ap length (λ j. newVertex (own .start-is j) (own .count-is j) (own .index-is j) operation weights lent) ∙ by (eqb operation 1)
+      where
+        by : (b : Bool) → length (cond b (pointAt (3 + from) d weights lent) (negativeAt (3 + from + d * v) d lent)) ≡ d
+        by true = point-long (3 + from) d weights lent
+        by false = let room = fits in let nine = count-few in let l = long in let square = within-square in negative-long (3 + from + d * v) d lent (omega arith)
+
+    goes-few : (2 ≤ length goes) × (length goes ≤ 3)
+    goes-few = subst (λ k. (2 ≤ k) × (k ≤ 3)) (sym goes-long) few
+
+    -- the numbers of a flip's vertex are in range with the frame's, so 12 is decided by a replace's q
+    pub new-range : (xs : List ℤ) → xs ≡ padded new → all inRange xs ≡ all inRange (newNumbers gs frames move)
+    unfolding newNumbers
+    new-range xs is = ap (all inRange) (is ∙ ap padded new-is) ∙ padded-range goes (goes-few .0) (goes-few .1) ∙ by (eqb operation 1)
+      where
+        q : Point
+        q = getD (pointsOf gs frames move) i []
+
+        by : (b : Bool) → all inRange (cond b q (map negℤ (vertexAt (getD frames i []) v))) ≡ all inRange (cond b q [])
+        by true = refl
+        by false = in-range-negative frames i v (sym (in-range-numbers frames) ∙ near)
+
+    -- the frame's numbers stay where the entries are put
+    still : (es : List ℤ) → length es ≤ 180 → take (frameCount gs) (drop 3 (putAt 12 es lent)) ≡ take (frameCount gs) (drop 3 lent)
+    still es h =
+        let l = long in
+        sym (take-take (frameCount gs) 9 (drop 3 (putAt 12 es lent)) count-few)
+        ∙ ap (take (frameCount gs)) (sym (drop-take 3 12 (putAt 12 es lent)) ∙ ap (drop 3) (put-before 12 es lent (omega arith) 12 (lit≤ tt)) ∙ drop-take 3 12 lent)
+        ∙ take-take (frameCount gs) 9 (drop 3 lent) count-few
+
+    -- to put the new vertex into its places is to put the frame that is reached
+    pub frame-put : (es xs : List ℤ) → length es ≤ 180 → xs ≡ padded new
+        → putAt (start + count * index) (take count xs) (putAt 12 es lent) ≡ putAt 3 (numbersOf (framesAfter gs frames move)) (putAt 12 es lent)
+    unfolding framesAfter
+    frame-put es xs h is =
+        ap₂ (λ k q. putAt k q more) at-is vertex-is
+        ∙ sym
+        (ap (λ l. putAt 3 l more)
+        (numbers-put gs frames i v goes framed (place .0) inside goes-long ∙ ap (putAt (from + d * v) goes) (numbers-are ∙ sym (still es h)))
+        ∙ put-within 3 (from + d * v) (frameCount gs) goes more more-long (let room = fits in let square = within-square in omega (arith, goes-long)))
+      where
+        more : List ℤ
+        more = putAt 12 es lent
+
+        more-long : 3 + frameCount gs ≤ length more
+        more-long = let l = long in subst (λ k. 3 + frameCount gs ≤ k) (sym (put-length 12 es lent (omega arith))) (omega (arith, count-few))
+
+        at-is : start + count * index ≡ 3 + (from + d * v)
+        at-is = (λ j. own .start-is j + own .count-is j * own .index-is j) ∙ add-assoc 3 from (d * v)
+
+        vertex-is : take count xs ≡ goes
+        vertex-is =
+            ap₂ take (own .count-is ∙ sym goes-long) (is ∙ ap padded new-is)
+            ∙ padded-taken goes (goes-few .0) (goes-few .1)
+
+    -- ---- the move put together
+
+    abbrev net : Net
+    net = netIn kind degree second lent
+
+    abbrev part : List ℤ
+    part = take 180 (drop 12 lent)
+
+    abbrev left : List ℤ
+    left = accepted net move .left .entries
+
+    known-kind : known kind degree second ≡ true
+    known-kind = right (asked .ordered)
+
+    left-long : length left ≤ 180
+    unfolding accepted entriesAfter
+    left-long = subst (λ k. k ≤ 180) (sym (length-listed-over gs _)) (entries-fit kind degree second known-kind)
+
+    -- the entries put into their part
+    part-is : putMid 12 180 lent (putAt 0 (accepted (netFrom kind degree second part) move .left .entries) part) ≡ putAt 12 left lent
+    unfolding accepted
+    part-is =
+        let l = long in
+        ap (λ es. putMid 12 180 lent (putAt 0 es part)) (left-same kind degree second lent l known-kind operation vertex weights)
+        ∙ ap₂ (λ k r. take 12 lent ++ ((left ++ drop k part) ++ r)) (zero-add (length left)) (post-is 12 192 lent (omega arith))
+        ∙ part-put 12 180 lent (omega arith) left left-long
+
+    -- q out of range
+    pub moved-beyond : (xs : List ℤ) → xs ≡ padded new → all inRange xs ≡ false → Moved net move 12 lent lent
+    moved-beyond xs is beyond =
+        record { number-is = sym (fails 12 (sizeTest net move) (sym (new-range xs is) ∙ beyond)); places = refl }
+
+    module _ (xs : List ℤ) (is : xs ≡ padded new) (passed : all inRange xs ≡ true) (k : ℕ) (out : List ℤ) (stepped : Stepped (netFrom kind degree second part) move k part out) where
+      number : k ≡ firstFailed (all inRange (newNumbers gs frames move) else 12 ∷ sizeTest net move)
+      number =
+          stepped .number-is
+          ∙ ap firstFailed (size-same kind degree second lent long known-kind move)
+          ∙ sym (passes 12 (sizeTest net move) (sym (new-range xs is) ∙ passed))
+
+      -- refused for size
+      pub moved-kept : (k ≡ 0 → ⊥) → Moved net move k lent (putMid 12 180 lent out)
+      moved-kept refused = record { number-is = number; places = by k refused (stepped .places) }
+        where
+          by : (j : ℕ) → (j ≡ 0 → ⊥) → out ≡ unlessRefused j (putAt 0 (accepted (netFrom kind degree second part) move .left .entries) part) part
+              → putMid 12 180 lent out ≡ unlessRefused j (putAt 3 (numbersOf (accepted net move .left .frames)) (putAt 12 left lent)) lent
+          by zero other made = absurd (other refl)
+          by (suc j) other made = ap (putMid 12 180 lent) made ∙ put-same 12 180 lent
+
+      -- taken
+      module _ (taken : k ≡ 0) where
+        pub entries-put : putMid 12 180 lent out ≡ putAt 12 left lent
+        entries-put =
+            ap (putMid 12 180 lent) (stepped .places ∙ ap (λ j. unlessRefused j (putAt 0 (accepted (netFrom kind degree second part) move .left .entries) part) part) taken) ∙ part-is
+
+        pub moved-made : (after : List ℤ) → after ≡ putAt (start + count * index) (take count xs) (putMid 12 180 lent out) → Moved net move 0 lent after
+        unfolding accepted
+        moved-made after made =
+            record {
+              number-is = sym taken ∙ number;
+              places = made ∙ ap (putAt (start + count * index) (take count xs)) entries-put ∙ frame-put left xs left-long is;
+            }
+
+        pub entries-long : 193 ≤ length (putMid 12 180 lent out)
+        entries-long = let l = long in let e = left-long in subst (λ j. 193 ≤ j) (sym (ap length entries-put ∙ put-length 12 left lent (omega arith))) l
+
+    -- where the vertex stands
+    pub vertex-room : (2 ≤ count) × (count ≤ 3) × (start + count * index + count ≤ 12)
+    vertex-room =
+        let room = fits in
+        let nine = count-few in
+        let square = within-square in
+        let end : start + count * index + count ≡ 3 + (from + d * v) + d = (λ j. own .start-is j + own .count-is j * own .index-is j + own .count-is j) ∙ ap (λ n. n + d) (add-assoc 3 from (d * v)) in
+        let low = few in
+        (subst (λ n. 2 ≤ n) (sym (own .count-is)) (low .0), subst (λ n. n ≤ 3) (sym (own .count-is)) (low .1), subst (λ n. n ≤ 12) (sym end) (omega arith))
