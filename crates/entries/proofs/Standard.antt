@@ -40,7 +40,7 @@ abbrev pub oneAt : ℕ → ℕ → ℤ
 oneAt c i = cond (eqb i c) (pos 1) (pos 0)
 
 -- a sum against `oneAt c` picks what stands at c
-pick : (d c : ℕ) (g : ℕ → ℤ) → c < d → sum (λ i. oneAt c i *ℤ g i) (upto d) ≡ g c
+pub pick : (d c : ℕ) (g : ℕ → ℤ) → c < d → sum (λ i. oneAt c i *ℤ g i) (upto d) ≡ g c
 pick zero c g h = absurd (not-suc-le-zero h)
 pick (suc d) zero g h =
     sum-upto-suc (λ i. oneAt 0 i *ℤ g i) d

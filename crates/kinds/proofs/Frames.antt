@@ -1,20 +1,22 @@
--- Frames with all their vertices and numbers: a new vertex keeps them so, and their numbers make them again.
+-- Frames with all their vertices and numbers: a new vertex keeps them so, and their numbers make them again. A vertex's negative is a point that weights name.
 use Prim.Native.Nat.{ℕ, zero, suc, _+_, _*_, _<_, _≤_}
 use native.Mathlib.Nat.{le-of-suc-le-suc, not-suc-le-zero, mul-zero, mul-suc, zero-mul, suc-mul, add-comm, add-assoc, zero-add}
 use native.Mathlib.Omega.{arith}
 use mathlib.Core.Path.{_≡_, refl, sym, ap, ap₂, _∙_, fun-ext, subst}
 use mathlib.Core.List.{List, [], _∷_, _++_, map, map-map, append-assoc}
-use lib.IntN.{ℤ, pos, negℤ}
+use lib.IntN.{ℤ, pos, negℤ, _*ℤ_}
 use lib.ListN.{length, getD, set, take, drop, length-append, length-map, length-set, length-drop, List·getD-append}
 use lib.Seq.{getD-append-add, getD-drop, drop-at, take-add}
-use Rattle.integers.specs.Sum.{upto}
-use Rattle.integers.proofs.Sums.{length-upto, getD-map, upto-at}
+use Rattle.integers.specs.Sum.{sum, upto}
+use Rattle.integers.proofs.Laws.{*ℤ-negl}
+use Rattle.integers.proofs.Sums.{sum-neg, sum-upto-cong, length-upto, getD-map, upto-at}
 use Rattle.polar.specs.Sigma.{Point}
 use Rattle.polar.specs.Order.{joined}
 use Rattle.polar.specs.Groups.{Group, tail}
-use Rattle.entries.specs.Frame.{vertexAt, pointsOver, putOver}
+use Rattle.entries.specs.Frame.{combination, unitPoint, vertexAt, pointsOver, putOver}
 use Rattle.entries.proofs.Places.{joined-map}
 use Rattle.entries.proofs.Listed.{map-upto}
+use Rattle.entries.proofs.Standard.{oneAt, pick}
 use Rattle.entries.proofs.Groups.{Wide, Framed}
 use Rattle.kinds.specs.Frames.{Frames, frameOf, frameCount, framesOf, numbersOf}
 
@@ -168,13 +170,22 @@ numbers-back (g ∷ gs) numbers h =
     (numbers-back gs (drop (d * d) numbers) (omega arith))
     ∙ sym (take-add (d * d) (frameCount gs) numbers)
 
--- ---- one vertex of frames that numbers make
+-- ---- a vertex's negative
 
--- the frame of the first numbers, vertex v
-pub vertex-taken : (d : ℕ) (numbers : List ℤ) (v : ℕ) → v < d → d * v + d ≤ length numbers → vertexAt (frameOf d numbers) v ≡ take d (drop (d * v) numbers)
-unfolding frameOf
-vertex-taken d numbers v below long =
-    getD-map (λ k. map (λ c. getD numbers (d * k + c) (pos 0)) (upto d)) (upto d) v 0 [] (subst (λ k. v < k) (sym (length-upto d)) below)
-    ∙ ap (λ k. map (λ c. getD numbers (d * k + c) (pos 0)) (upto d)) (upto-at d v below)
-    ∙ map-upto d (λ c. getD numbers (d * v + c) (pos 0)) (λ c. getD (drop (d * v) numbers) c (pos 0)) (λ c h. sym (getD-drop (d * v) numbers c (pos 0)))
-    ∙ taken-members (pos 0) d (drop (d * v) numbers) (subst (λ k. d ≤ k) (sym (length-drop (d * v) numbers)) (omega arith))
+-- the weight -1 of vertex v alone names it
+pub negative-named : (k d v : ℕ) (fr : ℕ → Point) → d ≤ k → v < d → length (fr v) ≡ d → combination d (map negℤ (unitPoint k v)) fr ≡ map negℤ (fr v)
+negative-named k d v fr fits below l =
+    map-upto d (λ c. sum (λ u. getD (map negℤ (unitPoint k v)) u (pos 0) *ℤ getD (fr u) c (pos 0)) (upto d)) (λ c. negℤ (getD (fr v) c (pos 0)))
+    (λ c h.
+    sum-upto-cong d (λ u i. ap (λ w. w *ℤ getD (fr u) c (pos 0)) (weight u i) ∙ *ℤ-negl (oneAt v u) (getD (fr u) c (pos 0)))
+    ∙ sum-neg (λ u. oneAt v u *ℤ getD (fr u) c (pos 0)) (upto d)
+    ∙ ap negℤ (pick d v (λ u. getD (fr u) c (pos 0)) below))
+    ∙ sym (map-map negℤ (λ c. getD (fr v) c (pos 0)) (upto d))
+    ∙ ap (map negℤ) (ap (λ n. map (λ c. getD (fr v) c (pos 0)) (upto n)) (sym l) ∙ members (pos 0) (fr v))
+  where
+    weight : (u : ℕ) → u < d → getD (map negℤ (unitPoint k v)) u (pos 0) ≡ negℤ (oneAt v u)
+    weight u i =
+        getD-map negℤ (unitPoint k v) u (pos 0) (pos 0) (subst (λ n. u < n) (sym (length-map (upto k) (oneAt v) ∙ length-upto k)) (omega arith))
+        ∙ ap negℤ
+        (getD-map (oneAt v) (upto k) u 0 (pos 0) (subst (λ n. u < n) (sym (length-upto k)) (omega arith))
+        ∙ ap (oneAt v) (upto-at k u (omega arith)))

@@ -10,23 +10,23 @@ use borrow.Author.Tests.{leb-true}
 use borrow.Rule.Slice.PartMut.{putMid, put-same, post-is}
 use lib.Dec.{eqb, lit≤}
 use lib.IntN.{ℤ, pos, negℤ, natAbs}
-use lib.ListN.{length, getD, take, drop, length-drop}
+use lib.ListN.{length, getD, take, drop, length-map, length-drop}
 use lib.Seq.{take-take, drop-drop, getD-drop}
 use Rattle.integers.specs.Test.{all}
 use Rattle.integers.proofs.All.{all-first}
 use Rattle.polar.specs.Sigma.{Point}
 use Rattle.polar.specs.Groups.{Group}
 use Rattle.projection.specs.Projection.{inRange}
-use Rattle.entries.specs.Frame.{combination, vertexAt}
+use Rattle.entries.specs.Frame.{combination, unitPoint, vertexAt}
 use Rattle.entries.proofs.Groups.{Framed}
 use Rattle.entries.proofs.ListedOver.{length-listed-over}
 use Rattle.kinds.specs.Kinds.{groupsOf, known}
 use Rattle.kinds.specs.Frames.{Frames, frameOf, frameCount, framesOf, numbersOf}
 use Rattle.kinds.proofs.Counts.{entries-fit, frame-few}
-use Rattle.kinds.proofs.Frames.{framed-numbers, vertex-taken}
+use Rattle.kinds.proofs.Frames.{point-wide, negative-wide, framed-numbers, negative-named}
 use Rattle.machine.specs.Refusals.{_else_, firstFailed}
 use Rattle.machine.proofs.Refusals.{passes, fails}
-use Rattle.machine.specs.Calls.{weightList, groupAt, ownAt, verticesAt}
+use Rattle.machine.specs.Calls.{weightList, groupAt, ownAt, verticesAt, weightsFor}
 use Rattle.machine.specs.Frames.{pointsOf, framesAfter, newNumbers}
 use Rattle.machine.specs.Nets.{Net, entriesAfter, accepted}
 use Rattle.machine.specs.Lent.{putAt, unlessRefused}
@@ -36,11 +36,11 @@ use Rattle.machine.proofs.Lent.{drop-take, put-before, put-within, put-length, 
 use Rattle.machine.specs.declared.Weights.{Weights}
 use Rattle.machine.specs.declared.Call.{Call}
 use Rattle.machine.specs.declared.Call.the-variants.{Move}
-use Rattle.nets.specs.Frames.{frameStart, OwnVertex, Small, NewVertex, pointAt, negativeAt, newVertex, padded}
+use Rattle.nets.specs.Frames.{frameStart, OwnVertex, Small, NewVertex, pointAt, newVertex, padded}
 use Rattle.nets.specs.Calls.{netFrom, netIn, sizeTest, Stepped, MoveAsked, Moved}
 use Rattle.nets.proofs.Made.{right, move-light, move-high}
 use Rattle.nets.proofs.InPlaces.{frame-numbers, size-same, left-same}
-use Rattle.nets.proofs.Vertices.{vertices-few, start-fits, frame-at, framed-at, point-at, numbers-put, point-long, negative-long, padded-range, padded-taken}
+use Rattle.nets.proofs.Vertices.{vertices-few, start-fits, frame-at, framed-at, point-at, numbers-put, padded-range, padded-taken}
 
 module _ {kind degree second : ℕ} {lent : List ℤ} {operation vertex : ℕ} {weights : Weights} (asked : MoveAsked kind degree second lent (Move operation vertex weights)) where
   abbrev gs : List Group
@@ -137,32 +137,32 @@ module _ {kind degree second : ℕ} {lent : List ℤ} {operation vertex : ℕ} {
     abbrev goes : Point
     goes = cond (eqb operation 1) (getD (pointsOf gs frames move) i []) (map negℤ (vertexAt (getD frames i []) v))
 
-    q-is : pointAt (3 + from) d weights lent ≡ getD (pointsOf gs frames move) i []
+    q-is : pointAt (3 + from) d (weightList weights) lent ≡ getD (pointsOf gs frames move) i []
     unfolding pointsOf
     q-is = sym (point-at gs (weightList weights) frames i (place .0) ∙ ap (λ f. combination d (weightList weights) (vertexAt f)) frame-is)
 
-    negative-is : negativeAt (3 + from + d * v) d lent ≡ map negℤ (vertexAt (getD frames i []) v)
+    -- each is as long as the group has vertices
+    goes-long : length goes ≡ d
+    unfolding pointsOf
+    goes-long = by (eqb operation 1) ∙ framed-at gs frames i framed (place .0)
+      where
+        by : (b : Bool) → length (cond b (getD (pointsOf gs frames move) i []) (map negℤ (vertexAt (getD frames i []) v))) ≡ length (getD frames i [])
+        by true = point-wide gs (weightsFor gs move) frames i framed
+        by false = negative-wide gs frames i v framed (place .1)
+
+    negative-is : pointAt (3 + from) d (map negℤ (unitPoint 4 v)) lent ≡ map negℤ (vertexAt (getD frames i []) v)
     negative-is =
-        let room = fits in
-        let nine = count-few in
-        let l = long in
-        let square = within-square in
-        ap (map negℤ)
-        (ap (take d) (sym (drop-drop (d * v) (3 + from) lent))
-        ∙ sym (vertex-taken d (drop (3 + from) lent) v inside (subst (λ k. d * v + d ≤ k) (sym (length-drop (3 + from) lent)) (omega arith)))
-        ∙ ap (λ f. vertexAt f v) (sym frame-is))
+        let three = few .1 in
+        let wide = sym (length-map (vertexAt (getD frames i []) v) negℤ) ∙ negative-wide gs frames i v framed (place .1) ∙ framed-at gs frames i framed (place .0) in
+        ap (λ f. combination d (map negℤ (unitPoint 4 v)) (vertexAt f)) (sym frame-is)
+        ∙ negative-named 4 d v (vertexAt (getD frames i [])) (omega arith) inside wide
 
     new-is : new ≡ goes
-    new-is =
-        (λ j. newVertex (own .start-is j) (own .count-is j) (own .index-is j) operation weights lent)
-        ∙ ap₂ (cond (eqb operation 1)) q-is negative-is
-
-    goes-long : length goes ≡ d
-    goes-long = ap length (sym new-is) ∙ ap length (λ j. newVertex (own .start-is j) (own .count-is j) (own .index-is j) operation weights lent) ∙ by (eqb operation 1)
+    new-is = (λ j. newVertex (own .start-is j) (own .count-is j) (own .index-is j) operation weights lent) ∙ by (eqb operation 1)
       where
-        by : (b : Bool) → length (cond b (pointAt (3 + from) d weights lent) (negativeAt (3 + from + d * v) d lent)) ≡ d
-        by true = point-long (3 + from) d weights lent
-        by false = let room = fits in let nine = count-few in let l = long in let square = within-square in negative-long (3 + from + d * v) d lent (omega arith)
+        by : (b : Bool) → pointAt (3 + from) d (cond b (weightList weights) (map negℤ (unitPoint 4 v))) lent ≡ cond b (getD (pointsOf gs frames move) i []) (map negℤ (vertexAt (getD frames i []) v))
+        by true = q-is
+        by false = negative-is
 
     goes-few : (2 ≤ length goes) × (length goes ≤ 3)
     goes-few = subst (λ k. (2 ≤ k) × (k ≤ 3)) (sym goes-long) few

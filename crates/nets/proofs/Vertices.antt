@@ -1,12 +1,12 @@
 -- The numbers of a frame in lent places. A vertex stands behind the frames of the groups before its own and behind the vertices before it, so to put a new vertex into the frames is to put
--- its numbers there; and what the code works out for it is q or the negative, number by number.
+-- its numbers there; and what the code works out for it is the point that its weights name, number by number.
 use Prim.Native.Nat.{ℕ, zero, suc, pred, _+_, _*_, _-_, _≤_, _<_, _^_}
 use native.Mathlib.Nat.{le-of-suc-le-suc, not-suc-le-zero, mul-zero, mul-suc, mul-le-mul-left}
 use native.Mathlib.Omega.{arith}
 use mathlib.Core.Path.{_≡_, refl, sym, ap, ap₂, _∙_, subst}
-use mathlib.Core.Bool.{true, cond}
+use mathlib.Core.Bool.{Bool, true, false, cond}
 use mathlib.Core.List.{List, [], _∷_, _++_, map}
-use lib.Dec.{lit≤}
+use lib.Dec.{eqb, lit≤}
 use lib.IntN.{ℤ, pos, negℤ, natAbs, _+ℤ_, _*ℤ_, +ℤ-idr}
 use lib.ListN.{length, getD, set, take, drop, length-drop, length-map}
 use lib.Seq.{drop-at, getD-drop, drop-drop, length-take-le}
@@ -16,19 +16,20 @@ use Rattle.integers.specs.Test.{all}
 use Rattle.integers.proofs.Sums.{length-upto}
 use Rattle.polar.specs.Sigma.{Point}
 use Rattle.polar.specs.Groups.{Group}
-use Rattle.entries.specs.Frame.{combination, vertexAt, pointsOver, putOver}
+use Rattle.entries.specs.Frame.{combination, unitPoint, vertexAt, pointsOver, putOver}
 use Rattle.entries.proofs.Groups.{Wide, Framed}
 use Rattle.projection.specs.Projection.{inRange}
 use Rattle.kinds.specs.Kinds.{group, groupsOf, known}
 use Rattle.kinds.specs.Frames.{Frames, frameOf, frameCount, framesOf, numbersOf}
 use Rattle.kinds.proofs.Limits.{by-known}
 use Rattle.kinds.proofs.Frames.{flat, square}
-use Rattle.machine.specs.Calls.{groupAt, ownAt, verticesAt}
+use Rattle.machine.specs.Calls.{weightList, groupAt, ownAt, verticesAt}
 use Rattle.machine.specs.Lent.{putAt}
 use Rattle.machine.proofs.Lent.{put-first, put-second}
 use Rattle.machine.specs.declared.Weights.{Weights}
 use Rattle.nets.proofs.Row.{three-small}
-use Rattle.nets.specs.Frames.{frameStart, OwnVertex, ofTwo, ofThree, pointAt, negativeAt, padded}
+use Rattle.nets.specs.Rows.{weightSum}
+use Rattle.nets.specs.Frames.{frameStart, OwnVertex, ofTwo, ofThree, pointAt, newWeights, padded}
 
 -- ---- the groups of a kind
 
@@ -169,20 +170,13 @@ module _ (xs : List ℤ) (start : ℕ) (w : Weights) where
   first : (f : ℕ → ℤ) → f (start + 0) ≡ f start
   first f = let none : start + 0 ≡ start = omega arith in ap f none
 
-  pub point-two : (count : ℕ) → count ≡ 2 → padded (pointAt start count w xs) ≡ two start ∷ two (start + 1) ∷ pos 0 ∷ []
+  pub point-two : (count : ℕ) → count ≡ 2 → padded (pointAt start count (weightList w) xs) ≡ two start ∷ two (start + 1) ∷ pos 0 ∷ []
   unfolding frameOf
-  point-two count is = ap (λ d. padded (pointAt start d w xs)) is ∙ (λ i. (two-at 0 ∙ first two) i ∷ two-at 1 i ∷ pos 0 ∷ [])
+  point-two count is = ap (λ d. padded (pointAt start d (weightList w) xs)) is ∙ (λ i. (two-at 0 ∙ first two) i ∷ two-at 1 i ∷ pos 0 ∷ [])
 
-  pub point-three : (count : ℕ) → count ≡ 3 → padded (pointAt start count w xs) ≡ three start ∷ three (start + 1) ∷ three (start + 2) ∷ []
+  pub point-three : (count : ℕ) → count ≡ 3 → padded (pointAt start count (weightList w) xs) ≡ three start ∷ three (start + 1) ∷ three (start + 2) ∷ []
   unfolding frameOf
-  point-three count is = ap (λ d. padded (pointAt start d w xs)) is ∙ (λ i. (three-at 0 ∙ first three) i ∷ three-at 1 i ∷ three-at 2 i ∷ [])
-
--- as many numbers as the group has vertices
-pub point-long : (start count : ℕ) (w : Weights) (xs : List ℤ) → length (pointAt start count w xs) ≡ count
-point-long start count w xs = length-map (upto count) _ ∙ length-upto count
-
-pub negative-long : (at count : ℕ) (xs : List ℤ) → at + count ≤ length xs → length (negativeAt at count xs) ≡ count
-negative-long at count xs h = length-map (take count (drop at xs)) negℤ ∙ length-take-le count (drop at xs) (simp length-drop (omega arith))
+  point-three count is = ap (λ d. padded (pointAt start d (weightList w) xs)) is ∙ (λ i. (three-at 0 ∙ first three) i ∷ three-at 1 i ∷ three-at 2 i ∷ [])
 
 -- two or three numbers among three
 padded-by : (P : Point → Type 0) → ((a b : ℤ) → P (a ∷ b ∷ [])) → ((a b c : ℤ) → P (a ∷ b ∷ c ∷ [])) → (p : Point) → 2 ≤ length p → length p ≤ 3 → P p
@@ -198,41 +192,22 @@ padded-range = padded-by (λ p. all inRange (padded p) ≡ all inRange p) (λ a 
 pub padded-taken : (p : Point) → 2 ≤ length p → length p ≤ 3 → take (length p) (padded p) ≡ p
 padded-taken = padded-by (λ p. take (length p) (padded p) ≡ p) (λ a b. refl) (λ a b c. refl)
 
--- the negative's numbers
-module _ (xs : List ℤ) (at : ℕ) where
-  minus : (k : ℕ) → negℤ (getD (drop at xs) k (pos 0)) ≡ negℤ (getD xs (at + k) (pos 0))
-  minus k = ap negℤ (past xs at k)
-
-  minus-first : negℤ (getD (drop at xs) 0 (pos 0)) ≡ negℤ (getD xs at (pos 0))
-  minus-first = let none : at + 0 ≡ at = omega arith in minus 0 ∙ ap (λ k. negℤ (getD xs k (pos 0))) none
-
-  abbrev pub negative : ℕ → ℤ
-  negative k = negℤ (getD xs k (pos 0))
-
-  front-two : (l : List ℤ) → 2 ≤ length l → take 2 l ≡ getD l 0 (pos 0) ∷ getD l 1 (pos 0) ∷ []
-  front-two [] h = absurd (not-suc-le-zero h)
-  front-two (a ∷ []) h = absurd (not-suc-le-zero (le-of-suc-le-suc h))
-  front-two (a ∷ b ∷ l) h = refl
-
-  front-three : (l : List ℤ) → 3 ≤ length l → take 3 l ≡ getD l 0 (pos 0) ∷ getD l 1 (pos 0) ∷ getD l 2 (pos 0) ∷ []
-  front-three [] h = absurd (not-suc-le-zero h)
-  front-three (a ∷ []) h = absurd (not-suc-le-zero (le-of-suc-le-suc h))
-  front-three (a ∷ b ∷ []) h = absurd (not-suc-le-zero (le-of-suc-le-suc (le-of-suc-le-suc h)))
-  front-three (a ∷ b ∷ c ∷ l) h = refl
-
-  pub negative-two : (count : ℕ) → count ≡ 2 → at + count ≤ length xs → padded (negativeAt at count xs) ≡ negative at ∷ negative (at + 1) ∷ pos 0 ∷ []
-  negative-two count is long =
-      ap (λ d. padded (negativeAt at d xs)) is
-      ∙ ap (λ l. padded (map negℤ l)) (front-two (drop at xs) (subst (λ k. 2 ≤ k) (sym (length-drop at xs)) (omega arith)))
-      ∙ (λ i. minus-first i ∷ minus 1 i ∷ pos 0 ∷ [])
-
-  pub negative-three : (count : ℕ) → count ≡ 3 → at + count ≤ length xs → padded (negativeAt at count xs) ≡ negative at ∷ negative (at + 1) ∷ negative (at + 2) ∷ []
-  negative-three count is long =
-      ap (λ d. padded (negativeAt at d xs)) is
-      ∙ ap (λ l. padded (map negℤ l)) (front-three (drop at xs) (subst (λ k. 3 ≤ k) (sym (length-drop at xs)) (omega arith)))
-      ∙ (λ i. minus-first i ∷ minus 1 i ∷ minus 2 i ∷ [])
-
 -- ---- sizes
+
+-- the weights that name a new vertex
+pub new-light : (operation index : ℕ) (w : Weights) → index ≤ 2 → weightSum w ≤ 12288
+    → natAbs (getD (newWeights operation index w) 0 (pos 0)) + natAbs (getD (newWeights operation index w) 1 (pos 0)) + natAbs (getD (newWeights operation index w) 2 (pos 0)) ≤ 12288
+new-light operation index w low light = by (eqb operation 1) index low
+  where
+    weights : Bool → ℕ → List ℤ
+    weights b i = cond b (weightList w) (map negℤ (unitPoint 4 i))
+
+    by : (b : Bool) (i : ℕ) → i ≤ 2 → natAbs (getD (weights b i) 0 (pos 0)) + natAbs (getD (weights b i) 1 (pos 0)) + natAbs (getD (weights b i) 2 (pos 0)) ≤ 12288
+    by true i h = light
+    by false zero h = lit≤ tt
+    by false (suc zero) h = lit≤ tt
+    by false (suc (suc zero)) h = lit≤ tt
+    by false (suc (suc (suc i))) h = absurd (not-suc-le-zero (le-of-suc-le-suc (le-of-suc-le-suc h)))
 
 -- three products of weights within their limit and numbers of a frame that is not refused, as the code reads them
 pub blend-small : {a x b y c z a' x' b' y' c' z' : ℤ} → a' ≡ a → b' ≡ b → c' ≡ c → x' ≡ x → y' ≡ y → z' ≡ z → natAbs a + natAbs b + natAbs c ≤ 12288

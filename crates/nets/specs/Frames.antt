@@ -8,7 +8,7 @@ use lib.IntN.{ℤ, pos, negℤ, natAbs, _+ℤ_, _*ℤ_}
 use lib.ListN.{length, getD, take, drop}
 use Rattle.polar.specs.Sigma.{Point}
 use Rattle.polar.specs.Groups.{Group}
-use Rattle.entries.specs.Frame.{combination, vertexAt}
+use Rattle.entries.specs.Frame.{combination, unitPoint, vertexAt}
 use Rattle.kinds.specs.Frames.{frameOf}
 use Rattle.machine.specs.Calls.{weightList, groupAt, ownAt, verticesAt}
 use Rattle.machine.specs.declared.Weights.{Weights}
@@ -42,13 +42,6 @@ pub record Blends (xs : List ℤ) (start count : ℕ) (weights : Weights) : Type
   pub small : (k : ℕ) → k < count * count → Small xs (start + k)
   pub light : weightSum weights ≤ 12288
 
--- the numbers of a vertex stand at `at`
-pub record Negates (xs : List ℤ) (at count : ℕ) : Type 0 where
-  pub two : 2 ≤ count
-  pub three : count ≤ 3
-  pub long : at + count ≤ length xs
-  pub small : (k : ℕ) → k < count → Small xs (at + k)
-
 pub record NewVertex (xs : List ℤ) (start count index : ℕ) (weights : Weights) : Type 0 where
   pub blends : Blends xs start count weights
   pub inside : index < count
@@ -60,17 +53,16 @@ ofTwo xs r s at = r *ℤ getD xs at (pos 0) +ℤ (s *ℤ getD xs (at + 2) (pos 0
 abbrev pub ofThree : List ℤ → ℤ → ℤ → ℤ → ℕ → ℤ
 ofThree xs r s t at = r *ℤ getD xs at (pos 0) +ℤ (s *ℤ getD xs (at + 3) (pos 0) +ℤ t *ℤ getD xs (at + 6) (pos 0))
 
--- q of the group whose frame stands at `start`
-abbrev pub pointAt : ℕ → ℕ → Weights → List ℤ → Point
-pointAt start count weights xs = combination count (weightList weights) (vertexAt (frameOf count (drop start xs)))
+-- the point that weights name in the group whose frame stands at `start`
+abbrev pub pointAt : ℕ → ℕ → List ℤ → List ℤ → Point
+pointAt start count ws xs = combination count ws (vertexAt (frameOf count (drop start xs)))
 
--- the negative of the vertex at `at`
-abbrev pub negativeAt : ℕ → ℕ → List ℤ → Point
-negativeAt at count xs = map negℤ (take count (drop at xs))
+-- the weights that name what a move puts in the place of a vertex: those of a replace, and for a flip -1 of the vertex alone, which names its negative
+abbrev pub newWeights : ℕ → ℕ → Weights → List ℤ
+newWeights operation index weights = cond (eqb operation 1) (weightList weights) (map negℤ (unitPoint 4 index))
 
--- what a replace or a flip puts in the place of a vertex
 abbrev pub newVertex : ℕ → ℕ → ℕ → ℕ → Weights → List ℤ → Point
-newVertex start count index operation weights xs = cond (eqb operation 1) (pointAt start count weights xs) (negativeAt (start + count * index) count xs)
+newVertex start count index operation weights = pointAt start count (newWeights operation index weights)
 
 -- two or three numbers as three
 abbrev pub padded : Point → List ℤ

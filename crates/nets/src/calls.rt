@@ -493,14 +493,20 @@ pub(crate) fn replace_vertex(
     let n = dimension_of(kind);
     let m = degree as usize;
     let v = vertex as usize - 1;
-    let later = later_dimension(kind);
-    if later == 0 {
+    if later_dimension(kind) == 0 {
         return size_number(replace_entries(entries, n, v, m, weights));
     }
     if v <= n {
         return size_number(replace_wide(entries, n, v, m, later_count(kind, second), weights));
     }
-    size_number(replace_later(entries, m + 1, later, v - 2, second as usize, weights))
+    size_number(replace_later(
+        entries,
+        m + 1,
+        later_dimension(kind),
+        v - 2,
+        second as usize,
+        weights,
+    ))
 }
 
 // What a flip that is not refused for its own arguments does.

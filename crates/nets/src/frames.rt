@@ -3,23 +3,23 @@
 ghost use mathlib.Core.Path.{_≡_};
 ghost use Prim.Native.Nat.{ℕ, _+_, _≤_};
 ghost use mathlib.Core.List.{[], _∷_};
-ghost use lib.IntN.{pos, negℤ, natAbs};
-ghost use lib.ListN.{length, getD, take, drop};
+ghost use lib.IntN.{natAbs};
+ghost use lib.ListN.{length, take, drop};
 ghost use Rattle.integers.specs.Test.{all};
 ghost use Rattle.projection.specs.Projection.{inRange};
 ghost use Rattle.kinds.specs.Kinds.{groupsOf, dimensionOf};
 ghost use Rattle.kinds.specs.Frames.{vertexCount, frameCount};
+ghost use Rattle.machine.specs.Calls.{weightList};
 ghost use Rattle.machine.specs.Lent.{putAt};
 ghost use Rattle.nets.specs.Frames.{
   Small,
   Blends,
-  Negates,
   OwnVertex,
   ofTwo,
   ofThree,
   NewVertex,
   pointAt,
-  negativeAt,
+  newWeights,
   newVertex,
   padded,
 };
@@ -113,7 +113,7 @@ fn of_three(net: &[i64], at: usize, r: i64, s: i64, t: i64) -> i64
 // The point q that the weights name in a group of two or three vertices.
 fn point_at(net: &[i64], start: usize, count: usize, weights: Weights) -> Vertex
     requires { ⌜ Blends (now net) start count weights ⌝ }
-    ensures { λ q. ⌜ q .first ∷ q .second ∷ q .third ∷ [] ≡ padded (pointAt start count weights (now (net .entry))) ⌝ }
+    ensures { λ q. ⌜ q .first ∷ q .second ∷ q .third ∷ [] ≡ padded (pointAt start count (weightList weights) (now (net .entry))) ⌝ }
 {
     let r = weights.r;
     let s = weights.s;
@@ -132,30 +132,36 @@ fn point_at(net: &[i64], start: usize, count: usize, weights: Weights) -> Vertex
     }
 }
 
-// The negative of a number of the frame.
-fn negative_of(net: &[i64], at: usize) -> i64
-    requires { ⌜ (at + 1 ≤ length (now net)) × Small (now net) at ⌝ }
-    ensures { λ r. ⌜ r ≡ negℤ (getD (now (net .entry)) at (pos 0)) ⌝ }
+// The weights that name what a move puts in a vertex's place: those of a replace, and for a flip -1 of the vertex
+// alone, which names its negative.
+fn new_weights(operation: u8, index: usize, weights: Weights) -> Weights
+    requires { ⌜ index ≤ 2 ⌝ }
+    ensures { λ r. ⌜ weightList r ≡ newWeights operation index weights ⌝ }
 {
-    -net[at]
-}
-
-// The negative of the vertex whose numbers begin at `at`.
-fn negative_at(net: &[i64], at: usize, count: usize) -> Vertex
-    requires { ⌜ Negates (now net) at count ⌝ }
-    ensures { λ r. ⌜ r .first ∷ r .second ∷ r .third ∷ [] ≡ padded (negativeAt at count (now (net .entry))) ⌝ }
-{
-    if count == 2 {
-        return Vertex {
-            first: negative_of(net, at),
-            second: negative_of(net, at + 1),
-            third: 0,
+    if operation == 1 {
+        return weights;
+    }
+    if index == 0 {
+        return Weights {
+            r: -1,
+            s: 0,
+            t: 0,
+            u: 0,
         };
     }
-    Vertex {
-        first: negative_of(net, at),
-        second: negative_of(net, at + 1),
-        third: negative_of(net, at + 2),
+    if index == 1 {
+        return Weights {
+            r: 0,
+            s: -1,
+            t: 0,
+            u: 0,
+        };
+    }
+    Weights {
+        r: 0,
+        s: 0,
+        t: -1,
+        u: 0,
     }
 }
 
@@ -164,10 +170,8 @@ pub(crate) fn new_vertex(net: &[i64], own: Own, operation: u8, weights: Weights)
     requires { ⌜ NewVertex (now net) (own .start) (own .count) (own .index) weights ⌝ }
     ensures { λ r. ⌜ r .first ∷ r .second ∷ r .third ∷ [] ≡ padded (newVertex (own .start) (own .count) (own .index) operation weights (now (net .entry))) ⌝ }
 {
-    if operation == 1 {
-        return point_at(net, own.start, own.count, weights);
-    }
-    negative_at(net, own.start + own.count * own.index, own.count)
+    let named = new_weights(operation, own.index, weights);
+    point_at(net, own.start, own.count, named)
 }
 
 // Puts a vertex's numbers into their places. They are handed over one by one, since a signed number is stored from a

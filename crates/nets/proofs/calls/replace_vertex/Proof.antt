@@ -65,7 +65,7 @@ past : (c : tie.Else2) → let a = c .before .before .before .before .args in di
 past c = let d = c .before .before .before in subst (λ n. n < d .before .args .vertex - 1) (d .dimension-of .ensures) (let over = c .if2 .left in omega arith)
 
 sub-replace-later : tie.Need-sub-replace-later
-sub-replace-later c = let branch = c .before in past-two (branch .before .before .before .before .pre .0) (past branch)
+sub-replace-later c = let branch = c .before .before in past-two (branch .before .before .before .before .pre .0) (past branch)
 
 asked : (c : tie.Else2) → let s = c .before .before .before .before in PartsReplaced (laterDimension (s .args .kind)) (s .args .second) (s .args .vertex - 1 - 2) (s .args .degree + 1) (s .args .weights) (s .args .entries .now) × (size 4 (laterDimension (s .args .kind)) (s .args .second) ≤ 24)
 asked c =
@@ -75,20 +75,19 @@ asked c =
 
 replace-later-requires : tie.Need-replace-later-requires
 replace-later-requires c κs =
-    let branch = c .before in
-    let later = branch .before .before in
-    let s = later .before .before in
-    subst (λ d. PartsReplaced d (s .args .second) (s .args .vertex - 1 - 2) (s .args .degree + 1) (s .args .weights) (s .args .entries .now) × (size 4 d (s .args .second) ≤ 24)) (sym (later .later-dimension .ensures)) (asked branch)
+    let branch = c .before .before in
+    let s = branch .before .before .before .before in
+    subst (λ d. PartsReplaced d (s .args .second) (s .args .vertex - 1 - 2) (s .args .degree + 1) (s .args .weights) (s .args .entries .now) × (size 4 d (s .args .second) ≤ 24)) (sym (c .later-dimension2 .ensures)) (asked branch)
 
 returns-3 : tie.Need-returns-3
 returns-3 c =
     let r = c .before .before in
-    let branch = r .before .before in
-    let later = branch .before .before in
-    let s = later .before .before in
+    let later = r .before in
+    let branch = later .before .before in
+    let s = branch .before .before .before .before in
     let o = s .pre .0 in
     let is =
-    subst (λ d. AllOrNone d (s .args .second) (weightList (s .args .weights)) (s .args .vertex - 1 - 2) (s .args .degree + 1) (s .args .entries .now) (r .replace-later .result) (r .replace-later .last .0)) (later .later-dimension .ensures) (r .replace-later .ensures) in
+    subst (λ d. AllOrNone d (s .args .second) (weightList (s .args .weights)) (s .args .vertex - 1 - 2) (s .args .degree + 1) (s .args .entries .now) (r .replace-later .result) (r .replace-later .last .0)) (later .later-dimension2 .ensures) (r .replace-later .ensures) in
     replace-made o (s .pre .1) (r .replace-later .result) (c .size-number3 .result) (r .replace-later .last .0) (c .size-number3 .ensures)
     (parts-sized o (past branch) (s .pre .1) (r .replace-later .result) (is .0)) (parts-replaced o (past branch) (s .pre .1) (r .replace-later .result) (r .replace-later .last .0) (is .1))
 
@@ -109,6 +108,7 @@ replace-vertex-spec =
     (λ c. search needs)
     returns-2
     (λ c. search needs)
+    (λ c κs. search needs)
     sub-replace-later
     replace-later-requires
     (λ c κs. search needs)
