@@ -13,13 +13,15 @@ use lib.Seq.{length-take-le}
 use Rattle.integers.specs.Test.{all}
 use Rattle.projection.specs.Projection.{inRange}
 use Rattle.entries.specs.Entries.{numberCount, entryOver, listedOver, fixedOver, flippedOver, asQ, onlyQ}
-use Rattle.kinds.specs.Kinds.{groupsOf, known}
+use Rattle.polar.specs.Groups.{Group}
+use Rattle.kinds.specs.Kinds.{groupsOf, dimensionOf, known}
 use Rattle.kinds.specs.Frames.{frameCount, numbersOf}
+use Rattle.kinds.proofs.Limits.{limits}
 use Rattle.kinds.proofs.Counts.{entries-fit, frame-few}
 use Rattle.kinds.proofs.Frames.{numbers-back}
 use Rattle.machine.specs.Refusals.{_else_, firstFailed}
 use Rattle.machine.proofs.Refusals.{passes, fails}
-use Rattle.machine.specs.Calls.{groupAt, ownAt, weightsFor}
+use Rattle.machine.specs.Calls.{groupAt, ownAt, weightsFor, ownTests}
 use Rattle.machine.specs.Frames.{newNumbers}
 use Rattle.machine.specs.Sizes.{namedBy, allNamed}
 use Rattle.machine.specs.Steps.{pointValues, foundAt}
@@ -29,8 +31,9 @@ use Rattle.machine.proofs.Lent.{part-read, put-moved, head-stood, stood-sound, 
 use Rattle.machine.specs.declared.Weights.{Weights}
 use Rattle.machine.specs.declared.Call.{Call}
 use Rattle.machine.specs.declared.Call.the-variants.{Move, Point}
-use Rattle.nets.specs.Calls.{netFrom, netIn, sizeTest, Pointed, Moved}
-use Rattle.nets.proofs.Made.{right}
+use Rattle.nets.specs.Calls.{netFrom, netIn, sizeTest, InOrder, Pointed, Moved}
+use Rattle.nets.proofs.Steps.{by-handed, by-arguments, by-frame, by-new}
+use Rattle.nets.proofs.Made.{handed-known}
 
 -- ---- too few places
 
@@ -121,64 +124,111 @@ module _ (kind degree second : ℕ) (lent : List ℤ) (long : 193 ≤ length len
 
 -- ---- the net that stands in the places
 
-module _ (lent : List ℤ) (long : 193 ≤ length lent) (kind degree second : ℕ)
-    (kind-is : kind ≡ byteOf (getD lent 0 (pos 0))) (degree-is : degree ≡ byteOf (getD lent 1 (pos 0))) (second-is : second ≡ byteOf (getD lent 2 (pos 0))) where
+-- places enough, whose first three numbers are read as a kind and degrees
+pub record Stood (lent : List ℤ) (kind degree second : ℕ) : Type 0 where
+  pub long : 193 ≤ length lent
+  pub kind-is : kind ≡ byteOf (getD lent 0 (pos 0))
+  pub degree-is : degree ≡ byteOf (getD lent 1 (pos 0))
+  pub second-is : second ≡ byteOf (getD lent 2 (pos 0))
+
+module _ {lent : List ℤ} {kind degree second : ℕ} (stood : Stood lent kind degree second) where
   enough : wide lent ≡ true
-  enough = le-leb 193 (length lent) long
+  enough = le-leb 193 (length lent) (stood .long)
+
+  abbrev gs : List Group
+  gs = groupsOf kind degree second
 
   abbrev here : Net
   here = netIn kind degree second lent
 
+  abbrev entries : List ℤ
+  entries = take 180 (drop 12 lent)
+
   net-is : here ≡ netAt lent
   unfolding netAt
-  net-is = λ i. netIn (kind-is i) (degree-is i) (second-is i) lent
+  net-is = λ i. netIn (stood .kind-is i) (stood .degree-is i) (stood .second-is i) lent
 
   known-at : known kind degree second ≡ true → known (netAt lent .kind) (netAt lent .degree) (netAt lent .second) ≡ true
   known-at right = ap (λ n. known (n .kind) (n .degree) (n .second)) (sym net-is) ∙ right
+
+  -- ---- the number of a call, as far as its tests have been passed
 
   module _ (call : Call) (found : List ℤ) (enough-found : room call found ≡ true) where
     call-number : firstFailed (netTests here call) ≡ callNumber call lent found
     unfolding callNumber
     call-number = ap (λ n. firstFailed (netTests n call)) net-is ∙ sym (passes 11 (room call found else 11 ∷ netTests (netAt lent) call) enough ∙ passes 11 (netTests (netAt lent) call) enough-found)
 
-    -- a refused call
-    pub places-kept : {k : ℕ} → (k ≡ 0 → ⊥) → k ≡ firstFailed (netTests here call) → (k ≡ callNumber call lent found) × (lent ≡ callPlaces call lent found)
-    unfolding callPlaces
-    places-kept {k} refused is = (is ∙ call-number, kept k (put (accepted (netAt lent) call .left) lent) lent refused ∙ ap (λ j. unlessRefused j (put (accepted (netAt lent) call .left) lent) lent) (is ∙ call-number))
+    pub for-the-net : {k : ℕ} → (k ≡ 0 → ⊥) → k ≡ firstFailed (handedTests (netFrom kind degree second entries)) → k ≡ callNumber call lent found
+    for-the-net refused is = by-handed here call refused (is ∙ handed-same kind degree second lent (stood .long)) ∙ call-number
 
-    pub found-kept : {k : ℕ} → (k ≡ 0 → ⊥) → k ≡ firstFailed (netTests here call) → (k ≡ callNumber call lent found) × (found ≡ callFound call lent found)
+    module _ (passed : firstFailed (handedTests (netFrom kind degree second entries)) ≡ 0) where
+      handed : firstFailed (handedTests here) ≡ 0
+      handed = sym (handed-same kind degree second lent (stood .long)) ∙ passed
+
+      pub for-the-arguments : {k : ℕ} → (k ≡ 0 → ⊥) → k ≡ firstFailed (ownTests gs call) → k ≡ callNumber call lent found
+      for-the-arguments refused is = by-arguments here call handed refused is ∙ call-number
+
+      module _ (own : firstFailed (ownTests gs call) ≡ 0) where
+        pub for-the-frame : all inRange (take (frameCount gs) (drop 3 lent)) ≡ false → 12 ≡ callNumber call lent found
+        for-the-frame beyond = by-frame here call handed own (ap (all inRange) (frame-numbers kind degree second lent (stood .long)) ∙ beyond) ∙ call-number
+
+        -- q and the size are left
+        pub for-the-rest : all inRange (take (frameCount gs) (drop 3 lent)) ≡ true
+            → firstFailed (all inRange (newNumbers gs (here .frames) call) else 12 ∷ sizeTest here call) ≡ callNumber call lent found
+        for-the-rest near = by-new here call handed own (ap (all inRange) (frame-numbers kind degree second lent (stood .long)) ∙ near) ∙ call-number
+
+    -- a refused call leaves the places, and those lent for a point
+    pub places-kept : {k : ℕ} → (k ≡ 0 → ⊥) → k ≡ callNumber call lent found → (k ≡ callNumber call lent found) × (lent ≡ callPlaces call lent found)
+    unfolding callPlaces
+    places-kept {k} refused is =
+        let written = put (accepted (netAt lent) call .left) lent in
+        (is, kept k written lent refused ∙ ap (λ j. unlessRefused j written lent) is)
+
+    pub found-kept : {k : ℕ} → (k ≡ 0 → ⊥) → k ≡ callNumber call lent found → (k ≡ callNumber call lent found) × (found ≡ callFound call lent found)
     unfolding callFound
     found-kept {k} refused is =
         let written = putAt 0 (pointValues (accepted (netAt lent) call .answer)) found in
-        (is ∙ call-number, kept k written found refused ∙ ap (λ j. unlessRefused j written found) (is ∙ call-number))
+        (is, kept k written found refused ∙ ap (λ j. unlessRefused j written found) is)
 
-  -- an accepted move: its frame and its entries are put, and the head stands there already
-  pub move-made : known kind degree second ≡ true → (operation vertex : ℕ) (weights : Weights) (k : ℕ) (after : List ℤ)
-      → Moved here (Move operation vertex weights) k lent after → firstFailed (all inRange (newNumbers (netGroups here) (here .frames) (Move operation vertex weights)) else 12 ∷ sizeTest here (Move operation vertex weights)) ≡ firstFailed (netTests here (Move operation vertex weights))
-      → (k ≡ callNumber (Move operation vertex weights) lent []) × (after ≡ callPlaces (Move operation vertex weights) lent [])
-  unfolding callPlaces accepted
-  move-made right operation vertex weights k after moved number =
-      let is = moved .number-is ∙ number ∙ call-number (Move operation vertex weights) [] refl in
-      (is, moved .places ∙ ap₂ (λ j l. unlessRefused j l lent) is put-is)
-    where
-      move : Call
-      move = Move operation vertex weights
+  -- ---- an accepted call
 
-      left-at : Net → List ℤ
-      left-at n = putAt 3 (numbersOf (accepted n move .left .frames)) (putAt 12 (accepted n move .left .entries) lent)
+  module _ (passed : firstFailed (handedTests (netFrom kind degree second entries)) ≡ 0) where
+    right : known kind degree second ≡ true
+    right = handed-known kind degree second entries passed
 
-      put-is : left-at here ≡ put (accepted (netAt lent) move .left) lent
-      put-is =
-          ap left-at net-is
-          ∙ sym
-          (put-moved (accepted (netAt lent) move .left) lent enough (accepted-sound (netAt lent) move (stood-sound lent enough (known-at right))) (head-stood lent enough (known-at right)))
+    pub dimension-some : 1 ≤ dimensionOf kind
+    dimension-some = limits kind degree second right .dimension-low
 
-  -- a point that only its size may refuse
-  pub found-made : known kind degree second ≡ true → (weights : Weights) (found : List ℤ) (enough-found : room (Point weights) found ≡ true) (k : ℕ) (after : List ℤ)
-      → Pointed (netFrom kind degree second (take 180 (drop 12 lent))) (Point weights) k found after → firstFailed (sizeTest here (Point weights)) ≡ firstFailed (netTests here (Point weights))
-      → (k ≡ callNumber (Point weights) lent found) × (after ≡ callFound (Point weights) lent found)
-  unfolding callFound
-  found-made right weights found enough-found k after pointed number =
-      let is = pointed .number-is ∙ ap firstFailed (size-same kind degree second lent long right (Point weights)) ∙ number ∙ call-number (Point weights) found enough-found in
-      let answer = found-same kind degree second lent long right weights ∙ ap (λ n. accepted n (Point weights) .answer) net-is in
-      (is, pointed .places ∙ ap₂ (λ j a. unlessRefused j (putAt 0 (pointValues a) found) found) is answer)
+    -- what the making of a call asks for
+    pub in-order : (call : Call) → firstFailed (ownTests gs call) ≡ 0 → InOrder kind degree second entries call
+    in-order call own = record { long = part-long kind degree second lent (stood .long); net-passes = passed; call-passes = own }
+
+    module _ (near : all inRange (take (frameCount gs) (drop 3 lent)) ≡ true) where
+      -- a move: its frame and its entries are put, and the head stands there already
+      pub move-made : (operation vertex : ℕ) (weights : Weights) (k : ℕ) (after : List ℤ) → firstFailed (ownTests gs (Move operation vertex weights)) ≡ 0
+          → Moved here (Move operation vertex weights) k lent after → (k ≡ callNumber (Move operation vertex weights) lent []) × (after ≡ callPlaces (Move operation vertex weights) lent [])
+      unfolding callPlaces accepted
+      move-made operation vertex weights k after own moved =
+          let is = moved .number-is ∙ for-the-rest (Move operation vertex weights) [] refl passed own near in
+          (is, moved .places ∙ ap₂ (λ j l. unlessRefused j l lent) is put-is)
+        where
+          move : Call
+          move = Move operation vertex weights
+
+          left-at : Net → List ℤ
+          left-at n = putAt 3 (numbersOf (accepted n move .left .frames)) (putAt 12 (accepted n move .left .entries) lent)
+
+          put-is : left-at here ≡ put (accepted (netAt lent) move .left) lent
+          put-is =
+              ap left-at net-is
+              ∙ sym
+              (put-moved (accepted (netAt lent) move .left) lent enough (accepted-sound (netAt lent) move (stood-sound lent enough (known-at right))) (head-stood lent enough (known-at right)))
+
+      -- a point, which has no numbers of its own in the frame
+      pub found-made : (weights : Weights) (found : List ℤ) (enough-found : room (Point weights) found ≡ true) (k : ℕ) (after : List ℤ) → firstFailed (ownTests gs (Point weights)) ≡ 0
+          → Pointed (netFrom kind degree second entries) (Point weights) k found after → (k ≡ callNumber (Point weights) lent found) × (after ≡ callFound (Point weights) lent found)
+      unfolding callFound newNumbers
+      found-made weights found enough-found k after own pointed =
+          let is = pointed .number-is ∙ ap firstFailed (size-same kind degree second lent (stood .long) right (Point weights)) ∙ for-the-rest (Point weights) found enough-found passed own near in
+          let answer = found-same kind degree second lent (stood .long) right weights ∙ ap (λ n. accepted n (Point weights) .answer) net-is in
+          (is, pointed .places ∙ ap₂ (λ j a. unlessRefused j (putAt 0 (pointValues a) found) found) is answer)

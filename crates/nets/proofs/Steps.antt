@@ -110,9 +110,3 @@ module _ (net : Net) (c : Call) where
       pub by-new : all inRange (numbersOf (net .frames)) ≡ true
           → firstFailed (all inRange (newNumbers (netGroups net) (net .frames) c) else 12 ∷ sizeTest net c) ≡ firstFailed (netTests net c)
       by-new h = sym (by-last ∙ ap (λ t. firstFailed (t else 12 ∷ sizeTest net c)) (near-by true h))
-
--- a point has no numbers of its own in the frame
-pub by-point : (net : Net) (weights : Weights) → firstFailed (handedTests net) ≡ 0 → firstFailed (ownTests (netGroups net) (Point weights)) ≡ 0 → all inRange (numbersOf (net .frames)) ≡ true
-    → firstFailed (sizeTest net (Point weights)) ≡ firstFailed (netTests net (Point weights))
-unfolding newNumbers
-by-point net weights passed own near = by-new net (Point weights) passed own near
