@@ -74,6 +74,10 @@ move operation vertex ws = Move operation vertex (record { r = getD ws 0 (pos 0)
 abbrev replace : ℕ → ℤ → ℤ → Call
 replace vertex r s = move 1 vertex (r ∷ s ∷ [])
 
+-- four times 4096 v in the place of v: its numbers are then 2 to the 48th times what they were
+abbrev grown : ℕ → List Call
+grown vertex = replicate 4 (replace vertex (pos 4096) (pos 0))
+
 abbrev flip : ℕ → Call
 flip vertex = move 2 vertex []
 
@@ -276,53 +280,44 @@ samples =
       polynomials = polynomials 1 1 0 (row 0 0 0 0 ∷ row 1 0 0 0 ∷ []);
       frame = row 0 1 1 1;
       calls =
-          replace 1 (pos 4096) (pos 0)
-          ∷ replace 1 (pos 4096) (pos 0)
-          ∷ replace 1 (pos 4096) (pos 0)
-          ∷ replace 1 (pos 4096) (pos 0)
-          ∷ replace 1 (pos 1) (pos 1)
+          grown 1
+          ++ (replace 1 (pos 1) (pos 1)
           ∷ point (pos 1) (pos 1) (pos 0) (pos 0)
           ∷ flip 1
           ∷ replace 1 (pos 1) (minus 1)
-          ∷ [];
+          ∷ []);
       reached = signed (pos 0) (minus 281474976710656) (pos 1) (pos 1);
       net = row 0 0 0 0 ∷ row 1 0 0 0 ∷ [];
-      answers = taken ∷ taken ∷ taken ∷ taken ∷ refused 12 ∷ found (row 1 0 0 0) (direction (pos 1) (pos 0) (pos 0) 1) ∷ taken ∷ refused 12 ∷ [];
+      answers = replicate 4 taken ++ (refused 12 ∷ found (row 1 0 0 0) (direction (pos 1) (pos 0) (pos 0) 1) ∷ taken ∷ refused 12 ∷ []);
     }
     ∷  -- 12 before 10 and after 8 and 9
     record {
       polynomials = polynomials 1 1 0 (row 1 0 0 0 ∷ row 0 0 0 0 ∷ []);
       frame = row 0 1 1 1;
       calls =
-          replace 1 (pos 4096) (pos 0)
-          ∷ replace 1 (pos 4096) (pos 0)
-          ∷ replace 1 (pos 4096) (pos 0)
-          ∷ replace 1 (pos 4096) (pos 0)
-          ∷ replace 1 (pos 1) (pos 1)
+          grown 1
+          ++ (replace 1 (pos 1) (pos 1)
           ∷ point (pos 1) (pos 1) (pos 0) (pos 0)
           ∷ replace 1 (pos 4097) (pos 1)
           ∷ replace 2 (pos 2) (pos 0)
-          ∷ [];
+          ∷ []);
       reached = row 0 281474976710656 1 1;
       net = row 281474976710656 0 0 0 ∷ row 1 0 0 0 ∷ [];
-      answers = taken ∷ taken ∷ taken ∷ taken ∷ refused 12 ∷ refused 10 ∷ refused 8 ∷ refused 9 ∷ [];
+      answers = replicate 4 taken ++ (refused 12 ∷ refused 10 ∷ refused 8 ∷ refused 9 ∷ []);
     }
     ∷  -- the q of the second pair, over the numbers of that pair
     record {
       polynomials = polynomials 3 1 1 (row 0 0 0 0 ∷ row 0 0 0 0 ∷ row 0 0 0 0 ∷ row 0 0 0 1 ∷ []);
       frame = row 1 0 0 1 ++ row 0 1 1 1;
       calls =
-          replace 3 (pos 4096) (pos 0)
-          ∷ replace 3 (pos 4096) (pos 0)
-          ∷ replace 3 (pos 4096) (pos 0)
-          ∷ replace 3 (pos 4096) (pos 0)
-          ∷ replace 3 (pos 1) (pos 1)
+          grown 3
+          ++ (replace 3 (pos 1) (pos 1)
           ∷ replace 1 (pos 1) (pos 1)
           ∷ replace 4 (pos 1) (pos 1)
-          ∷ [];
+          ∷ []);
       reached = row 1 1 0 1 ++ row 0 281474976710656 1 1;
       net = row 0 0 0 0 ∷ row 0 0 0 1 ∷ row 0 0 0 0 ∷ row 0 0 0 0 ∷ [];
-      answers = taken ∷ taken ∷ taken ∷ taken ∷ refused 12 ∷ taken ∷ refused 12 ∷ [];
+      answers = replicate 4 taken ++ (refused 12 ∷ taken ∷ refused 12 ∷ []);
     }
     ∷ []
 
