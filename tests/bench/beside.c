@@ -19,7 +19,7 @@ LIBRARY(after_)
 
 enum { NET = 193, PLACES = 180, ROWS = 200, PASSES = 6, ROUNDS = 25, CALLS = 400 };
 
-static uint8_t record[4096], text[4096];
+static uint8_t record[4096], text[8192];
 static size_t length;
 static int64_t frame[9], coefficients[PLACES];
 
