@@ -25,7 +25,7 @@ use Rattle.machine.specs.Calls.{groupAt, ownAt, weightsFor, ownTests}
 use Rattle.machine.specs.Frames.{newNumbers}
 use Rattle.machine.specs.Sizes.{namedBy, allNamed}
 use Rattle.machine.specs.Steps.{pointValues, foundAt}
-use Rattle.machine.specs.Nets.{Net, netGroups, netPolar, handedTests, netTests, entriesAfter, accepted}
+use Rattle.machine.specs.Nets.{Net, netPolar, handedTests, netTests, entriesAfter, accepted}
 use Rattle.machine.specs.Lent.{byteOf, netAt, putAt, put, wide, room, unlessRefused, callNumber, callPlaces, callFound}
 use Rattle.machine.proofs.Lent.{part-read, put-moved, head-stood, stood-sound, accepted-sound}
 use Rattle.machine.specs.declared.Weights.{Weights}

@@ -22,7 +22,6 @@ use Rattle.machine.specs.Calls.{ownTests}
 use Rattle.machine.specs.Frames.{newNumbers}
 use Rattle.machine.specs.Sizes.{beforeSize, callTests}
 use Rattle.machine.specs.Nets.{Net, netGroups, handedTests, judgedNumbers, netTests}
-use Rattle.machine.specs.declared.Weights.{Weights}
 use Rattle.machine.specs.declared.Call.{Call}
 use Rattle.machine.specs.declared.Call.the-variants.{Move, Point}
 use Rattle.nets.specs.Rows.{Whole}

@@ -8,12 +8,10 @@ use mathlib.Core.Bool.{Bool, true, false, cond}
 use mathlib.Core.List.{List, [], _∷_, _++_, map}
 use lib.Dec.{eqb, lit≤}
 use lib.IntN.{ℤ, pos, negℤ, natAbs, _+ℤ_, _*ℤ_, +ℤ-idr}
-use lib.ListN.{length, getD, set, take, drop, length-drop, length-map}
-use lib.Seq.{drop-at, getD-drop, drop-drop, length-take-le}
+use lib.ListN.{length, getD, set, take, drop}
+use lib.Seq.{drop-at, getD-drop, drop-drop}
 use borrow.Author.Tests.{le-leb, lt-leb}
-use Rattle.integers.specs.Sum.{upto}
 use Rattle.integers.specs.Test.{all}
-use Rattle.integers.proofs.Sums.{length-upto}
 use Rattle.polar.specs.Sigma.{Point}
 use Rattle.polar.specs.Groups.{Group}
 use Rattle.entries.specs.Frame.{combination, unitPoint, vertexAt, pointsOver, putOver}

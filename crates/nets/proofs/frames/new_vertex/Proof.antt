@@ -1,18 +1,16 @@
--- `new_vertex` meets its contract: the weights that name the new vertex are as light as those of a replace.
-use Prim.Native.Nat.{ℕ, _+_, _≤_}
+-- `new_vertex` meets its contract: it is the point that its weights name, and these are within the bound of a replace's.
+use Prim.Native.Nat.{_+_, _≤_}
 use native.Mathlib.Omega.{arith}
 use mathlib.Core.Path.{sym, ap, _∙_, subst}
-use lib.IntN.{ℤ, pos, natAbs}
+use lib.IntN.{pos, natAbs}
 use lib.ListN.{getD}
-use mathlib.Core.List.{List}
 use Rattle.nets.specs.Frames.{pointAt, padded}
 use Rattle.nets.proofs.Vertices.{new-light}
 use Rattle.nets.proofs.frames.new_vertex.Statement.{statement}
 use Rattle.nets.proofs.frames.new_vertex.Tie as tie
 
-module _ (s : tie.Start) where
-  low : s .args .own .index ≤ 2
-  low = omega (arith, s .pre .inside, s .pre .blends .three)
+low : (s : tie.Start) → s .args .own .index ≤ 2
+low s = omega (arith, s .pre .inside, s .pre .blends .three)
 
 point-at-requires : tie.Need-point-at-requires
 point-at-requires c κs =
