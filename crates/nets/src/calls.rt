@@ -39,6 +39,7 @@ use crate::levels::descend;
 use crate::levels::rename;
 use crate::levels::renamed_weights;
 use crate::rows::FEW;
+use crate::rows::LIMIT;
 use crate::rows::PLACES;
 use crate::rows::copy;
 use crate::rows::entries_within;
@@ -54,9 +55,6 @@ use machine::Weights;
 
 // The largest absolute value of a weight.
 const WEIGHT: u64 = 4096;
-
-// The largest absolute value of a component of an entry, 2 to the 48th.
-const LIMIT: u64 = 281474976710656;
 
 // ---- weights
 
@@ -478,6 +476,7 @@ fn size_number(in_range: bool) -> u8
 // What a replace that is not refused for its own arguments does: the number 10, or 0 and the vertex replaced.
 // Seen from the first group, a net has a row of the later groups' numbers for each entry. A net of one group goes
 // its own way, on which the compiler knows the width of its rows and leaves out all that there is of a second group.
+// The dimension of that is asked for where it is needed, and not kept: docs/DECISIONS.md says what that is worth.
 pub(crate) fn replace_vertex(
     entries: &mut [i64],
     kind: u8,

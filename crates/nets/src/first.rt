@@ -36,6 +36,7 @@ ghost use Rattle.nets.specs.Calls.{beforeFirst, FirstAsked, Rooms};
 use crate::coordinates::coordinate_numbers;
 use crate::levels::copy_row;
 use crate::levels::spread;
+use crate::rows::LIMIT;
 use crate::rows::blend;
 use crate::rows::copy;
 use crate::rows::entries_within;
@@ -55,9 +56,6 @@ const WIDEST: u64 = 9223372036854775807;
 
 // The largest absolute value of a coefficient, 2 to the 20th.
 const COEFFICIENT: u64 = 1048576;
-
-// The largest absolute value of a component of an entry, 2 to the 48th.
-const LIMIT: u64 = 281474976710656;
 
 // ---- steps with vertices
 

@@ -23,6 +23,7 @@ ghost use Rattle.nets.specs.Frames.{
   newVertex,
   padded,
 };
+use crate::rows::LIMIT;
 use crate::rows::four_within;
 use crate::rows::mix;
 use integers::all_within;
@@ -33,9 +34,6 @@ use machine::Weights;
 
 // Where the frame begins in the places of a net.
 pub(crate) const FRAME: usize = 3;
-
-// The largest absolute value of a number of a frame, 2 to the 48th.
-const LIMIT: u64 = 281474976710656;
 
 // ---- refusals
 

@@ -11,12 +11,10 @@ ghost use Rattle.machine.specs.Calls.{weightList};
 ghost use Rattle.nets.specs.Rows.{placeAt, nextRow, nextThird, written};
 ghost use Rattle.nets.specs.Flips.{countsAt};
 ghost use Rattle.nets.specs.Levels.{copiedRow, renamedAt, Renames, Descends, Descended};
+use crate::rows::LIMIT;
 use crate::rows::blend;
 use crate::rows::place;
 use machine::Weights;
-
-// The largest absolute value of a polar value that is in range.
-const LIMIT: u64 = 281474976710656;
 
 // Copies a row.
 pub(crate) fn copy_row(out: &mut [i64], to: usize, xs: &[i64], from: usize, width: usize)
