@@ -524,16 +524,17 @@ pub(crate) fn flip_vertex(
     let n = dimension_of(kind);
     let m = degree as usize;
     let v = vertex as usize - 1;
-    let later = later_dimension(kind);
-    if later == 0 {
-        flip_entries(entries, n, v, m, 4);
-        return;
-    }
     if v <= n {
         flip_entries(entries, n, v, m, later_count(kind, second));
         return;
     }
-    flip_parts(entries, m + 1, later, v - 2, second as usize);
+    flip_parts(
+        entries,
+        m + 1,
+        later_dimension(kind),
+        v - 2,
+        second as usize,
+    );
 }
 
 // What a move that is not refused for its own arguments does: the number 10, or 0 and the move made.

@@ -23,6 +23,7 @@ ghost use Rattle.nets.specs.Frames.{
   newVertex,
   padded,
 };
+use crate::FRAME;
 use crate::rows::LIMIT;
 use crate::rows::four_within;
 use crate::rows::mix;
@@ -31,9 +32,6 @@ use kinds::dimension_of;
 use kinds::frame_count;
 use kinds::later_dimension;
 use machine::Weights;
-
-// Where the frame begins in the places of a net.
-pub(crate) const FRAME: usize = 3;
 
 // ---- refusals
 

@@ -41,7 +41,6 @@ use crate::calls::make_move;
 use crate::calls::make_point;
 use crate::first::judge_first;
 use crate::first::make_in;
-use crate::frames::FRAME;
 use crate::frames::frame_within;
 use crate::frames::new_vertex;
 use crate::frames::own_vertex;
@@ -59,8 +58,10 @@ use machine::Weights;
 // component.
 pub const NET: usize = 193;
 
-// Where the entries begin and end.
-const ENTRIES: usize = 12;
+// Where the frame begins, and where the entries begin and end.
+pub const FRAME: usize = 3;
+
+pub const ENTRIES: usize = 12;
 
 const END: usize = 192;
 

@@ -30,11 +30,8 @@ use kinds::dimension_of;
 use kinds::frame_count;
 use kinds::later_count;
 use kinds::number_count;
-
-// Where the frame and the entries begin in the places of a net.
-const FRAME: usize = 3;
-
-const ENTRIES: usize = 12;
+use nets::ENTRIES;
+use nets::FRAME;
 
 // The indices of a group by the counts of its vertices: of two vertices the copies of the second, of three
 // those of all.
