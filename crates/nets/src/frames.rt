@@ -50,7 +50,7 @@ pub(crate) struct Vertex {
     pub(crate) third: i64,
 }
 
-// Whether the numbers of a vertex are.
+// Whether the numbers of a vertex are within the limit.
 pub(crate) fn vertex_within(vertex: Vertex) -> bool
     ensures { λ b. ⌜ b ≡ all inRange (vertex .first ∷ vertex .second ∷ vertex .third ∷ []) ⌝ }
 {

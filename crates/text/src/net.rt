@@ -1,6 +1,7 @@
-// The lines of a net: the first line, that of the frame, and one for each entry in the specification's order. The entries go by the counts
-// of the first group and, where these are the same, by those of the group after it, if there is one. In row h of the
-// first group the vertices after its first are taken h times together, and k of them are the third.
+// The lines of a net: the first line, that of the frame, and one for each entry in the specification's order. The
+// entries go by the counts of the first group and, where these are the same, by those of the group after it, if there
+// is one. In row h of the first group the vertices after its first are taken h times together, and k of them are the
+// third.
 ghost use mathlib.Core.Path.{_≡_};
 ghost use mathlib.Core.Bool.{true};
 ghost use Prim.Native.Nat.{_<_};
