@@ -47,13 +47,13 @@ expected c answer =
     (record { answer = answer; found = putAt 0 (pointValues answer) (c .found) })
     (record { answer = Refused 11; found = c .found })
 
--- the places that are not a net's: those of the nine past the frame's numbers, those past the entries, that of the largest component, and the caller's
+-- the places that are not a net's: those of the nine past the frame's numbers, those past the entries, and the caller's
 abbrev pub otherPlaces : Polynomials → List ℤ → List ℤ
-otherPlaces f lent = slice (3 + frameCount (groups f)) 12 lent ++ drop (12 + numberCount (groups f)) lent
+otherPlaces f lent = slice (3 + frameCount (groups f)) 12 lent ++ (slice (12 + numberCount (groups f)) 192 lent ++ drop 193 lent)
 
 -- What is guaranteed of a list of calls on places where the first net of f over the numbers' frames was made; `lent` is what stood there before.
 pub record LentGuaranteed (f : Polynomials) (numbers lent places : List ℤ) (calls : List LentCall) : Type 0 where
-  -- the net in the places carries the frames that the accepted moves give, and its entries are the scaled polar values over them
+  -- the net in the places carries the frames that the accepted moves give, its entries are the scaled polar values over them, and it stores the largest component of these
   pub net : netAt (after lentStep places calls) ≡ netOver f (framesReached f numbers (map (λ c. c .call) calls))
   -- what came back from every call is the comparison machine's answer: its number, its point, and the point's projection
   pub returned : answers lentStep places calls ≡ zipWith expected calls (answers (machineStep f) (framesOf (groups f) numbers) (map (λ c. c .call) calls))

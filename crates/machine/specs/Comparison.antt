@@ -2,6 +2,7 @@
 use Prim.Native.Nat.{ℕ}
 use mathlib.Core.List.{List}
 use lib.IntN.{ℤ, pos, _*ℤ_}
+use Rattle.integers.specs.Largest.{largestOf}
 use Rattle.polar.specs.Sigma.{Point}
 use Rattle.polar.specs.Groups.{Group, monomialsOver}
 use Rattle.polar.specs.Scale.{scaleOver}
@@ -36,15 +37,17 @@ polarOf f c pss = polarOver (groups f) (terms c (monomialsOver (groups f)) (f .c
 unfoldable pub scaledValue : Polynomials → List Point → ℕ → ℤ
 scaledValue f qs c = pos (scaleOver (groups f)) *ℤ valueOver (groups f) (terms c (monomialsOver (groups f)) (f .coefficients)) qs
 
--- the net over frames: it carries them, and every entry is its polar value
+-- the net over frames: it carries them, every entry is its polar value, and it stores the largest component of the entries
 unfoldable pub netOver : Polynomials → Frames → Net
 netOver f frames =
+    let entries = listedOver (groups f) (λ c es. polarOf f c (takenOver frames es)) in
     record {
       kind = f .kind;
       degree = f .degree;
       second = f .second;
       frames = frames;
-      entries = listedOver (groups f) (λ c es. polarOf f c (takenOver frames es));
+      entries = entries;
+      largest = pos (largestOf entries);
     }
 
 -- ---- a call

@@ -32,7 +32,7 @@ module _ (f : Polynomials) (numbers : List ℤ) where
   framesReached calls = after (machineStep f) (framesOf (groups f) numbers) calls
 
   pub record Guaranteed (calls : List Call) : Type 0 where
-    -- the net carries the frames that the accepted moves give, and its entries are the scaled polar values over them
+    -- the net carries the frames that the accepted moves give, its entries are the scaled polar values over them, and it stores the largest component of these
     pub net : netReached calls ≡ netOver f (framesReached calls)
     -- every call got the answer of the comparison machine
     pub answered : answers stepOf (firstNet f numbers) calls ≡ answers (machineStep f) (framesOf (groups f) numbers) calls

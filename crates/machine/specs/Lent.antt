@@ -4,7 +4,7 @@
 --   0, 1, 2      kind, degree, second degree
 --   3 to 11      the frame's numbers, as many as the kind has; those past them are kept
 --   12 to 191    the entries, as many as kind and degrees have; those past them are kept
---   192          the largest component's, kept as it is
+--   192          the largest component
 --   193 and on   the caller's
 use Prim.Native.Nat.{ℕ, zero, suc, _+_, _*_}
 use mathlib.Core.Bool.{Bool, true, cond}
@@ -38,7 +38,14 @@ netAt lent =
     let degree = byteOf (getD lent 1 (pos 0)) in
     let second = byteOf (getD lent 2 (pos 0)) in
     let gs = groupsOf kind degree second in
-    record { kind = kind; degree = degree; second = second; frames = framesOf gs (drop 3 lent); entries = take (numberCount gs) (drop 12 lent) }
+    record {
+      kind = kind;
+      degree = degree;
+      second = second;
+      frames = framesOf gs (drop 3 lent);
+      entries = take (numberCount gs) (drop 12 lent);
+      largest = getD lent 192 (pos 0);
+    }
 
 -- numbers put into the places from `at` on; all others stay
 abbrev pub putAt : {A : Type 0} → ℕ → List A → List A → List A
@@ -49,7 +56,8 @@ unfoldable pub put : Net → List ℤ → List ℤ
 put net lent =
     putAt 0 (pos (net .kind) ∷ pos (net .degree) ∷ pos (net .second) ∷ [])
     (putAt 3 (numbersOf (net .frames))
-    (putAt 12 (net .entries) lent))
+    (putAt 12 (net .entries)
+    (putAt 192 (net .largest ∷ []) lent)))
 
 -- places enough for a net; more are taken
 abbrev pub wide : List ℤ → Bool

@@ -9,5 +9,6 @@ pub mod First
 pub mod Found
 pub mod Demand3
 pub mod Lent
+pub mod Largest
 pub mod Carried
 pub mod Samples

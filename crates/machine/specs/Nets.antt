@@ -4,7 +4,8 @@ use Prim.Native.Nat.{ℕ, pred}
 use mathlib.Core.Bool.{Bool, cond}
 use mathlib.Core.List.{List, [], _∷_, _++_}
 use lib.Dec.{eqb}
-use lib.IntN.{ℤ}
+use lib.IntN.{ℤ, pos}
+use Rattle.integers.specs.Largest.{largestOf}
 use Rattle.polar.specs.Groups.{Group}
 use Rattle.entries.specs.Entries.{entryOver, listedOver, fixedOver, flippedOver, asQ, onlyQ}
 use Rattle.projection.specs.Projection.{inRange}
@@ -20,13 +21,15 @@ use Rattle.machine.specs.declared.Weights.{Weights}
 use Rattle.machine.specs.declared.Call.{Call}
 use Rattle.machine.specs.declared.Call.the-variants.{Move, Point}
 
--- a net: its kind, its degrees, the frames that it has reached, one for each group, and four numbers x, y, z, w for each entry, in the specification's order
+-- a net: its kind, its degrees, the frames that it has reached, one for each group, four numbers x, y, z, w for each entry, in the specification's order, and the number that it
+-- stores as the largest absolute component of its entries
 pub record Net : Type 0 where
   pub kind : ℕ
   pub degree : ℕ
   pub second : ℕ
   pub frames : Frames
   pub entries : List ℤ
+  pub largest : ℤ
 
 abbrev pub netGroups : Net → List Group
 netGroups net = groupsOf (net .kind) (net .degree) (net .second)
@@ -67,7 +70,11 @@ entriesAfter net operation vertex weights =
     let v = ownAt gs (pred vertex) in
     listedOver gs (λ c es. cond (eqb operation 1) (netPolar net (Move operation vertex weights) c (asQ i v es)) (flippedOver i v (entry net c) es))
 
--- What an accepted call answers and leaves: a move changes frames and entries, and the point is the polar value whose points are all q.
+-- the largest component after an accepted move: a replace works it out, whatever the net claims, and a flip hands on the number that it was given
+unfoldable pub largestAfter : Net → ℕ → ℕ → Weights → ℤ
+largestAfter net operation vertex weights = cond (eqb operation 1) (pos (largestOf (entriesAfter net operation vertex weights))) (net .largest)
+
+-- What an accepted call answers and leaves: a move changes frames, entries and largest component, and the point is the polar value whose points are all q.
 unfoldable pub accepted : Net → Call → Step Answer Net
 accepted net (Move operation vertex weights) =
     record {
@@ -79,6 +86,7 @@ accepted net (Move operation vertex weights) =
             second = net .second;
             frames = framesAfter (netGroups net) (net .frames) (Move operation vertex weights);
             entries = entriesAfter net operation vertex weights;
+            largest = largestAfter net operation vertex weights;
           };
     }
 accepted net (Point weights) = record { answer = foundAt (λ c. netPolar net (Point weights) c (onlyQ (netGroups net))); left = net }
