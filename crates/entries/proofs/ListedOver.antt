@@ -1,14 +1,16 @@
--- A net's numbers over groups: reading a listed function at an entry gives its value there. The place of an entry in the order of all groups goes row by row of the first group.
-use Prim.Native.Nat.{ℕ, zero, suc, _+_, _*_, _<_}
+-- A net's numbers over groups: reading a listed function at an entry gives its value there, and the entries listed are the numbers again. The place of an entry in the order of all groups
+-- goes row by row of the first group.
+use Prim.Native.Nat.{ℕ, zero, suc, _+_, _*_, _-_, _/_, _%_, _<_}
 use native.Mathlib.Nat.{le-of-suc-le-suc, not-suc-le-zero, add-comm, add-assoc, suc-mul, zero-mul, zero-add}
 use native.Mathlib.Omega.{arith}
+use native.Mathlib.Decide.{decLt}
 use mathlib.Core.Path.{_≡_, refl, sym, ap, ap₂, _∙_, subst}
 use mathlib.Core.List.{List, [], _∷_, _++_, map, List·Memᴰ, List·Memᴰ·head, List·Memᴰ·not-nil, List·Memᴰ·cases-cons, List·Memᴰ·eq-of-singleton, Memᴰ·append-left, Memᴰ·append-right, Memᴰ·map}
 use mathlib.Core.Logic.{_⊎_, inl, inr}
 use lib.Dec.{lit≤}
-use lib.IntN.{ℤ}
+use lib.IntN.{ℤ, pos}
 use lib.ListN.{length, getD, length-append, length-map, List·getD-append}
-use lib.Seq.{getD-append-add}
+use lib.Seq.{getD-append-add, ext-getD}
 use Rattle.integers.proofs.Sums.{getD-map}
 use Rattle.polar.specs.Order.{counts}
 use Rattle.polar.specs.Groups.{Group, pairs, countsOver}
@@ -16,7 +18,7 @@ use Rattle.polar.proofs.Order.{counts-total}
 use Rattle.polar.proofs.Value.{of-pairs}
 use Rattle.entries.specs.Entries.{placeOf, numberCount, placeOver, entryOver, listedOver}
 use Rattle.entries.proofs.Listed.{length-rows, rows-at, rows-cong}
-use Rattle.entries.proofs.Places.{placed, member-counts}
+use Rattle.entries.proofs.Places.{placed, member-counts, place-rank, counts-at, rank-at}
 use Rattle.entries.proofs.Groups.{Counted}
 
 -- ---- pairs
@@ -57,6 +59,25 @@ module _ {A : Type 0} (a : A) (yss : List (List A)) where
       ∙ getD-append-add (row x) (pairs xs yss) (p * length yss + r) []
       ∙ pairs-at xs p r (le-of-suc-le-suc h) k
 
+  -- every place is r places past p rows
+  in-row : (xs : List A) (i : ℕ) → i < length (pairs xs yss) → (p : ℕ) × (r : ℕ) × (p < length xs) × (r < length yss) × (i ≡ p * length yss + r)
+  in-row [] i h = absurd (not-suc-le-zero h)
+  in-row (x ∷ xs) i h = by (decLt i (length yss)) (in-row xs (i - length yss))
+    where
+      long : length (pairs (x ∷ xs) yss) ≡ length yss + length (pairs xs yss)
+      long = length-append (row x) (pairs xs yss) ∙ ap (λ k. k + length (pairs xs yss)) (length-row x)
+
+      by : Dec (i < length yss)
+          → (i - length yss < length (pairs xs yss) → (p : ℕ) × (r : ℕ) × (p < length xs) × (r < length yss) × (i - length yss ≡ p * length yss + r))
+          → (p : ℕ) × (r : ℕ) × (p < suc (length xs)) × (r < length yss) × (i ≡ p * length yss + r)
+      by (yes l) rest = (0, i, omega arith, l, sym (ap (λ k. k + i) (zero-mul (length yss)) ∙ zero-add i))
+      by (no l) rest =
+          let e = long in
+          let r = rest (omega arith) in
+          let below = r .2 in
+          let i-is : i ≡ length yss + (i - length yss) = omega arith in
+          (suc (r .0), r .1, omega arith, r .3, i-is ∙ ap (λ k. length yss + k) (r .4) ∙ sym (next-row (r .0) (length yss) (r .1)))
+
 -- ---- places of entries
 
 -- every entry has a place, and stands there
@@ -72,6 +93,20 @@ place-over (g ∷ gs) (e ∷ es) counted =
       pairs-at [] (countsOver gs) (counts (g .dimension) (g .degree)) (placeOf e (counts (g .dimension) (g .degree))) (placeOver gs es) (first .0) (rest .0)
           ∙ ap₂ (λ x xs. x ∷ xs) (first .1) (rest .1),
     )
+
+-- and at every place stands the entry that has it
+place-at : (gs : List Group) (i : ℕ) → i < length (countsOver gs) → placeOver gs (getD (countsOver gs) i []) ≡ i
+unfolding countsOver
+place-at [] zero h = refl
+place-at [] (suc i) h = absurd (not-suc-le-zero (le-of-suc-le-suc h))
+place-at (g ∷ gs) i h =
+    let first = counts (g .dimension) (g .degree) in
+    let at = in-row [] (countsOver gs) first i h in
+    let right = counts-at (g .dimension) (g .degree) (at .0) (at .2) in
+    ap (placeOver (g ∷ gs)) (ap (λ k. getD (pairs first (countsOver gs)) k []) (at .4) ∙ pairs-at [] (countsOver gs) first (at .0) (at .1) (at .2) (at .3))
+    ∙ ap₂ (λ p r. p * length (countsOver gs) + r)
+    (place-rank (g .dimension) (g .degree) (getD first (at .0) []) (right .0) (right .1) ∙ rank-at (g .dimension) (g .degree) (at .0) (at .2)) (place-at gs (at .1) (at .3))
+    ∙ sym (at .4)
 
 -- the members of the order are entries' counts
 pub counts-over : (gs : List Group) (es : List (List ℕ)) → List·Memᴰ es (countsOver gs) → Counted gs es
@@ -113,6 +148,24 @@ module _ (gs : List Group) where
   entry-listed-over f c es k counted =
       let r = place-over gs es counted in
       rows-at 4 f [] (countsOver gs) (placeOver gs es) c (r .0) k ∙ ap (f c) (r .1)
+
+  -- a net's numbers are its entries, listed
+  pub listed-again : (numbers : List ℤ) → length numbers ≡ numberCount gs → listedOver gs (entryOver gs numbers) ≡ numbers
+  unfolding entryOver listedOver
+  listed-again numbers l = ext-getD (pos 0) (listedOver gs (entryOver gs numbers)) numbers (long ∙ sym l) (λ i h. at i (subst (λ k. i < k) long h))
+    where
+      long : length (listedOver gs (entryOver gs numbers)) ≡ numberCount gs
+      long = length-rows 4 (entryOver gs numbers) (countsOver gs)
+
+      at : (i : ℕ) → i < numberCount gs → getD (listedOver gs (entryOver gs numbers)) i (pos 0) ≡ getD numbers i (pos 0)
+      at i h =
+          let p-below : i / 4 < length (countsOver gs) = omega arith in
+          let c-below : i % 4 < 4 = omega arith in
+          let i-is : i ≡ 4 * (i / 4) + i % 4 = omega arith in
+          ap (λ k. getD (listedOver gs (entryOver gs numbers)) k (pos 0)) i-is
+          ∙ rows-at 4 (entryOver gs numbers) [] (countsOver gs) (i / 4) (i % 4) p-below c-below
+          ∙ ap (λ k. getD numbers (4 * k + i % 4) (pos 0)) (place-at gs (i / 4) p-below)
+          ∙ ap (λ k. getD numbers k (pos 0)) (sym i-is)
 
   -- functions that agree on the entries are listed alike
   pub listed-over-cong : (f g : ℕ → List (List ℕ) → ℤ) → ((c : ℕ) (es : List (List ℕ)) → c < 4 → Counted gs es → f c es ≡ g c es) → listedOver gs f ≡ listedOver gs g

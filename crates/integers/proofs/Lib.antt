@@ -1,5 +1,6 @@
 pub mod Absolute
 pub mod All
+pub mod Largest
 pub mod Laws
 pub mod Ring
 pub mod Signed

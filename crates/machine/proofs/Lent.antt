@@ -7,8 +7,8 @@ use mathlib.Core.Bool.{Bool, true, false, cond}
 use mathlib.Core.List.{List, [], _∷_, _++_, append-assoc}
 use lib.Dec.{leb, lit≤}
 use lib.IntN.{ℤ, pos, negsuc}
-use lib.ListN.{length, set, take, drop, length-append, length-drop, take-append-drop}
-use lib.Seq.{take-append-add, take-nil, take-at, drop-at, take-take, drop-drop, take-append-le, drop-append-le, drop-append-add, length-take-le, slice}
+use lib.ListN.{length, getD, set, take, drop, length-append, length-drop, take-append-drop}
+use lib.Seq.{take-append-add, take-nil, drop-cons, take-at, drop-at, take-take, drop-drop, take-append-le, drop-append-le, drop-append-add, length-take-le, getD-drop, slice}
 use borrow.Author.Tests.{leb-true, le-leb}
 use Rattle.entries.specs.Entries.{numberCount}
 use Rattle.entries.proofs.Groups.{Framed}
@@ -168,12 +168,15 @@ module _ (net : Net) (lent : List ℤ) (enough : wide lent ≡ true) (sound : So
   abbrev numbers : List ℤ
   numbers = numbersOf (net .frames)
 
-  -- the places with the entries, and with the frames' numbers too
+  -- the places with the largest component, with the entries too, and with the frames' numbers too
   abbrev one : List ℤ
-  one = putAt 12 (net .entries) lent
+  one = putAt 192 (net .largest ∷ []) lent
 
   abbrev two : List ℤ
-  two = putAt 3 numbers one
+  two = putAt 12 (net .entries) one
+
+  abbrev three : List ℤ
+  three = putAt 3 numbers two
 
   entries-count : length (net .entries) ≤ 180
   entries-count = let fit = entries-fit (net .kind) (net .degree) (net .second) (sound .right) in let e = sound .exact in omega arith
@@ -185,40 +188,51 @@ module _ (net : Net) (lent : List ℤ) (enough : wide lent ≡ true) (sound : So
   numbers-count = let fit = frame-few (net .kind) (net .degree) (net .second) in let e = numbers-are in omega arith
 
   -- they have room
-  one-fits : 12 + length (net .entries) ≤ length lent
-  one-fits = let l = long in let e = entries-count in omega arith
-
   one-long : length one ≡ length lent
-  one-long = put-length 12 (net .entries) lent one-fits
+  one-long = put-length 192 (net .largest ∷ []) lent long
 
-  two-fits : 3 + length numbers ≤ length one
-  two-fits = let l = long in let e = one-long in let n = numbers-count in omega arith
+  two-fits : 12 + length (net .entries) ≤ length one
+  two-fits = let l = long in let e = one-long in let n = entries-count in omega arith
 
   two-long : length two ≡ length lent
-  two-long = put-length 3 numbers one two-fits ∙ one-long
+  two-long = put-length 12 (net .entries) one two-fits ∙ one-long
 
-  head-fits : 0 + length head ≤ length two
-  head-fits = let l = long in let e = two-long in omega arith
+  three-fits : 3 + length numbers ≤ length two
+  three-fits = let l = long in let e = two-long in let n = numbers-count in omega arith
+
+  three-long : length three ≡ length lent
+  three-long = put-length 3 numbers two three-fits ∙ two-long
+
+  head-fits : 0 + length head ≤ length three
+  head-fits = let l = long in let e = three-long in omega arith
+
+  -- from the entries on the places are those that hold no frame yet
+  behind : (n : ℕ) → 12 ≤ n → drop n (put net lent) ≡ drop n two
+  unfolding put
+  behind n h = let c = numbers-count in put-behind 0 head three head-fits n (omega arith) ∙ put-behind 3 numbers two three-fits n (omega arith)
 
   -- no place is lost
   pub put-long : length (put net lent) ≡ length lent
   unfolding put
-  put-long = put-length 0 head two head-fits ∙ two-long
+  put-long = put-length 0 head three head-fits ∙ three-long
 
   -- the net is read back
   frames-read : framesOf (netGroups net) (drop 3 (put net lent)) ≡ net .frames
   unfolding put
   frames-read =
-      ap (framesOf (netGroups net)) (put-behind 0 head two head-fits 3 (lit≤ tt) ∙ put-own 3 numbers one two-fits)
-      ∙ frames-back (netGroups net) (net .frames) (drop (3 + length numbers) one) (sound .framed)
+      ap (framesOf (netGroups net)) (put-behind 0 head three head-fits 3 (lit≤ tt) ∙ put-own 3 numbers two three-fits)
+      ∙ frames-back (netGroups net) (net .frames) (drop (3 + length numbers) two) (sound .framed)
 
   entries-read : take (numberCount (netGroups net)) (drop 12 (put net lent)) ≡ net .entries
-  unfolding put
   entries-read =
-      let n = numbers-count in
-      ap (take (numberCount (netGroups net)))
-      (put-behind 0 head two head-fits 12 (lit≤ tt) ∙ put-behind 3 numbers one two-fits 12 (omega arith) ∙ put-own 12 (net .entries) lent one-fits)
-      ∙ take-at (net .entries) (drop (12 + length (net .entries)) lent) (numberCount (netGroups net)) (sound .exact)
+      ap (take (numberCount (netGroups net))) (behind 12 (lit≤ tt) ∙ put-own 12 (net .entries) one two-fits)
+      ∙ take-at (net .entries) (drop (12 + length (net .entries)) one) (numberCount (netGroups net)) (sound .exact)
+
+  largest-read : getD (put net lent) 192 (pos 0) ≡ net .largest
+  largest-read =
+      let n = entries-count in
+      sym (getD-drop 192 (put net lent) 0 (pos 0))
+      ∙ ap (λ l. getD l 0 (pos 0)) (behind 192 (lit≤ tt) ∙ put-behind 12 (net .entries) one two-fits 192 (omega arith) ∙ put-own 192 (net .largest ∷ []) lent long)
 
   pub read-back : netAt (put net lent) ≡ net
   unfolding netAt put
@@ -234,29 +248,40 @@ module _ (net : Net) (lent : List ℤ) (enough : wide lent ≡ true) (sound : So
         second = q i;
         frames = framesOf (groupsOf (k i) (p i) (q i)) (drop 3 (put net lent));
         entries = take (numberCount (groupsOf (k i) (p i) (q i))) (drop 12 (put net lent));
+        largest = getD (put net lent) 192 (pos 0);
       })
-      ∙ (λ i. record { kind = net .kind; degree = net .degree; second = net .second; frames = frames-read i; entries = entries-read i })
+      ∙ (λ i. record { kind = net .kind; degree = net .degree; second = net .second; frames = frames-read i; entries = entries-read i; largest = largest-read i })
 
   -- no other place changes
-  pub put-others : slice (3 + frameCount (netGroups net)) 12 (put net lent) ++ drop (12 + numberCount (netGroups net)) (put net lent)
-      ≡ slice (3 + frameCount (netGroups net)) 12 lent ++ drop (12 + numberCount (netGroups net)) lent
+  pub put-others : slice (3 + frameCount (netGroups net)) 12 (put net lent) ++ (slice (12 + numberCount (netGroups net)) 192 (put net lent) ++ drop 193 (put net lent))
+      ≡ slice (3 + frameCount (netGroups net)) 12 lent ++ (slice (12 + numberCount (netGroups net)) 192 lent ++ drop 193 lent)
   unfolding put
   put-others =
       let n = numbers-are in
       let e = sound .exact in
       let c = numbers-count in
+      let k = entries-count in
       let f = 3 + frameCount (netGroups net) in
       let m = 12 + numberCount (netGroups net) in
+      let own = net .largest ∷ [] in
       ap₂ _++_
-      (put-between 0 head two head-fits f 12 (omega arith) ∙ put-between 3 numbers one two-fits f 12 (omega arith) ∙ ap (drop f) (put-before 12 (net .entries) lent one-fits 12 (lit≤ tt)))
-      (put-behind 0 head two head-fits m (omega arith) ∙ put-behind 3 numbers one two-fits m (omega arith) ∙ put-behind 12 (net .entries) lent one-fits m (omega arith))
+      (put-between 0 head three head-fits f 12 (omega arith)
+      ∙ put-between 3 numbers two three-fits f 12 (omega arith)
+      ∙ ap (drop f) (put-before 12 (net .entries) one two-fits 12 (lit≤ tt) ∙ put-before 192 own lent long 12 (lit≤ tt)))
+      (ap₂ _++_
+      (put-between 0 head three head-fits m 192 (omega arith)
+      ∙ put-between 3 numbers two three-fits m 192 (omega arith)
+      ∙ put-between 12 (net .entries) one two-fits m 192 (omega arith)
+      ∙ ap (drop m) (put-before 192 own lent long 192 (lit≤ tt)))
+      (behind 193 (lit≤ tt) ∙ put-behind 12 (net .entries) one two-fits 193 (omega arith) ∙ put-behind 192 own lent long 193 (lit≤ tt)))
 
-  -- where the head stands there already, only the frames' numbers and the entries are put: so a call writes nothing else
-  pub put-moved : head ≡ take 3 lent → put net lent ≡ two
+  -- where the head stands there already, only the frames' numbers, the entries and the largest component are put: so a call writes nothing else
+  pub put-moved : head ≡ take 3 lent → put net lent ≡ three
   unfolding put
   put-moved h =
-      ap (λ l. l ++ drop 3 two) (h ∙ sym (put-before 3 numbers one two-fits 3 (lit≤ tt) ∙ put-before 12 (net .entries) lent one-fits 3 (lit≤ tt)))
-      ∙ take-append-drop 3 two
+      ap (λ l. l ++ drop 3 three)
+      (h ∙ sym (put-before 3 numbers two three-fits 3 (lit≤ tt) ∙ put-before 12 (net .entries) one two-fits 3 (lit≤ tt) ∙ put-before 192 (net .largest ∷ []) lent long 3 (lit≤ tt)))
+      ∙ take-append-drop 3 three
 
 -- ---- the net that stands there
 
@@ -303,11 +328,13 @@ put-back lent enough right =
     let l = leb-true 193 (length lent) enough in
     let fit = entries-fit (netAt lent .kind) (netAt lent .degree) (netAt lent .second) right in
     let near = frame-few (netAt lent .kind) (netAt lent .degree) (netAt lent .second) in
-    let one = put-same 12 (numberCount gs) lent (omega arith) in
-    let two = ap (λ xs. putAt 3 xs lent) (numbers-back gs (drop 3 lent) (simp length-drop (omega arith))) ∙ put-same 3 (frameCount gs) lent (omega arith) in
+    let one = ap (λ xs. putAt 192 xs lent) (sym (ap (take 1) (drop-cons lent 192 (pos 0) l))) ∙ put-same 192 1 lent l in
+    let two = put-same 12 (numberCount gs) lent (omega arith) in
+    let three = ap (λ xs. putAt 3 xs lent) (numbers-back gs (drop 3 lent) (simp length-drop (omega arith))) ∙ put-same 3 (frameCount gs) lent (omega arith) in
     put-moved (netAt lent) lent enough (stood-sound lent enough right) (head-stood lent enough right)
-    ∙ ap (putAt 3 (numbersOf (netAt lent .frames))) one
-    ∙ two
+    ∙ ap (λ l. putAt 3 (numbersOf (netAt lent .frames)) (putAt 12 (netAt lent .entries) l)) one
+    ∙ ap (putAt 3 (numbersOf (netAt lent .frames))) two
+    ∙ three
 
 -- ---- a point leaves all places
 

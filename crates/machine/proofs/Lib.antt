@@ -1,8 +1,9 @@
 pub mod Refusals
 pub mod Frames
+pub mod Lent
+pub mod Largest
 pub mod Over
 pub mod Found
 pub mod Demand3
-pub mod Lent
 pub mod Carried
 pub mod Samples

@@ -8,10 +8,11 @@ use mathlib.Core.Logic.{_⊎_, inl, inr}
 use mathlib.Core.Bool.{Bool, true, false, _&&_, cond}
 use mathlib.Core.List.{List, [], _∷_, _++_, map, List·Memᴰ, List·Memᴰ·not-nil, List·Memᴰ·append-cases, List·Memᴰ·eq-of-singleton, Memᴰ·map, Memᴰ·of-map}
 use lib.Dec.{eqb, leb, lit≤}
-use lib.IntN.{ℤ, negℤ}
+use lib.IntN.{ℤ, pos, negℤ}
 use lib.ListN.{length, getD, set, replicate}
 use borrow.Author.Tests.{leb-true, leb-false}
 use Rattle.integers.specs.Sum.{upto}
+use Rattle.integers.specs.Largest.{largestOf}
 use Rattle.integers.proofs.Sums.{upto-below, below-upto}
 use Rattle.polar.specs.Sigma.{Point}
 use Rattle.polar.specs.Order.{total, counts}
@@ -23,7 +24,7 @@ use Rattle.entries.specs.Frame.{vertexAt, takenOver, pointsOver, putOver}
 use Rattle.entries.specs.Entries.{listedOver, odd, noneOfQ, asQ, onlyQ, flippedOver}
 use Rattle.entries.proofs.Places.{member-counts}
 use Rattle.entries.proofs.Groups.{Counted, Named, Framed, Forms, polar-forms, fixes-over, putting-over, flipping-over, points-long, named-none, named-as, named-only, only-taken}
-use Rattle.entries.proofs.ListedOver.{in-pairs, member-over, counts-over, entry-listed-over, listed-over-cong}
+use Rattle.entries.proofs.ListedOver.{in-pairs, member-over, counts-over, length-listed-over, entry-listed-over, listed-over-cong}
 use Rattle.projection.specs.Projection.{inRange, projectionOf}
 use Rattle.machine.specs.Refusals.{_else_, firstFailed, allPass, numbered}
 use Rattle.integers.specs.Test.{all}
@@ -41,6 +42,7 @@ use Rattle.machine.specs.declared.Call.{Call}
 use Rattle.machine.specs.declared.Call.the-variants as call
 use Rattle.machine.proofs.Refusals.{none-failed, all-pass-append, row-passes}
 use Rattle.machine.proofs.Frames.{framed-after, in-range-neg, in-range-after}
+use Rattle.machine.proofs.Largest.{moved-largest}
 
 found-cong : (p q : ℕ → ℤ) → ((c : ℕ) → c < 4 → p c ≡ q c) → foundAt p ≡ foundAt q
 unfolding foundAt
@@ -206,11 +208,13 @@ module _ (f : Polynomials) (frames : Frames) (long : Framed (groups f) frames) w
 
   -- ---- accepted calls
 
-  -- entries that are polar values over other frames make the net over those frames
-  over-frames : (other : Frames) (entries : List ℤ) → entries ≡ netOver f other .entries
-      → record { kind = f .kind; degree = f .degree; second = f .second; frames = other; entries = entries } ≡ netOver f other
+  -- entries that are polar values over other frames, with the largest component of them, make the net over those frames
+  over-frames : (other : Frames) (entries : List ℤ) (largest : ℤ) → entries ≡ netOver f other .entries → largest ≡ pos (largestOf entries)
+      → record { kind = f .kind; degree = f .degree; second = f .second; frames = other; entries = entries; largest = largest } ≡ netOver f other
   unfolding netOver
-  over-frames other entries e = λ i. record { kind = f .kind; degree = f .degree; second = f .second; frames = other; entries = e i }
+  over-frames other entries largest e l =
+      let right = l ∙ ap (λ xs. pos (largestOf xs)) e in
+      λ i. record { kind = f .kind; degree = f .degree; second = f .second; frames = other; entries = e i; largest = right i }
 
   -- vertex v of group i put to another point, by whether the call is a replace
   abbrev moved : Bool → ℕ → ℕ → Call → Frames
@@ -320,7 +324,8 @@ module _ (f : Polynomials) (frames : Frames) (at : Reached f frames) where
       let passed = call-passed gs c (newNumbers gs frames c) (machinePolar f frames c) r in
       let here = located gs frames (at .long) (pred vertex) (vertex-below gs operation vertex weights (passed .0)) in (
         refl,
-        over-frames f frames (at .long) (framesAfter gs frames c) _ (listed-over-cong gs _ _ (moved-is f frames (at .long) b i v (here .1) c)),
+        over-frames f frames (at .long) (framesAfter gs frames c) _ _ (listed-over-cong gs _ _ (moved-is f frames (at .long) b i v (here .1) c))
+            (moved-largest (netOver f frames) (length-listed-over gs _) refl operation vertex weights),
         record {
           long = framed-after gs frames c (at .long);
           right = at .right;

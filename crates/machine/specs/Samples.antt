@@ -352,7 +352,7 @@ handed kind degree second x w weight =
     refused
     (firstFailed
     (netTests
-    (record { kind = kind; degree = degree; second = second; frames = framesOf (group 1 1 ∷ []) (row 0 1 1 0); entries = row x 0 0 w ++ row 0 0 0 1 })
+    (record { kind = kind; degree = degree; second = second; frames = framesOf (group 1 1 ∷ []) (row 0 1 1 0); entries = row x 0 0 w ++ row 0 0 0 1; largest = minus 1 })
     (point weight (pos 1) (pos 0) (pos 0))))
 
 abbrev handedNets : List Instance
@@ -379,7 +379,7 @@ handedFrame number component call =
     refused
     (firstFailed
     (netTests
-    (record { kind = 1; degree = 1; second = 0; frames = framesOf (group 1 1 ∷ []) (signed (pos 0) number (pos 1) (pos 0)); entries = component ∷ zeros 7 })
+    (record { kind = 1; degree = 1; second = 0; frames = framesOf (group 1 1 ∷ []) (signed (pos 0) number (pos 1) (pos 0)); entries = component ∷ zeros 7; largest = minus 1 })
     call))
 
 abbrev handedFrames : List Instance

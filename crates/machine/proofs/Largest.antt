@@ -1,0 +1,153 @@
+-- The largest component that a net stores: a replace works it out, and a flip changes signs alone, which the largest absolute value does not see.
+-- In lent places: a call that is not refused was made on a net with all its entries, and what it leaves is read back.
+use Prim.Native.Nat.{ℕ, zero, suc, max}
+use native.Mathlib.Omega.{arith}
+use mathlib.Core.Path.{_≡_, refl, sym, ap, ap₂, _∙_, subst}
+use mathlib.Core.Bool.{Bool, true, false, cond}
+use mathlib.Core.List.{List, [], _∷_, map}
+use lib.Dec.{eqb}
+use lib.IntN.{ℤ, pos, negℤ, natAbs}
+use lib.ListN.{length, getD}
+use Rattle.integers.specs.Sum.{upto}
+use Rattle.integers.specs.Largest.{largestOf}
+use Rattle.integers.proofs.Laws.{natAbs-neg}
+use Rattle.integers.proofs.Largest.{largest-above, largest-reached, largest-append, largest-same}
+use Rattle.polar.specs.Order.{joined}
+use Rattle.polar.specs.Groups.{Group, countsOver}
+use Rattle.entries.specs.Entries.{numberCount, entryOver, listedOver, odd, flippedOver}
+use Rattle.entries.proofs.ListedOver.{listed-again}
+use Rattle.machine.specs.Refusals.{_else_, firstFailed}
+use Rattle.machine.specs.Calls.{ownTests}
+use Rattle.machine.specs.Sizes.{beforeSize, callTests}
+use Rattle.machine.specs.Steps.{Taken, refusalNumber, stepBy}
+use Rattle.machine.specs.Nets.{Net, netGroups, handedTests, judgedNumbers, netTests, entriesAfter, largestAfter, accepted, stepOf}
+use Rattle.machine.specs.Lent.{netAt, put, wide, unlessRefused, room, callNumber, callPlaces}
+use Rattle.machine.specs.Largest.{StoresLargest, Maximum, LargestKept, LargestLent}
+use Rattle.machine.specs.declared.Weights.{Weights}
+use Rattle.machine.specs.declared.Call.{Call}
+use Rattle.machine.specs.declared.Call.the-variants.{Move, Point}
+use Rattle.machine.proofs.Refusals.{none-failed, row-passes}
+use Rattle.machine.proofs.Lent.{Sound, accepted-sound, stood-sound, read-back}
+
+pub maximum : Maximum
+maximum = record { above = largest-above; reached = largest-reached }
+
+-- ---- a flip
+
+-- rows whose numbers differ by sign alone
+rows-same : {A : Type 0} (f g : ℕ → A → ℤ) (es : List A) → ((c : ℕ) (e : A) → natAbs (f c e) ≡ natAbs (g c e))
+    → largestOf (joined (λ e. map (λ c. f c e) (upto 4)) es) ≡ largestOf (joined (λ e. map (λ c. g c e) (upto 4)) es)
+rows-same f g [] h = refl
+rows-same f g (e ∷ es) h =
+    largest-append (map (λ c. f c e) (upto 4)) (joined (λ e. map (λ c. f c e) (upto 4)) es)
+    ∙ ap₂ max (largest-same (λ c. f c e) (λ c. g c e) (upto 4) (λ c. h c e)) (rows-same f g es h)
+    ∙ sym (largest-append (map (λ c. g c e) (upto 4)) (joined (λ e. map (λ c. g c e) (upto 4)) es))
+
+-- entries with some signs changed have the largest component that they had
+flipped-largest : (gs : List Group) (numbers : List ℤ) (i v : ℕ) → length numbers ≡ numberCount gs
+    → largestOf numbers ≡ largestOf (listedOver gs (λ c es. flippedOver i v (entryOver gs numbers c) es))
+unfolding listedOver
+flipped-largest gs numbers i v l =
+    ap largestOf (sym (listed-again gs numbers l))
+    ∙ rows-same (entryOver gs numbers) (λ c es. flippedOver i v (entryOver gs numbers c) es) (countsOver gs)
+    (λ c es. sign (odd (getD (getD es i []) v 0)) (entryOver gs numbers c es))
+  where
+    sign : (s : Bool) (x : ℤ) → natAbs x ≡ natAbs (cond s (negℤ x) x)
+    sign true x = sym (natAbs-neg x)
+    sign false x = refl
+
+-- ---- an accepted move
+
+-- what it leaves is the largest component, where the net had all its entries and stored theirs
+pub moved-largest : (net : Net) → length (net .entries) ≡ numberCount (netGroups net) → StoresLargest net → (operation vertex : ℕ) (weights : Weights)
+    → largestAfter net operation vertex weights ≡ pos (largestOf (entriesAfter net operation vertex weights))
+unfolding largestAfter entriesAfter
+moved-largest net l right operation vertex weights = by (eqb operation 1) _ _ (right ∙ ap pos (flipped-largest (netGroups net) (net .entries) _ _ l))
+  where
+    by : (b : Bool) (f g : ℕ → List (List ℕ) → ℤ) → net .largest ≡ pos (largestOf (listedOver (netGroups net) g))
+        → cond b (pos (largestOf (listedOver (netGroups net) (λ c es. cond b (f c es) (g c es))))) (net .largest) ≡ pos (largestOf (listedOver (netGroups net) (λ c es. cond b (f c es) (g c es))))
+    by true f g h = refl
+    by false f g h = h
+
+-- by its kind: a replace works it out, whatever the net stored, and after a flip it is as it was
+replaced-right : (net : Net) (vertex : ℕ) (weights : Weights) → StoresLargest (accepted net (Move 1 vertex weights) .left)
+unfolding accepted largestAfter
+replaced-right net vertex weights = refl
+
+flipped-right : (net : Net) → length (net .entries) ≡ numberCount (netGroups net) → StoresLargest net → (vertex : ℕ) (weights : Weights) → StoresLargest (accepted net (Move 2 vertex weights) .left)
+unfolding accepted
+flipped-right net l right vertex weights = moved-largest net l right 2 vertex weights
+
+-- ---- calls on handed nets
+
+pub largest-kept : LargestKept
+unfolding stepOf stepBy accepted largestAfter
+largest-kept =
+    record {
+      replaced = λ net vertex weights. replaced net vertex weights (firstFailed (netTests net (Move 1 vertex weights)));
+      handedOn = λ net vertex weights. handed-on net vertex weights (firstFailed (netTests net (Move 2 vertex weights)));
+      flipped = λ net l right vertex weights. flipped net l right vertex weights (firstFailed (netTests net (Move 2 vertex weights)));
+      point = λ net weights. left net weights (firstFailed (netTests net (Point weights)));
+    }
+  where
+    never : (k : ℕ) → 0 ≡ suc k → ⊥
+    never k e = omega arith
+
+    replaced : (net : Net) (vertex : ℕ) (weights : Weights) (k : ℕ) → stepBy k net (accepted net (Move 1 vertex weights)) .answer ≡ Taken
+        → StoresLargest (stepBy k net (accepted net (Move 1 vertex weights)) .left)
+    replaced net vertex weights zero h = replaced-right net vertex weights
+    replaced net vertex weights (suc k) h = absurd (never k (sym (ap refusalNumber h)))
+
+    handed-on : (net : Net) (vertex : ℕ) (weights : Weights) (k : ℕ) → stepBy k net (accepted net (Move 2 vertex weights)) .left .largest ≡ net .largest
+    handed-on net vertex weights zero = refl
+    handed-on net vertex weights (suc k) = refl
+
+    flipped : (net : Net) → length (net .entries) ≡ numberCount (netGroups net) → StoresLargest net → (vertex : ℕ) (weights : Weights) (k : ℕ)
+        → StoresLargest (stepBy k net (accepted net (Move 2 vertex weights)) .left)
+    flipped net l right vertex weights zero = flipped-right net l right vertex weights
+    flipped net l right vertex weights (suc k) = right
+
+    left : (net : Net) (weights : Weights) (k : ℕ) → stepBy k net (accepted net (Point weights)) .left ≡ net
+    left net weights zero = refl
+    left net weights (suc k) = refl
+
+-- ---- calls on lent places
+
+module _ (operation vertex : ℕ) (weights : Weights) (lent : List ℤ) where
+  abbrev move : Call
+  move = Move operation vertex weights
+
+  -- the places of a move that is not refused are enough, and the net in them has all its entries
+  taken-sound : callNumber move lent [] ≡ 0 → (wide lent ≡ true) × Sound (netAt lent)
+  unfolding callNumber netTests handedTests judgedNumbers callTests beforeSize ownTests
+  taken-sound none =
+      let tests = wide lent else 11 ∷ room move [] else 11 ∷ netTests (netAt lent) move in
+      let passed = none-failed tests refl .0 none in
+      (row-passes tests passed 0, stood-sound lent (row-passes tests passed 0) (row-passes tests passed 2))
+
+  -- and what the move leaves then stands there
+  taken-read : callNumber move lent [] ≡ 0 → netAt (callPlaces move lent []) ≡ accepted (netAt lent) move .left
+  unfolding callPlaces
+  taken-read none =
+      let stood = taken-sound none in
+      ap (λ k. netAt (unlessRefused k (put (accepted (netAt lent) move .left) lent) lent)) none
+      ∙ read-back (accepted (netAt lent) move .left) lent (stood .0) (accepted-sound (netAt lent) move (stood .1))
+
+  -- a refused one leaves all places
+  refused-read : (k : ℕ) → callNumber move lent [] ≡ suc k → callPlaces move lent [] ≡ lent
+  unfolding callPlaces
+  refused-read k e = ap (λ j. unlessRefused j (put (accepted (netAt lent) move .left) lent) lent) e
+
+pub largest-lent : LargestLent
+largest-lent =
+    record {
+      replaced = λ lent vertex weights none. subst StoresLargest (sym (taken-read 1 vertex weights lent none)) (replaced-right (netAt lent) vertex weights);
+      flipped = λ lent vertex weights right. flipped lent vertex weights right (callNumber (Move 2 vertex weights) lent []) refl;
+    }
+  where
+    flipped : (lent : List ℤ) (vertex : ℕ) (weights : Weights) → StoresLargest (netAt lent) → (k : ℕ) → callNumber (Move 2 vertex weights) lent [] ≡ k
+        → StoresLargest (netAt (callPlaces (Move 2 vertex weights) lent []))
+    flipped lent vertex weights right zero none =
+        let stood = taken-sound 2 vertex weights lent none .1 in
+        subst StoresLargest (sym (taken-read 2 vertex weights lent none)) (flipped-right (netAt lent) (stood .exact) right vertex weights)
+    flipped lent vertex weights right (suc k) e = subst (λ l. StoresLargest (netAt l)) (sym (refused-read 2 vertex weights lent k e)) right
