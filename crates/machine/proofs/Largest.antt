@@ -58,7 +58,16 @@ flipped-largest gs numbers i v l =
 
 -- ---- an accepted move
 
--- what it leaves is the largest component, where the net had all its entries and stored theirs
+-- a replace works out the largest component, whatever the net stored, and a flip hands on what it stored
+replace-works-out : (net : Net) (vertex : ℕ) (weights : Weights) → largestAfter net 1 vertex weights ≡ pos (largestOf (entriesAfter net 1 vertex weights))
+unfolding largestAfter
+replace-works-out net vertex weights = refl
+
+flip-hands-on : (net : Net) (vertex : ℕ) (weights : Weights) → largestAfter net 2 vertex weights ≡ net .largest
+unfolding largestAfter
+flip-hands-on net vertex weights = refl
+
+-- any move leaves the largest component, where the net had all its entries and stored theirs
 pub moved-largest : (net : Net) → length (net .entries) ≡ numberCount (netGroups net) → StoresLargest net → (operation vertex : ℕ) (weights : Weights)
     → largestAfter net operation vertex weights ≡ pos (largestOf (entriesAfter net operation vertex weights))
 unfolding largestAfter entriesAfter
@@ -69,10 +78,10 @@ moved-largest net l right operation vertex weights = by (eqb operation 1) _ _ (r
     by true f g h = refl
     by false f g h = h
 
--- by its kind: a replace works it out, whatever the net stored, and after a flip it is as it was
+-- the nets that a replace and a flip leave
 replaced-right : (net : Net) (vertex : ℕ) (weights : Weights) → StoresLargest (accepted net (Move 1 vertex weights) .left)
-unfolding accepted largestAfter
-replaced-right net vertex weights = refl
+unfolding accepted
+replaced-right net vertex weights = replace-works-out net vertex weights
 
 flipped-right : (net : Net) → length (net .entries) ≡ numberCount (netGroups net) → StoresLargest net → (vertex : ℕ) (weights : Weights) → StoresLargest (accepted net (Move 2 vertex weights) .left)
 unfolding accepted
@@ -81,7 +90,7 @@ flipped-right net l right vertex weights = moved-largest net l right 2 vertex we
 -- ---- calls on handed nets
 
 pub largest-kept : LargestKept
-unfolding stepOf stepBy accepted largestAfter
+unfolding stepOf stepBy accepted
 largest-kept =
     record {
       replaced = λ net vertex weights. replaced net vertex weights (firstFailed (netTests net (Move 1 vertex weights)));
@@ -99,7 +108,7 @@ largest-kept =
     replaced net vertex weights (suc k) h = absurd (never k (sym (ap refusalNumber h)))
 
     handed-on : (net : Net) (vertex : ℕ) (weights : Weights) (k : ℕ) → stepBy k net (accepted net (Move 2 vertex weights)) .left .largest ≡ net .largest
-    handed-on net vertex weights zero = refl
+    handed-on net vertex weights zero = flip-hands-on net vertex weights
     handed-on net vertex weights (suc k) = refl
 
     flipped : (net : Net) → length (net .entries) ≡ numberCount (netGroups net) → StoresLargest net → (vertex : ℕ) (weights : Weights) (k : ℕ)

@@ -3,6 +3,7 @@ use mathlib.Core.Path.{_≡_, refl, ap₂}
 use mathlib.Core.Bool.{Bool, true, false, _&&_}
 use mathlib.Core.List.{List, [], _∷_, map, List·Memᴰ}
 use lib.Dec.{eqb}
+use lib.IntN.{pos}
 use borrow.Author.Tests.{eqb-true}
 use Rattle.integers.specs.Test.{eqZ, all}
 use Rattle.integers.proofs.Signed.{eqZ→eq}
@@ -20,8 +21,8 @@ use Rattle.machine.specs.Frames.{pointsOf, framesAfter, newNumbers}
 use Rattle.machine.specs.Sizes.{namedByReplace, namedByPoint, namedBy, allNamed, beforeSize, callTests}
 use Rattle.machine.specs.Steps.{foundAt, stepBy, after, answers}
 use Rattle.machine.specs.Comparison.{groups, netOver, machineTests, machineStep, machineAccepted, machinePolar, polarOf, scaledValue}
-use Rattle.machine.specs.Nets.{handedTests, judgedNumbers, netTests, netPolar}
-use Rattle.machine.specs.Lent.{netAt, callNumber, madeNumber}
+use Rattle.machine.specs.Nets.{handedTests, judgedNumbers, netTests, netPolar, entriesAfter, largestAfter, accepted, stepOf}
+use Rattle.machine.specs.Lent.{netAt, put, callNumber, callPlaces, madeNumber}
 use Rattle.machine.specs.First.{firstTests, firstRefusal}
 use Rattle.machine.specs.Samples.{Sample, answerRow, netOf, SampleHolds, samples, Instance, _is_, Right, instances}
 
@@ -41,8 +42,8 @@ same-lists test sound (x ∷ xs) (y ∷ ys) h =
     ap₂ _∷_ (sound x y (both .0)) (same-lists test sound xs ys (both .1))
 
 module _ (s : Sample) where
-  abbrev accepted : Bool
-  accepted = eqb (firstRefusal (s .polynomials) (s .frame)) 0
+  abbrev made : Bool
+  made = eqb (firstRefusal (s .polynomials) (s .frame)) 0
 
   abbrev reached : Bool
   reached = sameBy eqZ (numbersOf (netOf s .frames)) (s .reached)
@@ -50,21 +51,26 @@ module _ (s : Sample) where
   abbrev net : Bool
   net = sameBy eqZ (netOf s .entries) (joined (λ row. row) (s .net))
 
+  abbrev largest : Bool
+  largest = eqZ (netOf s .largest) (pos (s .largest))
+
   abbrev answered : Bool
   answered = sameBy (sameBy eqZ) (map answerRow (answers (machineStep (s .polynomials)) (framesOf (groups (s .polynomials)) (s .frame)) (s .calls))) (s .answers)
 
   abbrev checked : Bool
-  checked = accepted && (reached && (net && answered))
+  checked = made && (reached && (net && (largest && answered)))
 
   checked-holds : checked ≡ true → SampleHolds s
   checked-holds h =
-      let first = and-parts accepted (reached && (net && answered)) h in
-      let second = and-parts reached (net && answered) (first .1) in
-      let rest = and-parts net answered (second .1) in
+      let first = and-parts made (reached && (net && (largest && answered))) h in
+      let second = and-parts reached (net && (largest && answered)) (first .1) in
+      let third = and-parts net (largest && answered) (second .1) in
+      let rest = and-parts largest answered (third .1) in
       record {
         accepted = eqb-true (firstRefusal (s .polynomials) (s .frame)) 0 (first .0);
         reached = same-lists eqZ eqZ→eq _ _ (second .0);
-        net = same-lists eqZ eqZ→eq _ _ (rest .0);
+        net = same-lists eqZ eqZ→eq _ _ (third .0);
+        largest = eqZ→eq _ _ (rest .0);
         answered = same-lists (sameBy eqZ) (same-lists eqZ eqZ→eq) _ _ (rest .1);
       }
 
@@ -85,7 +91,7 @@ agrees-right : (i : Instance) → agrees i ≡ true → Right i
 agrees-right (given is must) h = same-lists eqZ eqZ→eq given must h
 
 instances-agree : all agrees instances ≡ true
-unfolding netOver polarOf pointsOf newNumbers ownTests beforeSize namedBy namedByReplace namedByPoint allNamed callTests firstRefusal firstTests frameOf frameAllowed framesOf framesAllowed σ monomials counts monomialsOver countsOver multinomial leastCommonMultiple scale polarOver listedOver netTests handedTests judgedNumbers netPolar fixedOver entryOver fixed callNumber madeNumber netAt
+unfolding netOver polarOf pointsOf newNumbers ownTests beforeSize namedBy namedByReplace namedByPoint allNamed callTests firstRefusal firstTests frameOf frameAllowed framesOf framesAllowed σ monomials counts monomialsOver countsOver multinomial leastCommonMultiple scale polarOver listedOver netTests handedTests judgedNumbers netPolar fixedOver entryOver fixed callNumber madeNumber netAt entriesAfter largestAfter accepted stepBy stepOf framesAfter put callPlaces
 instances-agree = refl
 
 -- every instance is right

@@ -20,20 +20,21 @@ use Rattle.machine.specs.Refusals.{firstFailed}
 use Rattle.machine.specs.Calls.{weightsFor}
 use Rattle.machine.specs.Frames.{newNumbers}
 use Rattle.machine.specs.Sizes.{callTests, namedByReplace, namedByPoint}
-use Rattle.machine.specs.Nets.{Net, netTests}
-use Rattle.machine.specs.Lent.{callNumber, madeNumber}
+use Rattle.machine.specs.Nets.{Net, netTests, stepOf}
+use Rattle.machine.specs.Lent.{callNumber, callPlaces, madeNumber}
 use Rattle.machine.specs.First.{firstRefusal}
 use Rattle.machine.specs.Demand3.{framesReached}
 use Rattle.machine.specs.declared.Call.{Call}
 use Rattle.machine.specs.declared.Call.the-variants.{Move, Point}
 
--- a sample: polynomials and the numbers of a frame, the calls made, the frame's numbers and the net reached, and what each call is answered
+-- a sample: polynomials and the numbers of a frame, the calls made, the frame's numbers and the net reached with the largest component that it stores, and what each call is answered
 pub record Sample : Type 0 where
   pub polynomials : Polynomials
   pub frame : List ℤ
   pub calls : List Call
   pub reached : List ℤ
   pub net : List (List ℤ)
+  pub largest : ℕ
   pub answers : List (List ℤ)
 
 -- an answer in a row: the number of the refusal or 0, and then the answer's values
@@ -49,6 +50,7 @@ pub record SampleHolds (s : Sample) : Type 0 where
   pub accepted : firstRefusal (s .polynomials) (s .frame) ≡ 0
   pub reached : numbersOf (netOf s .frames) ≡ s .reached
   pub net : netOf s .entries ≡ joined (λ row. row) (s .net)
+  pub largest : netOf s .largest ≡ pos (s .largest)
   pub answered : map answerRow (answers (machineStep (s .polynomials)) (framesOf (groups (s .polynomials)) (s .frame)) (s .calls)) ≡ s .answers
 
 -- ---- how the table is written
@@ -135,6 +137,7 @@ samples =
       calls = point (pos 1) (pos 1) (pos 0) (pos 0) ∷ [];
       reached = row 0 1 1 1;
       net = row 2 0 0 2 ∷ row 2 2 0 2 ∷ row 0 4 0 4 ∷ [];
+      largest = 4;
       -- 0.6, 0.8 and 0, as in the circle's text
       answers = found (row 6 8 0 10) (finite 0x3fe3333333333333 0x3fe999999999999a 0) ∷ [];
     }
@@ -145,6 +148,7 @@ samples =
       calls = replace 2 (pos 1) (pos 1) ∷ [];
       reached = row 0 1 1 2;
       net = row 2 0 0 2 ∷ row 4 2 0 4 ∷ row 6 8 0 10 ∷ [];
+      largest = 10;
       answers = taken ∷ [];
     }
     ∷  -- B4 and B5
@@ -154,6 +158,7 @@ samples =
       calls = flip 1 ∷ point (pos 1) (pos 1) (pos 0) (pos 0) ∷ [];
       reached = signed (pos 0) (minus 1) (pos 1) (pos 1);
       net = row 2 0 0 2 ∷ signed (minus 2) (minus 2) (pos 0) (minus 2) ∷ row 0 4 0 4 ∷ [];
+      largest = 4;
       -- -1, 0 and 0
       answers = taken ∷ found (signed (minus 2) (pos 0) (pos 0) (pos 2)) (finite 0xbff0000000000000 0 0) ∷ [];
     }
@@ -164,6 +169,7 @@ samples =
       calls = point (pos 2) (minus 1) (pos 0) (pos 0) ∷ [];
       reached = row 0 1 1 1;
       net = row 0 0 0 3 ∷ row 3 0 0 3 ∷ row 6 3 0 3 ∷ row 9 9 0 6 ∷ [];
+      largest = 9;
       answers = found (signed (minus 9) (pos 9) (pos 0) (pos 0)) (direction (pos 1) (minus 1) (pos 0) 9) ∷ [];
     }
     ∷  -- B8 and B9
@@ -173,6 +179,7 @@ samples =
       calls = point (pos 1) (pos 1) (pos 1) (pos 0) ∷ [];
       reached = pos 1 ∷ pos 0 ∷ pos 1 ∷ pos 0 ∷ pos 1 ∷ pos 1 ∷ pos 0 ∷ pos 0 ∷ pos 1 ∷ [];
       net = row 2 0 0 2 ∷ row 1 1 1 2 ∷ row 1 0 0 2 ∷ row 0 2 0 2 ∷ row 0 1 0 2 ∷ row 0 0 0 2 ∷ [];
+      largest = 2;
       -- 1/3, 1/3 and 1/9
       answers = found (row 6 6 2 18) (finite 0x3fd5555555555555 0x3fd5555555555555 0x3fbc71c71c71c71c) ∷ [];
     }
@@ -183,6 +190,7 @@ samples =
       calls = replace 1 (pos 4096) (pos 1) ∷ replace 1 (pos 4096) (pos 1) ∷ replace 1 (pos 16) (pos 1) ∷ [];
       reached = row 65553 268435456 1 0;
       net = row 281474976710656 0 0 268501009 ∷ row 0 0 0 1 ∷ [];
+      largest = 281474976710656;
       answers = taken ∷ taken ∷ taken ∷ [];
     }
     ∷  -- and refusals with several reasons: 8 and 10, 8 and 9 and 10, 9 and 10; of a point 8 and 10, 8 and 9, 9
@@ -202,6 +210,7 @@ samples =
           ∷ [];
       reached = row 4097 16777216 1 0;
       net = row 17592186044416 0 0 16781313 ∷ row 0 0 0 1 ∷ [];
+      largest = 17592186044416;
       answers = taken ∷ taken ∷ refused 10 ∷ refused 8 ∷ refused 8 ∷ refused 9 ∷ refused 8 ∷ refused 8 ∷ refused 9 ∷ [];
     }
     ∷  -- a move's own refusals: operation, vertex, weight outside, weight of a flip, weight past the vertices, weight 0 of the replaced vertex
@@ -220,6 +229,7 @@ samples =
           ∷ [];
       reached = pos 1 ∷ pos 0 ∷ pos 1 ∷ pos 0 ∷ pos 1 ∷ pos 1 ∷ pos 0 ∷ pos 0 ∷ pos 1 ∷ [];
       net = row 2 0 0 2 ∷ row 1 1 1 2 ∷ row 1 0 0 2 ∷ row 0 2 0 2 ∷ row 0 1 0 2 ∷ row 0 0 0 2 ∷ [];
+      largest = 2;
       answers = refused 8 ∷ refused 8 ∷ refused 8 ∷ refused 8 ∷ refused 8 ∷ refused 8 ∷ refused 8 ∷ refused 9 ∷ [];
     }
     ∷  -- every case of a projection: x = -4T², y = 3TZ + 6T², z = 0, w = -2TZ is nowhere, in a direction, and at 2, -4.5 and positive zero over a weight below 0
@@ -229,6 +239,7 @@ samples =
       calls = point (pos 1) (pos 0) (pos 0) (pos 0) ∷ point (pos 0) (pos 1) (pos 0) (pos 0) ∷ point (pos 1) (pos 1) (pos 0) (pos 0) ∷ [];
       reached = row 0 1 1 0;
       net = row 0 0 0 0 ∷ signed (pos 0) (pos 3) (pos 0) (minus 2) ∷ signed (minus 8) (pos 12) (pos 0) (pos 0) ∷ [];
+      largest = 12;
       answers =
           found (row 0 0 0 0) []
           ∷ found (signed (minus 8) (pos 12) (pos 0) (pos 0)) (direction (pos 2) (minus 3) (pos 0) 4)
@@ -261,6 +272,7 @@ samples =
           ∷ signed (pos 0) (pos 0) (minus 26) (pos 0)
           ∷ signed (minus 6) (minus 8) (minus 26) (minus 10)
           ∷ [];
+      largest = 26;
       answers =
           taken
           ∷ taken
@@ -288,6 +300,7 @@ samples =
           ∷ []);
       reached = signed (pos 0) (minus 281474976710656) (pos 1) (pos 1);
       net = row 0 0 0 0 ∷ row 1 0 0 0 ∷ [];
+      largest = 1;
       answers = replicate 4 taken ++ (refused 12 ∷ found (row 1 0 0 0) (direction (pos 1) (pos 0) (pos 0) 1) ∷ taken ∷ refused 12 ∷ []);
     }
     ∷  -- 12 before 10 and after 8 and 9
@@ -303,6 +316,7 @@ samples =
           ∷ []);
       reached = row 0 281474976710656 1 1;
       net = row 281474976710656 0 0 0 ∷ row 1 0 0 0 ∷ [];
+      largest = 281474976710656;
       answers = replicate 4 taken ++ (refused 12 ∷ refused 10 ∷ refused 8 ∷ refused 9 ∷ []);
     }
     ∷  -- the q of the second pair, over the numbers of that pair
@@ -317,6 +331,7 @@ samples =
           ∷ []);
       reached = row 1 1 0 1 ++ row 0 281474976710656 1 1;
       net = row 0 0 0 0 ∷ row 0 0 0 1 ∷ row 0 0 0 0 ∷ row 0 0 0 0 ∷ [];
+      largest = 1;
       answers = replicate 4 taken ++ (refused 12 ∷ taken ∷ refused 12 ∷ []);
     }
     ∷ []
@@ -346,7 +361,7 @@ firstNets =
     ∷ refused (firstRefusal (far 11 0 1048577) (row 4 4 4 4)) is refused 4
     ∷ []
 
--- the refusals 4 and 10 of a handed net before those of the call; its first entry is x, 0, 0, w
+-- the refusals 4 and 10 of a handed net before those of the call; its first entry is x, 0, 0, w; what a net claims as its largest component is not judged
 abbrev handed : ℕ → ℕ → ℕ → ℕ → ℕ → ℤ → List ℤ
 handed kind degree second x w weight =
     refused
@@ -373,7 +388,7 @@ handedNets =
 abbrev zeros : ℕ → List ℤ
 zeros n = replicate n (pos 0)
 
--- the refusal 12 of a handed net: Z is `number` at r, and x of the first entry is `component`
+-- the refusal 12 of a handed net: Z is `number` at r, and x of the first entry is `component`; what it claims as its largest component is not judged
 abbrev handedFrame : ℤ → ℤ → Call → List ℤ
 handedFrame number component call =
     refused
@@ -413,6 +428,41 @@ lentNets =
     ∷ refused (madeNumber 3 0 0 (zeros 9) (zeros 179) (zeros 193)) is refused 11
     ∷ refused (madeNumber 3 0 0 (zeros 9) (zeros 180) (zeros 192)) is refused 11
     ∷ refused (madeNumber 3 0 0 (zeros 9) (zeros 180) (zeros 193)) is refused 4
+    ∷ []
+
+-- ---- the largest component of handed nets
+
+-- the entries of a line: at r and at s of its frame
+abbrev lineEntries : List ℤ
+lineEntries = signed (minus 3) (pos 1) (pos 0) (pos 2) ++ row 1 5 0 1
+
+-- this line over a frame, with the largest component -1, which no net has
+abbrev claiming : Net
+claiming = record { kind = 1; degree = 1; second = 0; frames = framesOf (group 1 1 ∷ []) (row 0 1 1 0); entries = lineEntries; largest = minus 1 }
+
+-- what the net that a call leaves stores, and its entries
+abbrev stored : Call → List ℤ
+stored call = let left = stepOf claiming call .left in left .largest ∷ left .entries
+
+-- a line in lent places; all places that are not its own hold 100
+abbrev lentLine : List ℤ → List ℤ → ℤ → List ℤ
+lentLine frame entries largest =
+    pos 1 ∷ pos 1 ∷ pos 0 ∷ (frame ++ replicate 5 (pos 100) ++ entries ++ replicate 172 (pos 100) ++ (largest ∷ pos 100 ∷ []))
+
+abbrev lentAfter : Call → List ℤ
+lentAfter call = callPlaces call (lentLine (row 0 1 1 0) lineEntries (minus 1)) []
+
+-- a replace works it out from the entries that it leaves, not from what is claimed and not from places past the entries; a flip, a point and a refused replace hand on what is claimed
+abbrev claims : List Instance
+claims =
+    stored (replace 2 (pos 1) (minus 2)) is (pos 9 ∷ (signed (minus 3) (pos 1) (pos 0) (pos 2) ++ signed (minus 5) (minus 9) (pos 0) (pos 0)))
+    ∷ stored (flip 2) is (minus 1 ∷ (signed (minus 3) (pos 1) (pos 0) (pos 2) ++ signed (minus 1) (minus 5) (pos 0) (minus 1)))
+    ∷ stored (point (pos 1) (pos 1) (pos 0) (pos 0)) is (minus 1 ∷ lineEntries)
+    ∷ stored (replace 2 (pos 1) (pos 4097)) is (minus 1 ∷ lineEntries)
+    ∷ lentAfter (replace 2 (pos 1) (minus 2))
+    is lentLine (signed (pos 0) (pos 1) (minus 2) (pos 1)) (signed (minus 3) (pos 1) (pos 0) (pos 2) ++ signed (minus 5) (minus 9) (pos 0) (pos 0)) (pos 9)
+    ∷ lentAfter (flip 2) is lentLine (signed (pos 0) (pos 1) (minus 1) (pos 0)) (signed (minus 3) (pos 1) (pos 0) (pos 2) ++ signed (minus 1) (minus 5) (pos 0) (minus 1)) (minus 1)
+    ∷ lentAfter (replace 2 (pos 1) (pos 4097)) is lentLine (row 0 1 1 0) lineEntries (minus 1)
     ∷ []
 
 -- ---- two groups of two vertices, as request E3 has them
@@ -487,4 +537,4 @@ twoGroups =
     ∷ []
 
 abbrev pub instances : List Instance
-instances = firstNets ++ handedNets ++ handedFrames ++ lentNets ++ twoGroups
+instances = firstNets ++ handedNets ++ handedFrames ++ lentNets ++ claims ++ twoGroups
