@@ -21,7 +21,7 @@ pub largest-above : (xs : List ℤ) (x : ℤ) → List·Memᴰ x xs → natAbs x
 largest-above [] x m = absurd (List·Memᴰ·not-nil m)
 largest-above (y ∷ xs) x m = by (largest-above xs x) (List·Memᴰ·cases-cons m)
   where
-    by : (List·Memᴰ x xs → natAbs x ≤ largestOf xs) → (x ≡ y) ⊎ List·Memᴰ x xs → natAbs x ≤ max (natAbs y) (largestOf xs)
+    by : (List·Memᴰ x xs → natAbs x ≤ largestOf xs) → (x ≡ y) ⊎ List·Memᴰ x xs → natAbs x ≤ largestOf (y ∷ xs)
     by rest (inl e) = let p = ap natAbs e in omega arith
     by rest (inr k) = let below = rest k in omega arith
 
@@ -31,7 +31,7 @@ largest-reached x [] = (x, List·Memᴰ·head refl, omega arith)
 largest-reached x (z ∷ xs) = by (largest-reached z xs) (decLe (natAbs x) (largestOf (z ∷ xs)))
   where
     by : ((y : ℤ) × List·Memᴰ y (z ∷ xs) × (natAbs y ≡ largestOf (z ∷ xs))) → Dec (natAbs x ≤ largestOf (z ∷ xs))
-        → (y : ℤ) × List·Memᴰ y (x ∷ z ∷ xs) × (natAbs y ≡ max (natAbs x) (largestOf (z ∷ xs)))
+        → (y : ℤ) × List·Memᴰ y (x ∷ z ∷ xs) × (natAbs y ≡ largestOf (x ∷ z ∷ xs))
     by (y, m, e) (yes h) = (y, List·Memᴰ·tail m, omega arith)
     by rest (no h) = (x, List·Memᴰ·head refl, omega arith)
 
