@@ -1,9 +1,10 @@
 pub mod Refusals
 pub mod Frames
-pub mod Lent
-pub mod Largest
+pub mod LargestAfter
 pub mod Over
 pub mod Found
 pub mod Demand3
+pub mod Lent
 pub mod Carried
+pub mod Largest
 pub mod Samples

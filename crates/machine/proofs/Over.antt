@@ -42,7 +42,7 @@ use Rattle.machine.specs.declared.Call.{Call}
 use Rattle.machine.specs.declared.Call.the-variants as call
 use Rattle.machine.proofs.Refusals.{none-failed, all-pass-append, row-passes}
 use Rattle.machine.proofs.Frames.{framed-after, in-range-neg, in-range-after}
-use Rattle.machine.proofs.Largest.{moved-largest}
+use Rattle.machine.proofs.LargestAfter.{moved-largest}
 
 found-cong : (p q : ℕ → ℤ) → ((c : ℕ) → c < 4 → p c ≡ q c) → foundAt p ≡ foundAt q
 unfolding foundAt
