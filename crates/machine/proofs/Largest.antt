@@ -4,7 +4,7 @@ use native.Mathlib.Omega.{arith}
 use mathlib.Core.Path.{_≡_, refl, sym, ap, _∙_, subst}
 use mathlib.Core.Bool.{true}
 use mathlib.Core.List.{List, [], _∷_}
-use lib.IntN.{ℤ}
+use lib.IntN.{ℤ, pos}
 use lib.ListN.{length}
 use Rattle.integers.proofs.Largest.{largest-above, largest-reached}
 use Rattle.entries.specs.Entries.{numberCount}
@@ -19,7 +19,7 @@ use Rattle.machine.specs.declared.Weights.{Weights}
 use Rattle.machine.specs.declared.Call.{Call}
 use Rattle.machine.specs.declared.Call.the-variants.{Move, Point}
 use Rattle.machine.proofs.Refusals.{none-failed, row-passes}
-use Rattle.machine.proofs.LargestAfter.{replace-works-out, flip-hands-on, moved-largest}
+use Rattle.machine.proofs.LargestAfter.{replace-works-out, flip-hands-on, flip-keeps-largest}
 use Rattle.machine.proofs.Lent.{Sound, accepted-sound, stood-sound, read-back}
 
 pub maximum : Maximum
@@ -34,7 +34,7 @@ replaced-right net vertex weights = replace-works-out net vertex weights
 
 flipped-right : (net : Net) → length (net .entries) ≡ numberCount (netGroups net) → StoresLargest net → (vertex : ℕ) (weights : Weights) → StoresLargest (accepted net (Move 2 vertex weights) .left)
 unfolding accepted
-flipped-right net l right vertex weights = moved-largest net l right 2 vertex weights
+flipped-right net l right vertex weights = flip-hands-on net vertex weights ∙ right ∙ ap pos (flip-keeps-largest net l vertex weights)
 
 pub largest-kept : LargestKept
 unfolding stepOf stepBy accepted

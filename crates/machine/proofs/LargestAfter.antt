@@ -1,5 +1,5 @@
 -- The largest component after an accepted move: a replace works it out, and a flip changes signs alone, which the largest absolute value does not see.
-use Prim.Native.Nat.{ℕ, max}
+use Prim.Native.Nat.{ℕ, pred, max}
 use mathlib.Core.Path.{_≡_, refl, sym, ap, ap₂, _∙_}
 use mathlib.Core.Bool.{Bool, true, false, cond}
 use mathlib.Core.List.{List, [], _∷_, map}
@@ -14,7 +14,8 @@ use Rattle.polar.specs.Order.{joined}
 use Rattle.polar.specs.Groups.{Group, countsOver}
 use Rattle.entries.specs.Entries.{numberCount, entryOver, listedOver, odd, flippedOver}
 use Rattle.entries.proofs.ListedOver.{listed-again}
-use Rattle.machine.specs.Nets.{Net, netGroups, entriesAfter, largestAfter}
+use Rattle.machine.specs.Calls.{groupAt, ownAt}
+use Rattle.machine.specs.Nets.{Net, netGroups, entry, entriesAfter, largestAfter}
 use Rattle.machine.specs.Largest.{StoresLargest}
 use Rattle.machine.specs.declared.Weights.{Weights}
 
@@ -52,6 +53,16 @@ replace-works-out net vertex weights = refl
 pub flip-hands-on : (net : Net) (vertex : ℕ) (weights : Weights) → largestAfter net 2 vertex weights ≡ net .largest
 unfolding largestAfter
 flip-hands-on net vertex weights = refl
+
+-- the entries that a flip leaves are those that it was given, with some signs changed, and have the same largest component
+flip-changes-signs : (net : Net) (vertex : ℕ) (weights : Weights)
+    → entriesAfter net 2 vertex weights ≡ listedOver (netGroups net) (λ c es. flippedOver (groupAt (netGroups net) (pred vertex)) (ownAt (netGroups net) (pred vertex)) (entry net c) es)
+unfolding entriesAfter
+flip-changes-signs net vertex weights = refl
+
+pub flip-keeps-largest : (net : Net) → length (net .entries) ≡ numberCount (netGroups net) → (vertex : ℕ) (weights : Weights)
+    → largestOf (net .entries) ≡ largestOf (entriesAfter net 2 vertex weights)
+flip-keeps-largest net l vertex weights = flipped-largest (netGroups net) (net .entries) _ _ l ∙ sym (ap largestOf (flip-changes-signs net vertex weights))
 
 -- any move leaves the largest component, where the net had all its entries and stored theirs
 pub moved-largest : (net : Net) → length (net .entries) ≡ numberCount (netGroups net) → StoresLargest net → (operation vertex : ℕ) (weights : Weights)
