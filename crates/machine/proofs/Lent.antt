@@ -103,6 +103,11 @@ put-same at n lent fits =
     ∙ ap (λ l. take at lent ++ l) (ap (λ l. take n (drop at lent) ++ l) (sym (drop-drop n at lent)) ∙ take-append-drop n (drop at lent))
     ∙ take-append-drop at lent
 
+pub put-here : (at : ℕ) (lent : List ℤ) → at < length lent → putAt at (getD lent at (pos 0) ∷ []) lent ≡ lent
+put-here at lent there =
+    let one : at + 1 ≤ length lent = omega arith in
+    ap (λ xs. putAt at xs lent) (sym (ap (take 1) (drop-cons lent at (pos 0) there))) ∙ put-same at 1 lent one
+
 -- numbers put into the first of two lists, or into the second
 pub put-first : (at : ℕ) (xs A B : List ℤ) → at + length xs ≤ length A → putAt at xs (A ++ B) ≡ putAt at xs A ++ B
 put-first at xs A B h =
@@ -114,6 +119,32 @@ put-second at xs A B =
     let further : length A + at + length xs ≡ length A + (at + length xs) = omega arith in
     ap₂ (λ l r. l ++ (xs ++ r)) (take-append-add A B at) (ap (λ k. drop k (A ++ B)) further ∙ drop-append-add A B (at + length xs))
     ∙ append-assoc A (take at B) (xs ++ drop (at + length xs) B)
+
+-- numbers put into places that are apart, in either order
+pub put-apart : (at by : ℕ) (xs ys lent : List ℤ) → at + length xs ≤ by → by ≤ length lent → putAt by ys (putAt at xs lent) ≡ putAt at xs (putAt by ys lent)
+put-apart at by xs ys lent apart room =
+    ap (λ l. putAt by ys (putAt at xs l)) (sym whole)
+    ∙ ap (putAt by ys) (put-first at xs A B inside)
+    ∙ behind (putAt at xs A) (put-length at xs A inside ∙ front-long)
+    ∙ sym (ap (λ l. putAt at xs (putAt by ys l)) (sym whole) ∙ ap (putAt at xs) (behind A front-long) ∙ put-first at xs A (putAt 0 ys B) inside)
+  where
+    A : List ℤ
+    A = take by lent
+
+    B : List ℤ
+    B = drop by lent
+
+    whole : A ++ B ≡ lent
+    whole = take-append-drop by lent
+
+    front-long : length A ≡ by
+    front-long = length-take-le by lent room
+
+    inside : at + length xs ≤ length A
+    inside = omega (arith, front-long)
+
+    behind : (C : List ℤ) → length C ≡ by → putAt by ys (C ++ B) ≡ C ++ putAt 0 ys B
+    behind C long = let here : by ≡ length C + 0 = omega arith in ap (λ k. putAt k ys (C ++ B)) here ∙ put-second 0 ys C B
 
 -- numbers put into a part that is put where it stands
 pub put-within : (at k n : ℕ) (xs lent : List ℤ) → at + n ≤ length lent → k + length xs ≤ n → putAt at (putAt k xs (take n (drop at lent))) lent ≡ putAt (at + k) xs lent
@@ -328,7 +359,7 @@ put-back lent enough right =
     let l = leb-true 193 (length lent) enough in
     let fit = entries-fit (netAt lent .kind) (netAt lent .degree) (netAt lent .second) right in
     let near = frame-few (netAt lent .kind) (netAt lent .degree) (netAt lent .second) in
-    let one = ap (λ xs. putAt 192 xs lent) (sym (ap (take 1) (drop-cons lent 192 (pos 0) l))) ∙ put-same 192 1 lent l in
+    let one = put-here 192 lent l in
     let two = put-same 12 (numberCount gs) lent (omega arith) in
     let three = ap (λ xs. putAt 3 xs lent) (numbers-back gs (drop 3 lent) (simp length-drop (omega arith))) ∙ put-same 3 (frameCount gs) lent (omega arith) in
     put-moved (netAt lent) lent enough (stood-sound lent enough right) (head-stood lent enough right)

@@ -35,7 +35,7 @@ use Rattle.machine.specs.Calls.{groupAt, ownAt, weightsFor, ownTests}
 use Rattle.machine.specs.Frames.{pointsOf, framesAfter, newNumbers}
 use Rattle.machine.specs.Sizes.{namedByReplace, namedByPoint, namedBy, allNamed, beforeSize, callTests}
 use Rattle.machine.specs.Steps.{Found, foundAt, stepBy}
-use Rattle.machine.specs.Nets.{Net, entry, netPolar, netInRange, handedTests, judgedNumbers, netTests, entriesAfter, accepted, stepOf}
+use Rattle.machine.specs.Nets.{Net, netGroups, entry, netPolar, netInRange, handedTests, judgedNumbers, netTests, entriesAfter, accepted, stepOf}
 use Rattle.machine.specs.Comparison.{Polynomials, groups, polarOf, scaledValue, machinePolar, machineTests, machineAccepted, machineStep, netOver}
 use Rattle.machine.specs.declared.Weights.{Weights}
 use Rattle.machine.specs.declared.Call.{Call}
@@ -166,6 +166,18 @@ listed-in-at gs g ok c es k counted =
     (sym (all-map inRange (λ i. g i es) (upto 4))
     ∙ all-at (λ r. all inRange (map (λ i. g i r) (upto 4))) (countsOver gs) (sym (all-joined inRange (λ r. map (λ i. g i r) (upto 4)) (countsOver gs)) ∙ ok) es (member-over gs es counted))
     c (below-upto 4 c k)
+
+-- a replace of any net whose named values are in range leaves entries in range
+pub replaced-in : (net : Net) (vertex : ℕ) (weights : Weights) → groupAt (netGroups net) (pred vertex) < length (netGroups net)
+    → allNamed (namedBy (netGroups net) (call.Move 1 vertex weights)) (netPolar net (call.Move 1 vertex weights)) ≡ true → all inRange (entriesAfter net 1 vertex weights) ≡ true
+unfolding entriesAfter namedBy
+replaced-in net vertex weights there named =
+    let gs = netGroups net in
+    let i = groupAt gs (pred vertex) in
+    let v = ownAt gs (pred vertex) in
+    let move = call.Move 1 vertex weights in
+    listed-in gs (λ c es. netPolar net move c (asQ i v es))
+    (λ c es k counted. named-at (namedByReplace gs i) (netPolar net move) named c (asQ i v es) k (as-named gs i v es there counted))
 
 -- ---- the net over frames
 

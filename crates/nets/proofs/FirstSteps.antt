@@ -12,8 +12,10 @@ use lib.IntN.{ℤ, pos, natAbs}
 use lib.ListN.{length, getD, take, drop, length-append, length-drop, take-append-drop}
 use lib.Seq.{take-nil, take-all, take-at, drop-at, drop-drop, take-append-le, drop-append-le, length-take-le, getD-take}
 use borrow.Author.Tests.{leb-true, le-leb, lt-leb}
+use Rattle.integers.specs.Largest.{largestOf}
 use Rattle.integers.specs.Test.{within, all}
 use Rattle.integers.proofs.All.{and-parts, all-first}
+use Rattle.integers.proofs.Largest.{largest-within}
 use Rattle.polar.specs.Sigma.{Exponents}
 use Rattle.integers.specs.Sum.{upto}
 use Rattle.polar.specs.Order.{joined, counts, monomials}
@@ -367,10 +369,11 @@ module _ (kind p q : ℕ) (right : known kind p q ≡ true) where
             joined-upto k (λ j. framed 4 l q (take 5 (drop 4 frame)) (partAt (size 4 l q) out j)) (λ j. framed 4 l q (drop (suc n * suc n) frame) (partAt w (framed w n p frame coefficients) j))
             (λ j h. ap₂ (framed 4 l q) (others-are frame nine some) (part-is frame coefficients some room out places made j (inside j h)))
 
-    -- and their test is that of the net
-    pub first-ranged : (out ys : List ℤ) (count : ℕ) (b : Bool) → count ≡ numberCount (groupsOf kind p q) → ys ≡ putAt 0 (net .entries) out → b ≡ all (within 281474976710656) (take count ys) → b ≡ netInRange net
-    first-ranged out ys count b counted is tested =
-        tested ∙ ap (λ l. all inRange (take count l)) is ∙ ap (all inRange) (take-at (net .entries) (drop (0 + length (net .entries)) out) count (first-count ∙ sym counted))
+    -- and their largest component is that of the net
+    pub first-largest : (out ys : List ℤ) (count largest : ℕ) → count ≡ numberCount (groupsOf kind p q) → ys ≡ putAt 0 (net .entries) out → largest ≡ largestOf (take count ys)
+        → largest ≡ largestOf (net .entries)
+    first-largest out ys count largest counted is found =
+        found ∙ ap (λ l. largestOf (take count l)) is ∙ ap largestOf (take-at (net .entries) (drop (0 + length (net .entries)) out) count (first-count ∙ sym counted))
 
 -- ---- the answers in the order of the tests
 
@@ -447,31 +450,39 @@ part-copied at n lent xs count room fits long =
     part-long : length (take n (drop at lent)) ≡ n
     part-long = length-take-le n (drop at lent) (simp length-drop (omega arith))
 
-module _ (kind p q : ℕ) (lent frame entries : List ℤ) (asked : Stores kind p q lent frame entries) where
+module _ (kind p q largest : ℕ) (lent frame entries : List ℤ) (asked : Stores kind p q largest lent frame entries) where
   abbrev gs : List Group
   gs = groupsOf kind p q
 
-  -- the entries are copied into their part of the places, the frame's numbers into theirs, and the head is put
-  pub net-put : (some more ys : List ℤ) → some ≡ putAt 12 (take (numberCount gs) entries) lent → more ≡ putAt 3 (take (frameCount gs) frame) some
+  -- the net is in range where its largest component is
+  pub range-is : leb largest 281474976710656 ≡ netInRange (netWith kind p q frame entries)
+  range-is = ap (λ l. leb l 281474976710656) (asked .largest-is) ∙ sym (largest-within 281474976710656 (take (numberCount gs) entries))
+
+  -- the largest component is put, the entries are copied into their part of the places, the frame's numbers into theirs, and the head is put
+  pub net-put : (base some more ys : List ℤ) → base ≡ putAt 192 (pos largest ∷ []) lent → some ≡ putAt 12 (take (numberCount gs) entries) base → more ≡ putAt 3 (take (frameCount gs) frame) some
       → ys ≡ putAt 0 (pos kind ∷ pos p ∷ pos q ∷ []) more → ys ≡ put (netWith kind p q frame entries) lent
   unfolding put
-  net-put some more ys some-is more-is is =
+  net-put base some more ys base-is some-is more-is is =
       is
       ∙ ap (putAt 0 (pos kind ∷ pos p ∷ pos q ∷ []))
-      (more-is ∙ ap₂ (λ numbers l. putAt 3 numbers l) (sym (numbers-back gs frame (subst (λ k. frameCount gs ≤ k) (sym (asked .nine)) (frame-few kind p q)))) some-is)
+      (more-is
+      ∙ ap₂ (λ numbers l. putAt 3 numbers l) (sym (numbers-back gs frame (subst (λ k. frameCount gs ≤ k) (sym (asked .nine)) (frame-few kind p q))))
+      (some-is ∙ ap (putAt 12 (take (numberCount gs) entries)) (base-is ∙ ap (λ l. putAt 192 (pos l ∷ []) lent) (asked .largest-is))))
 
 -- a first net that is made in a room is stored as it is
-pub first-stored : (kind p q : ℕ) → known kind p q ≡ true → (frame coefficients room out lent ys : List ℤ) (b : Bool) (k : ℕ)
-    → let f = polynomialsFrom kind p q coefficients in
-    out ≡ putAt 0 (firstNet f frame .entries) room → b ≡ netInRange (firstNet f frame) → Stored (netWith kind p q frame out) b lent k ys → FirstStored f frame lent k ys
-unfolding netOver
-first-stored kind p q right frame coefficients room out lent ys b k made-is range is =
-    let f = polynomialsFrom kind p q coefficients in
-    let entries = firstNet f frame .entries in
-    let count = first-count kind p q right frame coefficients in
-    let own : take (numberCount (groupsOf kind p q)) out ≡ entries =
-    ap (take (numberCount (groupsOf kind p q))) made-is ∙ take-at entries (drop (0 + length entries) room) (numberCount (groupsOf kind p q)) count in
-    record {
-      number-is = is .number-is ∙ ap (λ r. firstFailed (r else 7 ∷ [])) range;
-      places-are = is .places-are ∙ ap (λ l. unlessRefused k (put (record { kind = kind; degree = p; second = q; frames = framesOf (groupsOf kind p q) frame; entries = l }) lent) lent) own;
-    }
+module _ (kind p q : ℕ) (right : known kind p q ≡ true) (frame coefficients room out : List ℤ)
+    (made-is : out ≡ putAt 0 (firstNet (polynomialsFrom kind p q coefficients) frame .entries) room) where
+  abbrev asked : Polynomials
+  asked = polynomialsFrom kind p q coefficients
+
+  pub own-entries : take (numberCount (groupsOf kind p q)) out ≡ firstNet asked frame .entries
+  own-entries =
+      ap (take (numberCount (groupsOf kind p q))) made-is
+      ∙ take-at (firstNet asked frame .entries) (drop (0 + length (firstNet asked frame .entries)) room) (numberCount (groupsOf kind p q)) (first-count kind p q right frame coefficients)
+
+  own-net : netWith kind p q frame out ≡ firstNet asked frame
+  unfolding netOver
+  own-net = ap (λ l. record { kind = kind; degree = p; second = q; frames = framesOf (groupsOf kind p q) frame; entries = l; largest = pos (largestOf l) }) own-entries
+
+  pub first-stored : (lent ys : List ℤ) (k : ℕ) → Stored (netWith kind p q frame out) lent k ys → FirstStored asked frame lent k ys
+  first-stored lent ys k is = subst (λ net. Stored net lent k ys) own-net is

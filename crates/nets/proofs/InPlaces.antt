@@ -216,7 +216,7 @@ module _ {lent : List ℤ} {kind degree second : ℕ} (stood : Stood lent kind d
           move = Move operation vertex weights
 
           left-at : Net → List ℤ
-          left-at n = putAt 3 (numbersOf (accepted n move .left .frames)) (putAt 12 (accepted n move .left .entries) lent)
+          left-at n = putAt 3 (numbersOf (accepted n move .left .frames)) (putAt 12 (accepted n move .left .entries) (putAt 192 (accepted n move .left .largest ∷ []) lent))
 
           put-is : left-at here ≡ put (accepted (netAt lent) move .left) lent
           put-is =

@@ -13,6 +13,7 @@ pub mod PointMade
 pub mod InPlaces
 pub mod Moves
 pub mod Lists
+pub mod WholeEntries
 pub mod Row
 pub mod Ranks
 pub mod PatchRows

@@ -1,7 +1,7 @@
 -- What a move does to the frame that stands in lent places: the code's new vertex is the definition's, its numbers are tested for 12, and to put them into their places is to put the frame
 -- that the move reaches.
 use Prim.Native.Nat.{ℕ, zero, suc, pred, _+_, _*_, _≤_, _<_}
-use native.Mathlib.Nat.{mul-le-mul-left, mul-suc, add-assoc, zero-add}
+use native.Mathlib.Nat.{le-of-eq, not-suc-le-zero, mul-le-mul-left, mul-suc, add-assoc, zero-add}
 use native.Mathlib.Omega.{arith}
 use mathlib.Core.Path.{_≡_, refl, sym, ap, ap₂, _∙_, subst}
 use mathlib.Core.Bool.{Bool, true, false, cond}
@@ -11,7 +11,8 @@ use borrow.Rule.Slice.PartMut.{putMid, put-same, post-is}
 use lib.Dec.{eqb, lit≤}
 use lib.IntN.{ℤ, pos, negℤ, natAbs}
 use lib.ListN.{length, getD, take, drop, length-map, length-drop}
-use lib.Seq.{take-take, drop-drop, getD-drop}
+use lib.Seq.{take-at, take-take, drop-drop, getD-drop}
+use Rattle.integers.specs.Largest.{largestOf}
 use Rattle.integers.specs.Test.{all}
 use Rattle.integers.proofs.All.{all-first}
 use Rattle.polar.specs.Sigma.{Point}
@@ -19,6 +20,7 @@ use Rattle.polar.specs.Groups.{Group}
 use Rattle.projection.specs.Projection.{inRange}
 use Rattle.entries.specs.Frame.{combination, unitPoint, vertexAt}
 use Rattle.entries.proofs.Groups.{Framed}
+use Rattle.entries.specs.Entries.{numberCount}
 use Rattle.entries.proofs.ListedOver.{length-listed-over}
 use Rattle.kinds.specs.Kinds.{groupsOf, known}
 use Rattle.kinds.specs.Frames.{Frames, frameOf, frameCount, framesOf, numbersOf}
@@ -28,16 +30,17 @@ use Rattle.machine.specs.Refusals.{_else_, firstFailed}
 use Rattle.machine.proofs.Refusals.{passes, fails}
 use Rattle.machine.specs.Calls.{weightList, groupAt, ownAt, verticesAt, weightsFor}
 use Rattle.machine.specs.Frames.{pointsOf, framesAfter, newNumbers}
-use Rattle.machine.specs.Nets.{Net, entriesAfter, accepted}
+use Rattle.machine.specs.Sizes.{namedBy, allNamed}
+use Rattle.machine.specs.Nets.{Net, netPolar, entriesAfter, largestAfter, accepted}
 use Rattle.machine.specs.Lent.{putAt, unlessRefused}
 use Rattle.machine.proofs.Frames.{in-range-numbers, in-range-negative}
-use Rattle.machine.proofs.Over.{located}
-use Rattle.machine.proofs.Lent.{drop-take, put-before, put-within, put-length, part-put}
+use Rattle.machine.proofs.Over.{located, replaced-in}
+use Rattle.machine.proofs.Lent.{drop-take, put-own, put-before, put-behind, put-apart, put-within, put-length, part-put}
 use Rattle.machine.specs.declared.Weights.{Weights}
 use Rattle.machine.specs.declared.Call.{Call}
 use Rattle.machine.specs.declared.Call.the-variants.{Move}
 use Rattle.nets.specs.Frames.{frameStart, OwnVertex, Small, NewVertex, pointAt, newVertex, padded}
-use Rattle.nets.specs.Calls.{netFrom, netIn, sizeTest, Stepped, MoveAsked, Moved}
+use Rattle.nets.specs.Calls.{netFrom, netIn, sizeTest, Stepped, MoveAsked, Moved, MovedEntries, largestIn}
 use Rattle.nets.proofs.Made.{right, move-light, move-high}
 use Rattle.nets.proofs.InPlaces.{frame-numbers, size-same, left-same}
 use Rattle.nets.proofs.Vertices.{vertices-few, start-fits, frame-at, framed-at, point-at, numbers-put, padded-range, padded-taken}
@@ -179,30 +182,23 @@ module _ {kind degree second : ℕ} {lent : List ℤ} {operation vertex : ℕ} {
         by true = refl
         by false = in-range-negative frames i v (sym (in-range-numbers frames) ∙ near)
 
-    -- the frame's numbers stay where the entries are put
-    still : (es : List ℤ) → length es ≤ 180 → take (frameCount gs) (drop 3 (putAt 12 es lent)) ≡ take (frameCount gs) (drop 3 lent)
-    still es h =
-        let l = long in
-        sym (take-take (frameCount gs) 9 (drop 3 (putAt 12 es lent)) count-few)
-        ∙ ap (take (frameCount gs)) (sym (drop-take 3 12 (putAt 12 es lent)) ∙ ap (drop 3) (put-before 12 es lent (omega arith) 12 (lit≤ tt)) ∙ drop-take 3 12 lent)
-        ∙ take-take (frameCount gs) 9 (drop 3 lent) count-few
-
-    -- to put the new vertex into its places is to put the frame that is reached
-    pub frame-put : (es xs : List ℤ) → length es ≤ 180 → xs ≡ padded new
-        → putAt (start + count * index) (take count xs) (putAt 12 es lent) ≡ putAt 3 (numbersOf (framesAfter gs frames move)) (putAt 12 es lent)
+    -- to put the new vertex into its places is to put the frame that is reached, in places whose first twelve are those of the net
+    pub frame-put : (more xs : List ℤ) → take 12 more ≡ take 12 lent → 193 ≤ length more → xs ≡ padded new
+        → putAt (start + count * index) (take count xs) more ≡ putAt 3 (numbersOf (framesAfter gs frames move)) more
     unfolding framesAfter
-    frame-put es xs h is =
+    frame-put more xs same wide is =
         ap₂ (λ k q. putAt k q more) at-is vertex-is
         ∙ sym
         (ap (λ l. putAt 3 l more)
-        (numbers-put gs frames i v goes framed (place .0) inside goes-long ∙ ap (putAt (from + d * v) goes) (numbers-are ∙ sym (still es h)))
-        ∙ put-within 3 (from + d * v) (frameCount gs) goes more more-long (let room = fits in let square = within-square in omega (arith, goes-long)))
+        (numbers-put gs frames i v goes framed (place .0) inside goes-long ∙ ap (putAt (from + d * v) goes) (numbers-are ∙ sym still))
+        ∙ put-within 3 (from + d * v) (frameCount gs) goes more (omega (arith, count-few)) (let room = fits in let square = within-square in omega (arith, goes-long)))
       where
-        more : List ℤ
-        more = putAt 12 es lent
-
-        more-long : 3 + frameCount gs ≤ length more
-        more-long = let l = long in subst (λ k. 3 + frameCount gs ≤ k) (sym (put-length 12 es lent (omega arith))) (omega (arith, count-few))
+        -- the frame's numbers
+        still : take (frameCount gs) (drop 3 more) ≡ take (frameCount gs) (drop 3 lent)
+        still =
+            sym (take-take (frameCount gs) 9 (drop 3 more) count-few)
+            ∙ ap (take (frameCount gs)) (sym (drop-take 3 12 more) ∙ ap (drop 3) same ∙ drop-take 3 12 lent)
+            ∙ take-take (frameCount gs) 9 (drop 3 lent) count-few
 
         at-is : start + count * index ≡ 3 + (from + d * v)
         at-is = (λ j. own .start-is j + own .count-is j * own .index-is j) ∙ add-assoc 3 from (d * v)
@@ -256,7 +252,7 @@ module _ {kind degree second : ℕ} {lent : List ℤ} {operation vertex : ℕ} {
       moved-kept refused = record { number-is = number; places = by k refused (stepped .places) }
         where
           by : (j : ℕ) → (j ≡ 0 → ⊥) → out ≡ unlessRefused j (putAt 0 (accepted (netFrom kind degree second part) move .left .entries) part) part
-              → putMid 12 180 lent out ≡ unlessRefused j (putAt 3 (numbersOf (accepted net move .left .frames)) (putAt 12 left lent)) lent
+              → putMid 12 180 lent out ≡ unlessRefused j (putAt 3 (numbersOf (accepted net move .left .frames)) (putAt 12 left (putAt 192 (accepted net move .left .largest ∷ []) lent))) lent
           by zero other made = absurd (other refl)
           by (suc j) other made = ap (putMid 12 180 lent) made ∙ put-same 12 180 lent
 
@@ -266,16 +262,85 @@ module _ {kind degree second : ℕ} {lent : List ℤ} {operation vertex : ℕ} {
         entries-put =
             ap (putMid 12 180 lent) (stepped .places ∙ ap (λ j. unlessRefused j (putAt 0 (accepted (netFrom kind degree second part) move .left .entries) part) part) taken) ∙ part-is
 
-        pub moved-made : (after : List ℤ) → after ≡ putAt (start + count * index) (take count xs) (putMid 12 180 lent out) → Moved net move 0 lent after
+        -- the entries that stand there are the move's
+        left-stands : take (numberCount gs) (drop 12 (putAt 12 left lent)) ≡ left
+        unfolding accepted entriesAfter
+        left-stands =
+            let l = long in
+            let e = left-long in
+            ap (take (numberCount gs)) (put-own 12 left lent (omega arith)) ∙ take-at left (drop (12 + length left) lent) (numberCount gs) (length-listed-over gs _)
+
+        entries-long : 193 ≤ length (putAt 12 left lent)
+        entries-long = let l = long in let e = left-long in subst (λ j. 193 ≤ j) (sym (put-length 12 left lent (omega arith))) l
+
+        -- what the largest component is put by: those of a replace are in range, as all that it names is
+        pub entries-moved : MovedEntries kind degree second operation (putMid 12 180 lent out)
         unfolding accepted
-        moved-made after made =
+        entries-moved =
+            subst (MovedEntries kind degree second operation) (sym entries-put)
+            (record { places = entries-long; fit = entries-fit kind degree second known-kind; range = λ replace. ap (all inRange) left-stands ∙ in-range replace })
+          where
+            passed-size : (b : Bool) → firstFailed (b else 10 ∷ []) ≡ 0 → b ≡ true
+            passed-size true h = refl
+            passed-size false h = absurd (not-suc-le-zero (le-of-eq h))
+
+            in-range : operation ≡ 1 → all inRange left ≡ true
+            in-range replace =
+                subst
+                (λ o. allNamed (namedBy gs (Move o vertex weights)) (netPolar net (Move o vertex weights)) ≡ true → all inRange (entriesAfter net o vertex weights) ≡ true) (sym replace)
+                (replaced-in net vertex weights (place .0))
+                (passed-size _ (ap firstFailed (sym (size-same kind degree second lent long known-kind move)) ∙ sym (stepped .number-is) ∙ taken))
+
+        -- the largest component that is put is the move's
+        abbrev largest : ℤ
+        largest = accepted net move .left .largest
+
+        largest-put : largestIn kind degree second operation (putAt 12 left lent) ≡ largest
+        unfolding accepted largestAfter
+        largest-put = ap₂ (λ es l. cond (eqb operation 1) (pos (largestOf es)) l) left-stands stays
+          where
+            stays : getD (putAt 12 left lent) 192 (pos 0) ≡ getD lent 192 (pos 0)
+            stays =
+                let l = long in
+                let e = left-long in
+                sym (getD-drop 192 (putAt 12 left lent) 0 (pos 0)) ∙ ap (λ r. getD r 0 (pos 0)) (put-behind 12 left lent (omega arith) 192 (omega arith)) ∙ getD-drop 192 lent 0 (pos 0)
+
+        -- the entries and it, put in the order of the definition
+        abbrev both : List ℤ
+        both = putAt 12 left (putAt 192 (largest ∷ []) lent)
+
+        with-largest : (some : List ℤ) → some ≡ putAt 192 (largestIn kind degree second operation (putMid 12 180 lent out) ∷ []) (putMid 12 180 lent out) → some ≡ both
+        with-largest some is =
+            let l = long in
+            let e = left-long in
+            is
+            ∙ ap (λ r. putAt 192 (largestIn kind degree second operation r ∷ []) r) entries-put
+            ∙ ap (λ x. putAt 192 (x ∷ []) (putAt 12 left lent)) largest-put
+            ∙ put-apart 12 192 left (largest ∷ []) lent (omega arith) (omega arith)
+
+        one-long : length (putAt 192 (largest ∷ []) lent) ≡ length lent
+        one-long = put-length 192 (largest ∷ []) lent long
+
+        both-long : 193 ≤ length both
+        both-long = let l = long in let e = left-long in subst (λ j. 193 ≤ j) (sym (put-length 12 left (putAt 192 (largest ∷ []) lent) (omega (arith, one-long)) ∙ one-long)) l
+
+        pub largest-long : (some : List ℤ) → some ≡ putAt 192 (largestIn kind degree second operation (putMid 12 180 lent out) ∷ []) (putMid 12 180 lent out) → 193 ≤ length some
+        largest-long some is = subst (λ r. 193 ≤ length r) (sym (with-largest some is)) both-long
+
+        pub moved-made : (some after : List ℤ) → some ≡ putAt 192 (largestIn kind degree second operation (putMid 12 180 lent out) ∷ []) (putMid 12 180 lent out)
+            → after ≡ putAt (start + count * index) (take count xs) some → Moved net move 0 lent after
+        unfolding accepted
+        moved-made some after with-it made =
             record {
               number-is = sym taken ∙ number;
-              places = made ∙ ap (putAt (start + count * index) (take count xs)) entries-put ∙ frame-put left xs left-long is;
+              places = made ∙ ap (putAt (start + count * index) (take count xs)) (with-largest some with-it) ∙ frame-put both xs first-twelve both-long is;
             }
-
-        pub entries-long : 193 ≤ length (putMid 12 180 lent out)
-        entries-long = let l = long in let e = left-long in subst (λ j. 193 ≤ j) (sym (ap length entries-put ∙ put-length 12 left lent (omega arith))) l
+          where
+            first-twelve : take 12 both ≡ take 12 lent
+            first-twelve =
+                let l = long in
+                let e = left-long in
+                put-before 12 left (putAt 192 (largest ∷ []) lent) (omega (arith, one-long)) 12 (lit≤ tt) ∙ put-before 192 (largest ∷ []) lent long 12 (lit≤ tt)
 
     -- where the vertex stands
     pub vertex-room : (2 ≤ count) × (count ≤ 3) × (start + count * index + count ≤ 12)

@@ -1,10 +1,12 @@
 -- What the private functions that make calls and first nets promise. Most of them work on the part of the lent places that holds the entries.
 use Prim.Native.Nat.{ℕ, suc, _+_, _≤_}
 use mathlib.Core.Path.{_≡_}
-use mathlib.Core.Bool.{Bool, true, _&&_}
+use mathlib.Core.Bool.{Bool, true, _&&_, cond}
 use mathlib.Core.List.{List, [], _∷_}
+use lib.Dec.{eqb}
 use lib.IntN.{ℤ, pos, natAbs}
-use lib.ListN.{length, take, drop}
+use lib.ListN.{length, getD, take, drop}
+use Rattle.integers.specs.Largest.{largestOf}
 use Rattle.integers.specs.Test.{within, all}
 use Rattle.projection.specs.Projection.{isZero, inRange}
 use Rattle.entries.specs.Entries.{numberCount}
@@ -25,10 +27,10 @@ use Rattle.machine.specs.declared.Call.{Call}
 use Rattle.nets.specs.Rows.{Sized}
 use Rattle.nets.specs.Levels.{Descends, Descended}
 
--- the net of a kind and degrees whose entries are the first numbers of some places; the functions on these places do not see its frame
+-- the net of a kind and degrees whose entries are the first numbers of some places; the functions on these places see neither its frame nor its largest component
 abbrev pub netFrom : ℕ → ℕ → ℕ → List ℤ → Net
 netFrom kind degree second places =
-    record { kind = kind; degree = degree; second = second; frames = []; entries = take (numberCount (groupsOf kind degree second)) places }
+    record { kind = kind; degree = degree; second = second; frames = []; entries = take (numberCount (groupsOf kind degree second)) places; largest = pos 0 }
 
 -- what the making of a call asks for: the places of the entries, a net that is not refused, and a call that is not refused for its arguments
 pub record InOrder (kind degree second : ℕ) (places : List ℤ) (call : Call) : Type 0 where
@@ -76,13 +78,20 @@ pub record Pointed (net : Net) (call : Call) (number : ℕ) (before after : List
   pub number-is : number ≡ firstFailed (sizeTest net call)
   pub places : after ≡ unlessRefused number (putAt 0 (pointValues (accepted net call .answer)) before) before
 
--- ---- moves of a whole net, with its frame
+-- ---- moves of a whole net, with its frame and its largest component
 
 -- the net of a kind and degrees in lent places
 abbrev pub netIn : ℕ → ℕ → ℕ → List ℤ → Net
 netIn kind degree second lent =
     let gs = groupsOf kind degree second in
-    record { kind = kind; degree = degree; second = second; frames = framesOf gs (drop 3 lent); entries = take (numberCount gs) (drop 12 lent) }
+    record {
+      kind = kind;
+      degree = degree;
+      second = second;
+      frames = framesOf gs (drop 3 lent);
+      entries = take (numberCount gs) (drop 12 lent);
+      largest = getD lent 192 (pos 0);
+    }
 
 -- what the making of a move asks for: places enough, and a net and arguments that are not refused
 pub record MoveAsked (kind degree second : ℕ) (lent : List ℤ) (call : Call) : Type 0 where
@@ -93,7 +102,19 @@ pub record MoveAsked (kind degree second : ℕ) (lent : List ℤ) (call : Call) 
 -- the number of a move that only its q and its size may refuse, and the places after it
 pub record Moved (net : Net) (call : Call) (number : ℕ) (lent after : List ℤ) : Type 0 where
   pub number-is : number ≡ firstFailed (all inRange (newNumbers (netGroups net) (net .frames) call) else 12 ∷ sizeTest net call)
-  pub places : after ≡ unlessRefused number (putAt 3 (numbersOf (accepted net call .left .frames)) (putAt 12 (accepted net call .left .entries) lent)) lent
+  pub places : after
+      ≡ unlessRefused number (putAt 3 (numbersOf (accepted net call .left .frames)) (putAt 12 (accepted net call .left .entries) (putAt 192 (accepted net call .left .largest ∷ []) lent))) lent
+
+-- places with the entries that a move leaves; those of a replace are in range
+pub record MovedEntries (kind degree second operation : ℕ) (lent : List ℤ) : Type 0 where
+  pub places : 193 ≤ length lent
+  pub fit : numberCount (groupsOf kind degree second) ≤ 180
+  pub range : operation ≡ 1 → all inRange (take (numberCount (groupsOf kind degree second)) (drop 12 lent)) ≡ true
+
+-- the largest component that is then stored
+abbrev pub largestIn : ℕ → ℕ → ℕ → ℕ → List ℤ → ℤ
+largestIn kind degree second operation lent =
+    cond (eqb operation 1) (pos (largestOf (take (numberCount (groupsOf kind degree second)) (drop 12 lent)))) (getD lent 192 (pos 0))
 
 -- ---- first nets
 
@@ -114,24 +135,26 @@ pub record Rooms (kind p q : ℕ) (work cur base out : List ℤ) : Type 0 where
   pub base-room : numberCount (groupsOf kind p q) ≤ length base
   pub out-room : numberCount (groupsOf kind p q) ≤ length out
 
--- what storing a net with this frame and these entries asks for: they are there, and there are places for them
-pub record Stores (kind p q : ℕ) (lent frame entries : List ℤ) : Type 0 where
+-- what storing a net with this frame and these entries asks for: they are there, the largest component is theirs, and there are places for them
+pub record Stores (kind p q largest : ℕ) (lent frame entries : List ℤ) : Type 0 where
   pub places : 193 ≤ length lent
   pub nine : length frame ≡ 9
   pub fit : numberCount (groupsOf kind p q) ≤ 180
   pub enough : numberCount (groupsOf kind p q) ≤ length entries
+  pub largest-is : largest ≡ largestOf (take (numberCount (groupsOf kind p q)) entries)
 
 -- the net that is stored
 abbrev pub netWith : ℕ → ℕ → ℕ → List ℤ → List ℤ → Net
 netWith kind p q frame entries =
     let gs = groupsOf kind p q in
-    record { kind = kind; degree = p; second = q; frames = framesOf gs frame; entries = take (numberCount gs) entries }
+    let own = take (numberCount gs) entries in
+    record { kind = kind; degree = p; second = q; frames = framesOf gs frame; entries = own; largest = pos (largestOf own) }
 
 -- the number that is answered where a net is to be stored, and the places after it: a net that is not in range is not stored
-pub record Stored (net : Net) (in-range : Bool) (lent : List ℤ) (number : ℕ) (after : List ℤ) : Type 0 where
-  pub number-is : number ≡ firstFailed (in-range else 7 ∷ [])
+pub record Stored (net : Net) (lent : List ℤ) (number : ℕ) (after : List ℤ) : Type 0 where
+  pub number-is : number ≡ firstFailed (netInRange net else 7 ∷ [])
   pub places-are : after ≡ unlessRefused number (put net lent) lent
 
 -- the same of a first net
 abbrev pub FirstStored : Polynomials → List ℤ → List ℤ → ℕ → List ℤ → Type 0
-FirstStored f frame lent number after = Stored (firstNet f frame) (netInRange (firstNet f frame)) lent number after
+FirstStored f frame lent number after = Stored (firstNet f frame) lent number after

@@ -9,7 +9,7 @@ ghost use lib.Dec.{eqb};
 ghost use lib.IntN.{pos};
 ghost use lib.ListN.{length, getD};
 ghost use Rattle.machine.specs.Refusals.{firstFailed};
-ghost use Rattle.machine.specs.Nets.{netInRange};
+ghost use Rattle.integers.specs.Largest.{largestOf};
 ghost use Rattle.machine.specs.First.{firstNet};
 ghost use Rattle.machine.specs.Lent.{putAt, polynomialsFrom};
 ghost use Rattle.entries.specs.Rows.{size};
@@ -36,9 +36,9 @@ ghost use Rattle.nets.specs.Calls.{beforeFirst, FirstAsked, Rooms};
 use crate::coordinates::coordinate_numbers;
 use crate::levels::copy_row;
 use crate::levels::spread;
-use crate::rows::LIMIT;
 use crate::rows::blend;
 use crate::rows::copy;
+use crate::rows::entries_largest;
 use crate::rows::entries_within;
 use crate::rows::numbers;
 use crate::rows::place;
@@ -346,8 +346,8 @@ pub(crate) fn make_later(
 }
 
 // Makes the entries of the first net of accepted polynomials over an accepted frame, in the first of some
-// places, and says whether they are in range. The groups are gone through one after the other: the first
-// group's polar values are the coefficients of the second group's polynomials.
+// places, and tells the largest component: they are in range where that is. The groups are gone through one after the
+// other: the first group's polar values are the coefficients of the second group's polynomials.
 pub(crate) fn make_in(
     work: &mut [i64],
     cur: &mut [i64],
@@ -358,10 +358,10 @@ pub(crate) fn make_in(
     second: u8,
     frame: &[i64],
     coefficients: &[i64],
-) -> bool
+) -> u64
     requires { ⌜ FirstAsked kind degree second (now frame) (now coefficients) × Rooms kind degree second (now work) (now cur) (now base) (now out) ⌝ }
     ensures made { λ _. ⌜ now (out .exit) ≡ putAt 0 (firstNet (polynomialsFrom kind degree second (now (coefficients .entry))) (now (frame .entry)) .entries) (now (out .entry)) ⌝ }
-    ensures range { λ b. ⌜ b ≡ netInRange (firstNet (polynomialsFrom kind degree second (now (coefficients .entry))) (now (frame .entry))) ⌝ }
+    ensures largest { λ l. ⌜ l ≡ largestOf (firstNet (polynomialsFrom kind degree second (now (coefficients .entry))) (now (frame .entry)) .entries) ⌝ }
 {
     make_rows(
         &mut *out,
@@ -376,5 +376,5 @@ pub(crate) fn make_in(
     );
     make_later(&mut *out, work, cur, base, kind, degree, second, frame);
     let count = number_count(kind, degree, second);
-    entries_within(&out[0..count], LIMIT)
+    entries_largest(&out[0..count])
 }

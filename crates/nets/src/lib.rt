@@ -33,6 +33,8 @@ ghost use Rattle.nets.specs.Calls.{
   Stores,
   Stored,
   FirstStored,
+  MovedEntries,
+  largestIn,
 };
 use crate::calls::judge_net;
 use crate::calls::judge_vertex;
@@ -47,8 +49,10 @@ use crate::frames::own_vertex;
 use crate::frames::put_vertex;
 use crate::frames::vertex_within;
 use crate::rows::FEW;
+use crate::rows::LIMIT;
 use crate::rows::PLACES;
 use crate::rows::copy;
+use crate::rows::entries_largest;
 use kinds::frame_count;
 use kinds::number_count;
 use machine::Call;
@@ -58,7 +62,7 @@ use machine::Weights;
 // component.
 pub const NET: usize = 193;
 
-// Where the frame begins, and where the entries begin and end.
+// Where the frame begins, and where the entries begin and end; the largest component stands behind them.
 pub const FRAME: usize = 3;
 
 pub const ENTRIES: usize = 12;
@@ -113,22 +117,31 @@ fn first_nine(frame: &[i64]) -> [i64; 9]
     ]
 }
 
-// Stores a net that is in range, or tells the number of the refusal.
+// Puts the largest component behind the entries.
+fn put_largest(net: &mut [i64], largest: u64)
+    requires { ⌜ (193 ≤ length (now net)) × (largest ≤ 281474976710656) ⌝ }
+    ensures { λ _. ⌜ now (net .exit) ≡ putAt 192 (pos largest ∷ []) (now (net .entry)) ⌝ }
+{
+    net[END] = largest as i64;
+}
+
+// Stores a net whose largest component is in range, or tells the number of the refusal.
 fn store(
     net: &mut [i64],
-    in_range: bool,
+    largest: u64,
     kind: u8,
     degree: u8,
     second: u8,
     frame: &[i64],
     entries: &[i64],
 ) -> u8
-    requires { ⌜ Stores kind degree second (now net) (now frame) (now entries) ⌝ }
-    ensures { λ k. ⌜ Stored (netWith kind degree second (now (frame .entry)) (now (entries .entry))) in_range (now (net .entry)) k (now (net .exit)) ⌝ }
+    requires { ⌜ Stores kind degree second largest (now net) (now frame) (now entries) ⌝ }
+    ensures { λ k. ⌜ Stored (netWith kind degree second (now (frame .entry)) (now (entries .entry))) (now (net .entry)) k (now (net .exit)) ⌝ }
 {
-    if !in_range {
+    if LIMIT < largest {
         return 7;
     }
+    put_largest(net, largest);
     copy(
         &mut net[ENTRIES..END],
         entries,
@@ -157,7 +170,7 @@ fn make_first(
         let mut cur = [0; FEW];
         let mut base = [0; FEW];
         let mut out = [0; FEW];
-        let in_range = make_in(
+        let largest = make_in(
             &mut work,
             &mut cur,
             &mut base,
@@ -168,13 +181,13 @@ fn make_first(
             frame,
             coefficients,
         );
-        return store(net, in_range, kind, degree, second, frame, &out);
+        return store(net, largest, kind, degree, second, frame, &out);
     }
     let mut work = [0; PLACES];
     let mut cur = [0; PLACES];
     let mut base = [0; PLACES];
     let mut out = [0; PLACES];
-    let in_range = make_in(
+    let largest = make_in(
         &mut work,
         &mut cur,
         &mut base,
@@ -185,7 +198,7 @@ fn make_first(
         frame,
         coefficients,
     );
-    store(net, in_range, kind, degree, second, frame, &out)
+    store(net, largest, kind, degree, second, frame, &out)
 }
 
 // Makes the first net of polynomials over a frame, in places that the caller lends, and answers 0; or
@@ -220,6 +233,20 @@ pub fn first_net(
     make_first(net, kind, degree, second, &corners, coefficients)
 }
 
+// Puts the largest component after a move: that of a replace's entries, which are in range, is worked out, and a flip
+// hands on the number that stands there.
+fn move_largest(net: &mut [i64], kind: u8, degree: u8, second: u8, operation: u8)
+    requires { ⌜ MovedEntries kind degree second operation (now net) ⌝ }
+    ensures { λ _. ⌜ now (net .exit) ≡ putAt 192 (largestIn kind degree second operation (now (net .entry)) ∷ []) (now (net .entry)) ⌝ }
+{
+    if operation != 1 {
+        return;
+    }
+    let count = number_count(kind, degree, second);
+    let largest = entries_largest(&net[ENTRIES..ENTRIES + count]);
+    put_largest(net, largest);
+}
+
 // Makes a move that only its q and its size may refuse. The new vertex is put in its place when the entries are
 // made.
 fn make_moved(
@@ -251,6 +278,7 @@ fn make_moved(
     if size != 0 {
         return size;
     }
+    move_largest(net, kind, degree, second, operation);
     put_vertex(
         net,
         own.start + own.count * own.index,

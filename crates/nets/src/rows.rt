@@ -4,10 +4,11 @@
 // and a row of `width` numbers for each entry, whatever the kind is.
 ghost use mathlib.Core.Path.{_≡_};
 ghost use mathlib.Core.Bool.{true};
-ghost use Prim.Native.Nat.{pred, _+_, _*_, _<_, _≤_, _^_};
+ghost use Prim.Native.Nat.{pred, max, _+_, _*_, _<_, _≤_, _^_};
 ghost use lib.IntN.{pos, natAbs, _+ℤ_, _*ℤ_};
 ghost use mathlib.Core.List.{[], _∷_};
 ghost use lib.ListN.{length, getD};
+ghost use Rattle.integers.specs.Largest.{largestOf};
 ghost use Rattle.integers.specs.Test.{within, all};
 ghost use Rattle.polar.specs.Order.{counts};
 ghost use Rattle.entries.specs.Rows.{size, offset};
@@ -26,6 +27,7 @@ ghost use Rattle.nets.specs.Rows.{
   Leaves,
 };
 use integers::is_within;
+use integers::magnitude;
 use machine::Weights;
 
 // How many places the entries of a net have.
@@ -75,6 +77,45 @@ pub(crate) fn entries_within(numbers: &[i64], limit: u64) -> bool
         i += 4;
     }
     true
+}
+
+// ---- the largest
+
+// The larger of two numbers.
+pub(crate) fn larger(a: u64, b: u64) -> u64
+    ensures { λ r. ⌜ r ≡ max a b ⌝ }
+{
+    if a < b {
+        return b;
+    }
+    a
+}
+
+// The largest absolute value of four numbers.
+pub(crate) fn four_largest(a: i64, b: i64, c: i64, d: i64) -> u64
+    ensures { λ r. ⌜ r ≡ largestOf (a ∷ b ∷ c ∷ d ∷ []) ⌝ }
+{
+    larger(
+        larger(magnitude(a), magnitude(b)),
+        larger(magnitude(c), magnitude(d)),
+    )
+}
+
+// The largest absolute value among the numbers of whole entries.
+pub(crate) fn entries_largest(numbers: &[i64]) -> u64
+    requires { ⌜ Whole (length (now numbers)) ⌝ }
+    ensures { λ r. ⌜ r ≡ largestOf (now (numbers .entry)) ⌝ }
+{
+    let mut largest = 0;
+    let mut i = 0;
+    while i < numbers.len() {
+        largest = larger(
+            largest,
+            four_largest(numbers[i], numbers[i + 1], numbers[i + 2], numbers[i + 3]),
+        );
+        i += 4;
+    }
+    largest
 }
 
 // ---- copies

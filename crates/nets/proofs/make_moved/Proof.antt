@@ -1,4 +1,4 @@
--- `make_moved` meets its contract: the new vertex is tested, the entries are made in their part, and the vertex is put.
+-- `make_moved` meets its contract: the new vertex is tested, the entries are made in their part, and the largest component and the vertex are put.
 use borrow.Author.Needs.{needs}
 use borrow.Author.Tests.{not-true, not-false}
 use borrow.Rule.Slice.PartMut.{putMid}
@@ -19,7 +19,7 @@ use Rattle.machine.specs.Lent.{putAt}
 use Rattle.nets.specs.Frames.{OwnVertex}
 use Rattle.nets.proofs.Row.{element}
 use Rattle.nets.proofs.Made.{right, move-low, move-high}
-use Rattle.nets.proofs.Moves.{new-asked, vertex-room, moved-beyond, moved-kept, moved-made, entries-long}
+use Rattle.nets.proofs.Moves.{new-asked, vertex-room, moved-beyond, moved-kept, entries-moved, largest-long, moved-made}
 use Rattle.nets.proofs.make_moved.Statement.{statement}
 use Rattle.nets.proofs.make_moved.Tie as tie
 
@@ -86,36 +86,46 @@ returns-2 c =
 room : (c : tie.After-own-vertex) → let r = c .own-vertex .result in (2 ≤ r .count) × (r .count ≤ 3) × (r .start + r .count * r .index + r .count ≤ 12)
 room c = let r = c .own-vertex .result in vertex-room (c .before .pre) (r .start) (r .count) (r .index) (own c)
 
-module _ (c : tie.Else2) where
-  abbrev m : tie.After-make-move
-  m = c .before .before
+abbrev m : tie.Else2 → tie.After-make-move
+m c = c .before .before
 
-  abbrev o : tie.After-own-vertex
-  o = m .before .before .before .before .before .before
+abbrev o : tie.Else2 → tie.After-own-vertex
+o c = m c .before .before .before .before .before .before
 
-  -- the places with the new entries
-  long : 193 ≤ length (putMid 12 180 (o .before .args .net .now) (m .make-move .last .0))
-  long =
-      let r = o .own-vertex .result in
-      let n = m .before .before .before .before in
-      entries-long (o .before .pre) (r .start) (r .count) (r .index) (own o) (numbers n) (n .new-vertex .ensures) (passed (m .before .before)) (m .make-move .result) (m .make-move .last .0) (m .make-move .ensures) (c .if2 .left)
+-- the places with the new entries
+move-largest-requires : tie.Need-move-largest-requires
+move-largest-requires c κs =
+    let e = c .before in
+    let r = o e .own-vertex .result in
+    let n = m e .before .before .before .before in
+    entries-moved (o e .before .pre) (r .start) (r .count) (r .index) (own (o e)) (numbers n) (n .new-vertex .ensures) (passed (m e .before .before)) (m e .make-move .result) (m e .make-move .last .0) (m e .make-move .ensures) (e .if2 .left)
+
+-- and with the largest component
+long : (c : tie.After-move-largest) → 193 ≤ length (c .move-largest .last .0)
+long c =
+    let e = c .before .before in
+    let r = o e .own-vertex .result in
+    let n = m e .before .before .before .before in
+    largest-long (o e .before .pre) (r .start) (r .count) (r .index) (own (o e)) (numbers n) (n .new-vertex .ensures) (passed (m e .before .before)) (m e .make-move .result) (m e .make-move .last .0) (m e .make-move .ensures) (e .if2 .left)
+    (c .move-largest .last .0) (c .move-largest .ensures)
 
 put-vertex-requires : tie.Need-put-vertex-requires
 put-vertex-requires c κs =
-    let e = c .before .before .before .before .before .before in
-    let fits = room (o e) in
-    let places = long e in
+    let l = c .before .before .before .before .before .before .before in
+    let fits = room (o (l .before .before)) in
+    let places = long l in
     (fits .0, fits .1, omega arith)
 
 returns-3 : tie.Need-returns-3
 returns-3 c =
     let put = c .before in
-    let e = put .before .before .before .before .before .before .before in
+    let l = put .before .before .before .before .before .before .before .before in
+    let e = l .before .before in
     let r = o e .own-vertex .result in
     let n = m e .before .before .before .before in
     moved-made (o e .before .pre) (r .start) (r .count) (r .index) (own (o e)) (numbers n) (n .new-vertex .ensures) (passed (m e .before .before)) (m e .make-move .result) (m e .make-move .last .0) (m e .make-move .ensures) (e .if2 .left)
-    (put .put-vertex .last .0)
-    (put .put-vertex .ensures ∙ (λ i. putAt (r .start + r .count * r .index) (take (r .count) (first-read n i ∷ second-read n i ∷ third-read n i ∷ [])) (putMid 12 180 (o e .before .args .net .now) (m e .make-move .last .0))))
+    (l .move-largest .last .0) (put .put-vertex .last .0) (l .move-largest .ensures)
+    (put .put-vertex .ensures ∙ (λ i. putAt (r .start + r .count * r .index) (take (r .count) (first-read n i ∷ second-read n i ∷ third-read n i ∷ [])) (l .move-largest .last .0)))
 
 pub make-moved-spec : {M : Type 1} → statement M
 make-moved-spec =
@@ -132,8 +142,9 @@ make-moved-spec =
     (λ c κs. c .before .before .before .before .before .before .pre .ordered)
     (λ c. search needs)
     returns-2
-    (λ c. let fits = room (o (c .before .before)) in omega arith)
-    (λ c. let fits = room (o (c .before .before .before)) in omega arith)
+    move-largest-requires
+    (λ c. let fits = room (o (c .before .before .before .before .before)) in omega arith)
+    (λ c. let fits = room (o (c .before .before .before .before .before .before)) in omega arith)
     put-vertex-requires
     (λ c. search needs)
     returns-3)

@@ -9,7 +9,7 @@ use mathlib.Core.Bool.{true}
 use mathlib.Core.List.{List}
 use lib.IntN.{ℤ}
 use lib.ListN.{length, take}
-use Rattle.integers.specs.Test.{within, all}
+use Rattle.integers.specs.Largest.{largestOf}
 use Rattle.entries.specs.Entries.{numberCount}
 use Rattle.entries.specs.Rows.{size}
 use Rattle.kinds.specs.Kinds.{dimensionOf, laterGroups, laterDimension, known, groupsOf}
@@ -20,7 +20,7 @@ use Rattle.machine.specs.Lent.{putAt, polynomialsFrom}
 use Rattle.nets.specs.FirstNet.{Room, Framing, Spare, framedList}
 use Rattle.nets.proofs.Steps.{entries-whole}
 use Rattle.nets.proofs.FirstMoves.{counts-some}
-use Rattle.nets.proofs.FirstSteps.{first-known, first-framed, first-within, first-framing, later-framing, part-size, one-made, two-made, first-ranged}
+use Rattle.nets.proofs.FirstSteps.{first-known, first-framed, first-within, first-framing, later-framing, part-size, one-made, two-made, first-largest}
 use Rattle.nets.proofs.first.make_in.Statement.{statement}
 use Rattle.nets.proofs.first.make_in.Tie as tie
 
@@ -119,8 +119,8 @@ made-is c = by (decLt 0 (laterDimension (kind s)))
         let none : laterDimension (kind s) ≡ 0 = omega arith in
         one-made (kind s) (p s) (q s) (right s) (frame s) (coefficients s) none (s .args .out .now) (c .make-later .last .0) (c .make-later .ensures .none none ∙ rows-are m)
 
-part-entries-within-end : tie.Need-part-entries-within-end
-part-entries-within-end c =
+part-entries-largest-end : tie.Need-part-entries-largest-end
+part-entries-largest-end c =
     let m = c .before .before .before .before .before .before in
     let s = m .before .before .before .before .before .before .before .before .before .before .before .before .before .before .before .before in
     let count = c .before .number-count .ensures .entries in
@@ -128,12 +128,12 @@ part-entries-within-end c =
     let enough = s .pre .1 .out-room in
     omega arith
 
-entries-within-requires : tie.Need-entries-within-requires
-entries-within-requires c κs =
+entries-largest-requires : tie.Need-entries-largest-requires
+entries-largest-requires c κs =
     let d = c .before in
     let m = d .before .before .before .before .before .before in
     let s = m .before .before .before .before .before .before .before .before .before .before .before .before .before .before .before .before in
-    entries-whole (groupsOf (kind s) (p s) (q s)) (d .before .number-count .result) (m .make-later .last .0) (d .before .number-count .ensures .entries) (part-entries-within-end d)
+    entries-whole (groupsOf (kind s) (p s) (q s)) (d .before .number-count .result) (m .make-later .last .0) (d .before .number-count .ensures .entries) (part-entries-largest-end d)
 
 returns : tie.Need-returns
 returns c =
@@ -141,8 +141,8 @@ returns c =
     let s = m .before .before .before .before .before .before .before .before .before .before .before .before .before .before .before .before in
     let count = c .before .before .before .number-count in (
       made-is m,
-      first-ranged (kind s) (p s) (q s) (right s) (frame s) (coefficients s) (s .args .out .now) (m .make-later .last .0) (count .result) (c .entries-within .result) (count .ensures .entries) (made-is m)
-          (c .entries-within .ensures ∙ ap (λ k. all (within 281474976710656) (take k (m .make-later .last .0))) (sub-zero (count .result))),
+      first-largest (kind s) (p s) (q s) (right s) (frame s) (coefficients s) (s .args .out .now) (m .make-later .last .0) (count .result) (c .entries-largest .result) (count .ensures .entries) (made-is m)
+          (c .entries-largest .ensures ∙ ap (λ k. largestOf (take k (m .make-later .last .0))) (sub-zero (count .result))),
     )
 
 pub make-in-spec : {M : Type 1} → statement M
@@ -156,8 +156,8 @@ make-in-spec =
     (λ c κs. search needs)
     (λ c. search needs)
     (λ c. search needs)
-    part-entries-within-end
-    entries-within-requires
+    part-entries-largest-end
+    entries-largest-requires
     (λ c. search needs)
     (λ c. search needs)
     (λ c. search needs)

@@ -1,7 +1,7 @@
 -- `entries_within` meets its contract: what is left to test of the list decides the whole test, and what is left are whole entries.
 use borrow.Author.Needs.{needs}
 use borrow.Author.Tests.{not-true, not-false}
-use Prim.Native.Nat.{ℕ, suc, _+_, _-_, _≤_, _<_}
+use Prim.Native.Nat.{ℕ, suc, _+_, _-_, _≤_}
 use native.Mathlib.Omega.{arith}
 use mathlib.Core.Path.{_≡_, refl, sym, ap, _∙_}
 use mathlib.Core.Bool.{Bool, true, false, _&&_}
@@ -10,9 +10,9 @@ use lib.IntN.{ℤ, pos}
 use lib.ListN.{length, drop, getD}
 use lib.Seq.{drop-length}
 use Rattle.integers.specs.Test.{within, all}
-use Rattle.integers.proofs.All.{all-next}
 use Rattle.nets.specs.Rows.{Whole}
 use Rattle.nets.proofs.Row.{element}
+use Rattle.nets.proofs.WholeEntries.{one-more, next-entry}
 use Rattle.nets.proofs.rows.entries_within.Statement.{statement}
 use Rattle.nets.proofs.rows.entries_within.Tie as tie
 
@@ -21,10 +21,6 @@ Inv-loop numbers limit i₀ i = (i ≤ length numbers) × Whole i × (all (withi
 
 abbrev μ-loop : tie.MeasureT-loop
 μ-loop numbers limit i₀ i = length numbers - i
-
--- before the end there is one more entry
-one-more : (i n : ℕ) → Whole i → Whole n → i < n → i + 4 ≤ n
-one-more i n a b h = let x = a .four in let y = b .four in omega arith
 
 -- the numbers of one entry, and those after it
 regroup : (a b c d r : Bool) → (a && (b && (c && (d && r)))) ≡ ((a && (b && (c && (d && true)))) && r)
@@ -36,18 +32,10 @@ regroup true true true true r = refl
 
 next-four : (p : ℤ → Bool) (xs : List ℤ) (i : ℕ) → i + 4 ≤ length xs
     → all p (drop i xs) ≡ (all p (getD xs i (pos 0) ∷ getD xs (i + 1) (pos 0) ∷ getD xs (i + 2) (pos 0) ∷ getD xs (i + 3) (pos 0) ∷ []) && all p (drop (i + 4) xs))
-next-four p xs i up =
-    step i (i + 1) (omega arith) (omega arith)
-    ∙ ap (λ r. at i && r)
-    (step (i + 1) (i + 2) (omega arith) (omega arith)
-    ∙ ap (λ r. at (i + 1) && r) (step (i + 2) (i + 3) (omega arith) (omega arith) ∙ ap (λ r. at (i + 2) && r) (step (i + 3) (i + 4) (omega arith) (omega arith))))
-    ∙ regroup (at i) (at (i + 1)) (at (i + 2)) (at (i + 3)) (all p (drop (i + 4) xs))
+next-four p xs i up = ap (all p) (next-entry xs i up) ∙ regroup (at i) (at (i + 1)) (at (i + 2)) (at (i + 3)) (all p (drop (i + 4) xs))
   where
     at : ℕ → Bool
     at k = p (getD xs k (pos 0))
-
-    step : (k l : ℕ) → k < length xs → k + 1 ≡ l → all p (drop k xs) ≡ (at k && all p (drop l xs))
-    step k l h is = all-next p xs k h ∙ ap (λ j. at k && all p (drop j xs)) is
 
 abbrev at : tie.After-four-within Inv-loop μ-loop → tie.In-loop Inv-loop μ-loop
 at c = c .before .before .before .before .before
