@@ -218,6 +218,19 @@ copied-front xs ys k h l =
     lengths : length (take k copy) ≡ k
     lengths = length-take-le k copy (subst (λ j. k ≤ j) (sym (length-written xs 0 k (λ i. getD ys i (pos 0)))) h)
 
+-- the first numbers of a list put back from a room where they were saved, nothing past them having changed
+pub put-back : (count : ℕ) (xs ys room saved : List ℤ) → count ≤ length xs → count ≤ length room → saved ≡ written room 0 count (λ i. getD xs i (pos 0)) → length ys ≡ length xs → KeptFrom count xs ys
+    → written ys 0 count (λ i. getD saved i (pos 0)) ≡ xs
+put-back count xs ys room saved long space is same kept =
+    ext-getD (pos 0) (written ys 0 count (λ i. getD saved i (pos 0))) xs (length-written ys 0 count (λ i. getD saved i (pos 0)) ∙ same) (λ i h. by i (decLt i count))
+  where
+    by : (i : ℕ) → Dec (i < count) → getD (written ys 0 count (λ j. getD saved j (pos 0))) i (pos 0) ≡ getD xs i (pos 0)
+    by i (yes p) =
+        written-at ys 0 count (λ j. getD saved j (pos 0)) i zero-le (omega arith) (omega arith)
+        ∙ ap (λ l. getD l i (pos 0)) is
+        ∙ written-at room 0 count (λ j. getD xs j (pos 0)) i zero-le (omega arith) (omega arith)
+    by i (no p) = written-outside ys 0 count (λ j. getD saved j (pos 0)) i (λ u v. omega arith) ∙ kept i (omega arith)
+
 -- a list whose first numbers are written anew
 same-front : (es xs ys : List ℤ) (i : ℕ) → i < length es → getD (es ++ xs) i (pos 0) ≡ getD (es ++ ys) i (pos 0)
 same-front [] xs ys i h = absurd (not-suc-le-zero h)

@@ -1,7 +1,8 @@
 // Levels of de Casteljau steps: with each level one more copy of the point q that the weights name. Where
 // the first vertex is replaced by q, the steps in place leave the new net: an entry is last written on the
-// level that has as many copies of q as the entry has of the vertex. Another vertex is first renamed.
-// Vertices are counted from 0 here.
+// level that has as many copies of q as the entry has of the vertex. The second of two vertices is replaced in the
+// same way from its own side; where there are three, another vertex than the first is first renamed. Vertices are
+// counted from 0 here.
 ghost use mathlib.Core.Path.{_≡_};
 ghost use Prim.Native.Nat.{_+_, _*_, _-_, _<_, _≤_};
 ghost use lib.IntN.{pos};
