@@ -1,7 +1,7 @@
 -- Going down the levels of a net of two vertices from the side of the second, turn by turn, on plain numbers. After h levels the rows from h on hold level h, and each row up to h the first row of the
 -- level of its number. That row's number is the one with as many copies of q as its entry has of the second vertex, and the other copies of the first: what a replace of the second vertex puts there.
 use Prim.Native.Nat.{ℕ, suc, pred, _+_, _*_, _-_, _≤_, _<_, zero-le}
-use native.Mathlib.Nat.{zero-add, mul-add, mul-le-mul-left, mul-le-mul-right, le-refl}
+use native.Mathlib.Nat.{zero-add, mul-add, mul-le-mul-left, mul-le-mul-right}
 use native.Mathlib.Numerals.{add-one}
 use native.Mathlib.Omega.{arith}
 use native.Mathlib.Decide.{decLt}

@@ -487,13 +487,7 @@ pub(crate) fn replace_vertex(
     if v <= n {
         return size_number(replace_wide(entries, v, m, later_count(kind, second), weights));
     }
-    size_number(replace_later(
-        entries,
-        m + 1,
-        v - 2,
-        second as usize,
-        weights,
-    ))
+    size_number(replace_later(entries, m + 1, v - 2, second as usize, weights))
 }
 
 // What a flip that is not refused for its own arguments does.

@@ -142,12 +142,7 @@ pub(crate) fn descend(
 
 // The same with two vertices, from the side of the second: a level is made of the one before it and stands one
 // row later. The row that it leaves free keeps the first one of the level before, which is the new entry there.
-pub(crate) fn descend_back(
-    cur: &mut [i64],
-    degree: usize,
-    width: usize,
-    weights: Weights,
-) -> bool
+pub(crate) fn descend_back(cur: &mut [i64], degree: usize, width: usize, weights: Weights) -> bool
     requires { ⌜ Descends width 1 degree weights (now cur) ⌝ }
     ensures { λ b. ⌜ LineDescended width degree (weightList weights) 1 (now (cur .entry)) b (now (cur .exit)) ⌝ }
 {

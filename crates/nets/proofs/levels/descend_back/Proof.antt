@@ -1,11 +1,10 @@
 -- `descend_back` meets its contract: after h turns the rows from h on are those of level h, each row up to h is the first of its level, and all levels so far are in range.
 use borrow.Author.Needs.{needs}
 use borrow.Author.Tests.{not-true, not-false}
-use Prim.Native.Nat.{ℕ, _+_, _*_, _-_, _≤_}
+use Prim.Native.Nat.{_+_, _*_, _-_, _≤_}
 use native.Mathlib.Nat.{mul-le-mul-left}
 use native.Mathlib.Omega.{arith}
 use mathlib.Core.Path.{_≡_, refl, _∙_}
-use lib.ListN.{length}
 use Rattle.integers.proofs.All.{clash}
 use Rattle.integers.proofs.Signed.{seen}
 use Rattle.machine.specs.Calls.{weightList}

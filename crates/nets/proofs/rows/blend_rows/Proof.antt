@@ -108,8 +108,8 @@ returns c =
           (row-beyond d false (not-true (d .blend-row .result) (c .if1 .taken)))),
       λ b. absurd (clash b refl),
       λ p past.
-      turn-kept w (s .args .xs .now) (l .xs) (read s) (l .i) (s .args .degree) (l .from) (d .before .before .loop-test .taken) (l .inv .1) (l .inv .2) (d .blend-row .last .0) (d .blend-row .ensures .2) p past
-      ∙ ap (λ ys. getD ys p (pos 0)) (read-rows s (s .args .degree)),
+          turn-kept w (s .args .xs .now) (l .xs) (read s) (l .i) (s .args .degree) (l .from) (d .before .before .loop-test .taken) (l .inv .1) (l .inv .2) (d .blend-row .last .0) (d .blend-row .ensures .2) p past
+          ∙ ap (λ ys. getD ys p (pos 0)) (read-rows s (s .args .degree)),
     )
 
 add-from : tie.Need-add-from Inv-loop μ-loop
