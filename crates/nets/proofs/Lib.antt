@@ -21,6 +21,7 @@ pub mod Blended
 pub mod Places
 pub mod LevelValues
 pub mod Descent
+pub mod BackDescent
 pub mod Renaming
 pub mod Signs
 pub mod Writes

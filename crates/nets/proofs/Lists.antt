@@ -10,10 +10,10 @@ use mathlib.Core.List.{List, [], _∷_, _++_}
 use borrow.Author.Tests.{le-leb}
 use lib.IntN.{ℤ, pos, natAbs}
 use lib.ListN.{length, getD, set, take, drop, length-set, length-append, length-drop}
-use lib.Seq.{take-suc, length-take-le, ext-getD, getD-take, getD-drop, getD-append-add, getD-set-same, getD-set-other}
+use lib.Seq.{take-suc, length-take-le, ext-getD, getD-take, getD-drop, getD-append-add, getD-set-same, getD-set-other, set-comm}
 use Rattle.integers.specs.Test.{within, all}
 use Rattle.integers.proofs.All.{all-append, and-true, and-one, and-none, and-assoc}
-use Rattle.nets.specs.Rows.{written, ranged}
+use Rattle.nets.specs.Rows.{written, KeptFrom, ranged}
 
 -- ---- writes
 
@@ -86,14 +86,39 @@ write-next xs cur from i v g low inv is =
 pub write-still : (xs cur : List ℤ) (from i j : ℕ) (g : ℕ → ℤ) → from ≤ i → i ≤ j → cur ≡ written xs from (i - from) g → getD cur j (pos 0) ≡ getD xs j (pos 0)
 write-still xs cur from i j g low past inv = ap (λ l. getD l j (pos 0)) inv ∙ written-outside xs from (i - from) g j (λ a b. omega arith)
 
+-- one write more in front of the others, by its place: where the writes go on downwards to place i
+pub write-before : (xs cur : List ℤ) (i f end : ℕ) (v : ℤ) (g : ℕ → ℤ) → f ≡ suc i → f ≤ end → cur ≡ written xs f (end - f) g → v ≡ g i → set cur i v ≡ written xs i (end - i) g
+unfolding written
+write-before xs cur i f end v g next high inv is =
+    ap₂ (λ l y. set l i y) (inv ∙ ap (λ j. written xs j (end - f) g) next) is ∙ in-front (end - f) ∙ ap (λ k. written xs i k g) count-is
+  where
+    count-is : suc (end - f) ≡ end - i
+    count-is = omega arith
+
+    in-front : (k : ℕ) → set (written xs (suc i) k g) i (g i) ≡ written xs i (suc k) g
+    in-front zero = ap (λ j. set xs j (g j)) (sym (add-zero i))
+    in-front (suc k) =
+        set-comm (written xs (suc i) k g) (suc i + k) i (g (suc i + k)) (g i) (λ e. omega arith)
+        ∙ ap₂ (λ l j. set l j (g j)) (in-front k) place-is
+      where
+        place-is : suc i + k ≡ i + suc k
+        place-is = omega arith
+
+-- past the writes nothing changes
+pub write-kept : (xs ys : List ℤ) (from k end : ℕ) (g : ℕ → ℤ) → from + k ≤ end → ys ≡ written xs from k g → KeptFrom end xs ys
+write-kept xs ys from k end g high is i past = ap (λ l. getD l i (pos 0)) is ∙ written-outside xs from k g i (λ a b. omega arith)
+
 -- ---- limits
 
 module _ (limit : ℕ) where
-  pub ranged-cong : (f g : ℕ → ℤ) (from k : ℕ) → ((i : ℕ) → from ≤ i → i < from + k → f i ≡ g i) → ranged limit f from k ≡ ranged limit g from k
+  -- the same numbers, which may stand in other places
+  pub ranged-moved : (f g : ℕ → ℤ) (a b k : ℕ) → ((i : ℕ) → i < k → f (a + i) ≡ g (b + i)) → ranged limit f a k ≡ ranged limit g b k
   unfolding ranged
-  ranged-cong f g from zero h = refl
-  ranged-cong f g from (suc k) h =
-      ap₂ (λ a x. a && within limit x) (ranged-cong f g from k (λ i a b. h i a (omega arith))) (h (from + k) (omega arith) (omega arith))
+  ranged-moved f g a b zero h = refl
+  ranged-moved f g a b (suc k) h = ap₂ (λ r x. r && within limit x) (ranged-moved f g a b k (λ i l. h i (omega arith))) (h k (omega arith))
+
+  pub ranged-cong : (f g : ℕ → ℤ) (from k : ℕ) → ((i : ℕ) → from ≤ i → i < from + k → f i ≡ g i) → ranged limit f from k ≡ ranged limit g from k
+  ranged-cong f g from k h = ranged-moved f g from from k (λ i l. h (from + i) (omega arith) (omega arith))
 
   -- one number more
   pub ranged-next : (g : ℕ → ℤ) (from i : ℕ) → from ≤ i → ranged limit g from (i - from) ≡ true → within limit (g i) ≡ true → ranged limit g from (i + 1 - from) ≡ true
@@ -115,6 +140,17 @@ module _ (limit : ℕ) where
       ap (ranged limit g from) (add-suc a b)
       ∙ ap₂ (λ x j. x && within limit (g j)) (ranged-append g from a b) (sym (add-assoc from a b))
       ∙ and-assoc (ranged limit g from a) (ranged limit g (from + a) b) (within limit (g (from + a + b)))
+
+  -- one number more in front, at place i
+  pub ranged-before : (g : ℕ → ℤ) (i f end : ℕ) → f ≡ suc i → f ≤ end → ranged limit g f (end - f) ≡ true → within limit (g i) ≡ true → ranged limit g i (end - i) ≡ true
+  unfolding ranged
+  ranged-before g i f end next high inv here =
+      ap (ranged limit g i) count-is
+      ∙ ranged-append g i 1 (end - f)
+      ∙ and-true (ap (λ j. within limit (g j)) (add-zero i) ∙ here) (ap (λ j. ranged limit g j (end - f)) (add-one i ∙ sym next) ∙ inv)
+    where
+      count-is : end - i ≡ 1 + (end - f)
+      count-is = omega arith
 
   -- a part beyond the limit is the whole beyond the limit
   pub ranged-part : (g : ℕ → ℤ) (from a b c : ℕ) → ranged limit g (from + a) b ≡ false → ranged limit g from (a + b + c) ≡ false
@@ -181,6 +217,19 @@ copied-front xs ys k h l =
 
     lengths : length (take k copy) ≡ k
     lengths = length-take-le k copy (subst (λ j. k ≤ j) (sym (length-written xs 0 k (λ i. getD ys i (pos 0)))) h)
+
+-- the first numbers of a list put back from a room where they were saved, nothing past them having changed
+pub put-back : (count : ℕ) (xs ys room saved : List ℤ) → count ≤ length xs → count ≤ length room → saved ≡ written room 0 count (λ i. getD xs i (pos 0)) → length ys ≡ length xs → KeptFrom count xs ys
+    → written ys 0 count (λ i. getD saved i (pos 0)) ≡ xs
+put-back count xs ys room saved long space is same kept =
+    ext-getD (pos 0) (written ys 0 count (λ i. getD saved i (pos 0))) xs (length-written ys 0 count (λ i. getD saved i (pos 0)) ∙ same) (λ i h. by i (decLt i count))
+  where
+    by : (i : ℕ) → Dec (i < count) → getD (written ys 0 count (λ j. getD saved j (pos 0))) i (pos 0) ≡ getD xs i (pos 0)
+    by i (yes p) =
+        written-at ys 0 count (λ j. getD saved j (pos 0)) i zero-le (omega arith) (omega arith)
+        ∙ ap (λ l. getD l i (pos 0)) is
+        ∙ written-at room 0 count (λ j. getD xs j (pos 0)) i zero-le (omega arith) (omega arith)
+    by i (no p) = written-outside ys 0 count (λ j. getD saved j (pos 0)) i (λ u v. omega arith) ∙ kept i (omega arith)
 
 -- a list whose first numbers are written anew
 same-front : (es xs ys : List ℤ) (i : ℕ) → i < length es → getD (es ++ xs) i (pos 0) ≡ getD (es ++ ys) i (pos 0)

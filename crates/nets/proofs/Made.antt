@@ -37,9 +37,9 @@ use Rattle.machine.specs.declared.Call.the-variants.{Move}
 use Rattle.nets.specs.Rows.{weightSum, Sized}
 use Rattle.nets.specs.Levels.{allNamedAt, replacedList, Descends, Replaces}
 use Rattle.nets.specs.Flips.{flippedList, InRange, Flips}
-use Rattle.nets.specs.Parts.{partAt, partsOf, inParts, Parts}
+use Rattle.nets.specs.Parts.{partAt, partsOf, inParts, Parts, PartsReplaced, AllOrNone}
 use Rattle.nets.specs.Calls.{netFrom, InOrder, sizeTest, Stepped}
-use Rattle.kinds.proofs.Limits.{limits, groups-of, later-none, later-one, pairs-only}
+use Rattle.kinds.proofs.Limits.{groups-of, later-none, later-one, pairs-only}
 use Rattle.kinds.proofs.Counts.{row-size, known-size, size-fits}
 use Rattle.nets.proofs.FirstMoves.{known-sized, sizeBy, movedBy, replace-size, replace-moved, flip-size, flip-moved}
 use Rattle.nets.proofs.LaterMoves.{later-size, later-moved}
@@ -153,12 +153,6 @@ module _ {kind degree second : ℕ} {places : List ℤ} {call : Call} (ordered :
           room = subst (λ k. k ≤ 180) (sym part-size) (le-trans (le-mul-of-pos-right w (subst (λ k. 0 < k) (sym entries-first) (omega arith))) (size-fits kind degree second right));
         }
 
-    -- a part is small
-    pub part-few : size 4 l second ≤ 24
-    part-few =
-        let below = limits kind degree second right .second-below in
-        subst (λ d. size 4 d second ≤ 24) (sym (pairs-only kind some .0)) (subst (λ k. 4 * k ≤ 24) (sym (length-one second)) (omega arith))
-
     pub net-parts : Parts l second (degree + 1) places
     net-parts =
         record {
@@ -215,7 +209,7 @@ module _ {kind degree second : ℕ} {places : List ℤ} {operation vertex : ℕ}
 
   -- ---- a replace
 
-  pub replace-made : operation ≡ 1 → (b : Bool) (k : ℕ) (after : List ℤ) → k ≡ firstFailed (b else 10 ∷ []) → b ≡ sizeBy (over ordered) (Move operation vertex weights) (used ordered)
+  replace-made : operation ≡ 1 → (b : Bool) (k : ℕ) (after : List ℤ) → k ≡ firstFailed (b else 10 ∷ []) → b ≡ sizeBy (over ordered) (Move operation vertex weights) (used ordered)
       → after ≡ cond b (putAt 0 left places) places → Stepped (netFrom kind degree second places) (Move operation vertex weights) k places after
   replace-made first b k after number sized made = record { number-is = number ∙ sym (number-by ordered b (sym sized)); places = made ∙ by b ∙ ap (λ j. unlessRefused j (putAt 0 left places) places) (sym number) }
     where
@@ -326,7 +320,7 @@ module _ {kind degree second : ℕ} {places : List ℤ} {operation vertex : ℕ}
     abbrev group-later : List Group
     group-later = group (laterDimension kind) second ∷ []
 
-    pub parts-sized : operation ≡ 1 → (b : Bool) → b ≡ all (allNamedAt 4 (laterDimension kind) second (weightList weights)) (partsOf (size 4 (laterDimension kind) second) (degree + 1) places)
+    parts-sized : operation ≡ 1 → (b : Bool) → b ≡ all (allNamedAt 4 (laterDimension kind) second (weightList weights)) (partsOf (size 4 (laterDimension kind) second) (degree + 1) places)
         → b ≡ sizeBy (over ordered) (Move operation vertex weights) (used ordered)
     unfolding countsOver
     parts-sized first b is =
@@ -357,7 +351,7 @@ module _ {kind degree second : ℕ} {places : List ℤ} {operation vertex : ℕ}
     none-past : (j : ℕ) → j < degree + 1 → drop (size 4 (laterDimension kind) second) (part j) ≡ []
     none-past j h = ap (λ k. drop k (part j)) (sym (part-whole j h)) ∙ drop-length (part j)
 
-    pub parts-replaced : operation ≡ 1 → (b : Bool) (after : List ℤ)
+    parts-replaced : operation ≡ 1 → (b : Bool) (after : List ℤ)
         → after ≡ cond b (inParts (replacedList 4 (laterDimension kind) second (weightList weights) (vertex - 1 - 2)) (size 4 (laterDimension kind) second) (degree + 1) places) places
         → after ≡ cond b (putAt 0 left places) places
     unfolding replacedList countsOver
@@ -370,6 +364,28 @@ module _ {kind degree second : ℕ} {places : List ℤ} {operation vertex : ℕ}
         ∙ ap (λ ys. listed 4 (laterDimension kind) second (λ c. replaced (suc (laterDimension kind)) (weightList weights) (pred rest) (entryAt 4 (laterDimension kind) second (part j) c)) ++ ys) (none-past j h)
         ∙ append-nil _
         ∙ sym (ap (movedBy group-later operation rest weights) (sym (part-taken j h)) ∙ replace-moved (laterDimension kind) second [] operation rest weights (part j) own-in first)))
+
+    -- the group has two vertices
+    two-later : laterDimension kind ≡ 1
+    two-later = pairs-only kind second-group .0
+
+    -- what replacing it in each part asks for, and that its answer and its numbers are those of the definition
+    pub parts-asked : PartsReplaced second (vertex - 1 - 2) (degree + 1) weights places
+    parts-asked =
+        record {
+          parts = subst (λ d. Parts d second (degree + 1) places) two-later (net-parts ordered second-group);
+          vertex = subst (λ d. vertex - 1 - 2 ≤ d) two-later own-high;
+          light = move-light;
+        }
+
+    pub parts-stepped : operation ≡ 1 → (b : Bool) (k : ℕ) (ys : List ℤ) → k ≡ firstFailed (b else 10 ∷ []) → AllOrNone second (weightList weights) (vertex - 1 - 2) (degree + 1) places b ys
+        → Stepped (netFrom kind degree second places) (Move operation vertex weights) k places ys
+    parts-stepped first b k ys number says =
+        let is =
+        subst
+        (λ d. (b ≡ all (allNamedAt 4 d second (weightList weights)) (partsOf (size 4 d second) (degree + 1) places)) × (ys ≡ cond b (inParts (replacedList 4 d second (weightList weights) (vertex - 1 - 2)) (size 4 d second) (degree + 1) places) places))
+        (sym two-later) says in
+        replace-made first b k ys number (parts-sized first b (is .0)) (parts-replaced first b ys (is .1))
 
     pub parts-flipped : (operation ≡ 1 → ⊥) → (after : List ℤ) → after ≡ inParts (flippedList 4 (laterDimension kind) second (vertex - 1 - 2)) (size 4 (laterDimension kind) second) (degree + 1) places
         → after ≡ putAt 0 left places

@@ -7,8 +7,8 @@ use mathlib.Core.Path.{_≡_, refl, sym, ap, ap₂, _∙_, subst}
 use mathlib.Core.Bool.{Bool, true, _&&_}
 use mathlib.Core.List.{List, [], _∷_, _++_, append-assoc}
 use lib.IntN.{ℤ, pos, natAbs}
-use lib.ListN.{length, getD, take, drop, take-append-drop, length-append, length-drop}
-use lib.Seq.{take-add, take-take, take-at, drop-at, drop-drop, length-take-le, getD-take, getD-drop}
+use lib.ListN.{length, getD, take, drop, length-append, length-drop}
+use lib.Seq.{take-add, take-take, take-at, drop-at, drop-drop, length-take-le, getD-take, getD-drop, getD-append-add}
 use Rattle.integers.specs.Sum.{upto}
 use Rattle.integers.specs.Test.{all}
 use Rattle.integers.proofs.Sums.{upto-snoc}
@@ -18,12 +18,12 @@ use Rattle.polar.proofs.Order.{joined-append}
 use Rattle.entries.specs.Rows.{listed, size}
 use Rattle.entries.proofs.Listed.{length-listed}
 use borrow.Author.Tests.{leb-true}
+use borrow.Rule.Slice.PartMut.{drop-put, mid-len}
 use Rattle.entries.proofs.Places.{joined-map}
 use Rattle.projection.specs.Projection.{inRange}
-use Rattle.nets.specs.Rows.{written}
+use Rattle.nets.specs.Rows.{KeptFrom}
 use Rattle.nets.specs.Levels.{replacedList}
 use Rattle.nets.specs.Parts.{partAt, inParts, Parts}
-use Rattle.nets.proofs.Lists.{written-front}
 
 -- ---- one part
 
@@ -80,17 +80,19 @@ module _ (f : List ℤ → List ℤ) (l : ℕ) (keeps : (ys : List ℤ) → leng
   parts-kept k h = length-append (front k) (drop (l * k) xs) ∙ ap₂ _+_ (front-long k h) (length-drop (l * k) xs) ∙ omega (arith, h)
 
   -- nothing past more parts has changed
-  pub parts-past : (k parts : ℕ) → k ≤ parts → l * parts ≤ length xs → drop (l * parts) (inParts f l k xs) ≡ drop (l * parts) xs
+  pub parts-past : (k parts : ℕ) → k ≤ parts → l * parts ≤ length xs → KeptFrom (l * parts) xs (inParts f l k xs)
   unfolding inParts
-  parts-past k parts h long =
-      ap (λ n. drop n (front k ++ drop (l * k) xs)) split
-      ∙ sym (drop-drop (l * parts - l * k) (l * k) (front k ++ drop (l * k) xs))
-      ∙ ap (drop (l * parts - l * k)) (drop-at (front k) (drop (l * k) xs) (l * k) (front-long k (le-trans (mul-le-mul-left l h) long)))
-      ∙ drop-drop (l * parts - l * k) (l * k) xs
-      ∙ ap (λ n. drop n xs) (sym split)
+  parts-past k parts h long i past =
+      ap (λ p. getD (front k ++ drop (l * k) xs) p (pos 0)) (split ∙ ap (λ n. n + (i - l * k)) (sym (front-long k (le-trans before long))))
+      ∙ getD-append-add (front k) (drop (l * k) xs) (i - l * k) (pos 0)
+      ∙ getD-drop (l * k) xs (i - l * k) (pos 0)
+      ∙ ap (λ p. getD xs p (pos 0)) (sym split)
     where
-      split : l * parts ≡ l * k + (l * parts - l * k)
-      split = let up = mul-le-mul-left l h in omega (arith, up)
+      before : l * k ≤ l * parts
+      before = mul-le-mul-left l h
+
+      split : i ≡ l * k + (i - l * k)
+      split = omega (arith, before)
 
   -- the next part is worked on, in its place
   pub parts-more : (k at len : ℕ) (cur ys : List ℤ) → l * suc k ≤ length xs → at ≡ l * k → len ≡ l → cur ≡ inParts f l k xs → ys ≡ f (take len (drop at cur))
@@ -133,18 +135,6 @@ drop-take-part zero (suc from) len xs h = absurd (wrong h)
     wrong b = omega arith
 drop-take-part (suc count) (suc from) len [] h = refl
 drop-take-part (suc count) (suc from) len (x ∷ xs) h = drop-take-part count from len xs (omega arith)
-
--- the first numbers of a list put back, nothing past them having changed
-pub put-back : (count : ℕ) (xs ys saved : List ℤ) → take count saved ≡ take count xs → drop count ys ≡ drop count xs → count ≤ length xs → count ≤ length ys
-    → written ys 0 count (λ i. getD saved i (pos 0)) ≡ xs
-put-back count xs ys saved alike past long room =
-    ap (λ zs. written ys 0 count (λ i. getD zs i (pos 0))) (sym (take-append-drop count saved) ∙ ap (λ zs. zs ++ drop count saved) alike)
-    ∙ written-front ys (take count xs) (drop count saved) count (sym whole) room
-    ∙ ap (λ zs. take count xs ++ zs) (ap (λ k. drop k ys) whole ∙ past)
-    ∙ take-append-drop count xs
-  where
-    whole : length (take count xs) ≡ count
-    whole = length-take-le count xs long
 
 -- ---- a turn of a loop over the parts
 
@@ -198,9 +188,21 @@ module _ (f : List ℤ → List ℤ) (l : ℕ) (keeps : (ys : List ℤ) → leng
       partAt-of : ℕ → List ℤ → List ℤ
       partAt-of j ys = partAt l ys j
 
+-- past a part that other numbers are put in the place of, nothing changes
+pub part-put : (at end : ℕ) (cur ys : List ℤ) → at ≤ end → end ≤ length cur → length ys ≡ length (take (end - at) (drop at cur)) → KeptFrom end cur (take at cur ++ (ys ++ drop (end - at) (drop at cur)))
+part-put at end cur ys low ends same i past =
+    ap (λ p. getD (take at cur ++ (ys ++ drop (end - at) (drop at cur))) p (pos 0)) split
+    ∙ sym (getD-drop end (take at cur ++ (ys ++ drop (end - at) (drop at cur))) (i - end) (pos 0))
+    ∙ ap (λ l. getD l (i - end) (pos 0)) (drop-put at end cur ys low ends (same ∙ mid-len at end cur ends))
+    ∙ getD-drop end cur (i - end) (pos 0)
+    ∙ ap (λ p. getD cur p (pos 0)) (sym split)
+  where
+    split : i ≡ end + (i - end)
+    split = omega arith
+
 -- a part that there is ends within the room, and the parts up to it within the list
-pub turn-low : (l parts k width : ℕ) → k < parts → width ≡ l → l * parts ≤ 180 → width * k + width ≤ 180
-turn-low l parts k width below is room = subst (λ n. n * k + n ≤ 180) (sym is) (le-trans (part-end l below) room)
+pub turn-low : (l parts k width : ℕ) {bound : ℕ} → k < parts → width ≡ l → l * parts ≤ bound → width * k + width ≤ bound
+turn-low l parts k width {bound} below is room = subst (λ n. n * k + n ≤ bound) (sym is) (le-trans (part-end l below) room)
 
 pub turn-last : (l parts k long : ℕ) → k < parts → l * parts ≤ long → l * suc k ≤ long
 turn-last l parts k long below h = le-trans (mul-le-mul-left l below) h

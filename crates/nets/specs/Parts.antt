@@ -12,7 +12,7 @@ use Rattle.polar.specs.Order.{joined}
 use Rattle.entries.specs.Rows.{size}
 use Rattle.projection.specs.Projection.{inRange}
 use Rattle.machine.specs.declared.Weights.{Weights}
-use Rattle.nets.specs.Rows.{Sized, weightSum}
+use Rattle.nets.specs.Rows.{Sized, KeptFrom, weightSum}
 use Rattle.nets.specs.Levels.{allNamedAt, replacedList}
 
 -- part k of parts of l numbers each
@@ -34,29 +34,29 @@ pub record Parts (n m k : ℕ) (xs : List ℤ) : Type 0 where
   pub long : size 4 n m * k ≤ length xs
   pub range : all inRange (take (size 4 n m * k) xs) ≡ true
 
--- what replacing vertex v in k parts asks for, and what flipping it does
-pub record PartsReplaced (n m v k : ℕ) (weights : Weights) (xs : List ℤ) : Type 0 where
-  pub parts : Parts n m k xs
-  pub vertex : v ≤ n
+-- what replacing vertex v in k parts asks for, which are nets of two vertices, and what flipping it does
+pub record PartsReplaced (m v k : ℕ) (weights : Weights) (xs : List ℤ) : Type 0 where
+  pub parts : Parts 1 m k xs
+  pub vertex : v ≤ 1
   pub light : weightSum weights ≤ 12288
 
 -- whether all polar values that the parts' replaces name are in range
-abbrev pub allParts : ℕ → ℕ → List ℤ → ℕ → List ℤ → Bool
-allParts n m ws k xs = all (allNamedAt 4 n m ws) (partsOf (size 4 n m) k xs)
+abbrev pub allParts : ℕ → List ℤ → ℕ → List ℤ → Bool
+allParts m ws k xs = all (allNamedAt 4 1 m ws) (partsOf (size 4 1 m) k xs)
 
 -- the numbers with vertex v replaced in k parts
-abbrev pub replacedParts : ℕ → ℕ → List ℤ → ℕ → ℕ → List ℤ → List ℤ
-replacedParts n m ws v k xs = inParts (replacedList 4 n m ws v) (size 4 n m) k xs
+abbrev pub replacedParts : ℕ → List ℤ → ℕ → ℕ → List ℤ → List ℤ
+replacedParts m ws v k xs = inParts (replacedList 4 1 m ws v) (size 4 1 m) k xs
 
 -- what replacing it part by part answers and leaves: where a value is out of range, some parts may be replaced, but nothing past them changes
-pub record ReplacesParts (n m : ℕ) (ws : List ℤ) (v k : ℕ) (xs : List ℤ) (b : Bool) (ys : List ℤ) : Type 0 where
-  pub named : b ≡ allParts n m ws k xs
-  pub made : b ≡ true → ys ≡ replacedParts n m ws v k xs
-  pub past : drop (size 4 n m * k) ys ≡ drop (size 4 n m * k) xs
+pub record ReplacesParts (m : ℕ) (ws : List ℤ) (v k : ℕ) (xs : List ℤ) (b : Bool) (ys : List ℤ) : Type 0 where
+  pub named : b ≡ allParts m ws k xs
+  pub made : b ≡ true → ys ≡ replacedParts m ws v k xs
+  pub past : KeptFrom (size 4 1 m * k) xs ys
 
 -- and what is promised of all of them together: the new net, or the old one
-abbrev pub AllOrNone : ℕ → ℕ → List ℤ → ℕ → ℕ → List ℤ → Bool → List ℤ → Type 0
-AllOrNone n m ws v k xs b ys = (b ≡ allParts n m ws k xs) × (ys ≡ cond b (replacedParts n m ws v k xs) xs)
+abbrev pub AllOrNone : ℕ → List ℤ → ℕ → ℕ → List ℤ → Bool → List ℤ → Type 0
+AllOrNone m ws v k xs b ys = (b ≡ allParts m ws k xs) × (ys ≡ cond b (replacedParts m ws v k xs) xs)
 
 pub record PartsFlipped (n m v k : ℕ) (xs : List ℤ) : Type 0 where
   pub parts : Parts n m k xs

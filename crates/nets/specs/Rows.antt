@@ -17,6 +17,10 @@ unfoldable pub written : List ℤ → ℕ → ℕ → (ℕ → ℤ) → List ℤ
 written xs from zero g = xs
 written xs from (suc k) g = set (written xs from k g) (from + k) (g (from + k))
 
+-- in ys every number at or past place k is as it was in xs
+abbrev pub KeptFrom : ℕ → List ℤ → List ℤ → Type 0
+KeptFrom k xs ys = (i : ℕ) → k ≤ i → getD ys i (pos 0) ≡ getD xs i (pos 0)
+
 -- ---- sizes
 
 -- whether g i is within the limit at each place i of from, from + 1, .., from + k - 1
@@ -67,6 +71,10 @@ nextThird n i k = cond (ltb k ((n - 1) * i)) (k + 1) 0
 abbrev pub mixed : List ℤ → ℕ → ℕ → ℤ → ℤ → ℤ → ℕ → ℤ
 mixed xs d e a b c i = a *ℤ getD xs i (pos 0) +ℤ (b *ℤ getD xs (i + d) (pos 0) +ℤ c *ℤ getD xs (i + e) (pos 0))
 
+-- the blend of the number at i with the one d places before it
+abbrev pub mixedBack : List ℤ → ℕ → ℤ → ℤ → ℕ → ℤ
+mixedBack xs d a b i = a *ℤ getD xs i (pos 0) +ℤ b *ℤ getD xs (i - d) (pos 0)
+
 -- the first i rows of a triangle blended with their next rows
 unfoldable pub rowsBlended : ℕ → List ℤ → Weights → ℕ → List ℤ
 rowsBlended w xs ws zero = xs
@@ -78,9 +86,9 @@ rowsBlended w xs ws (suc i) =
 unfoldable pub blended : ℕ → ℕ → ℕ → List ℤ → List ℤ → List ℤ
 blended w n m ws xs = listed w n m (λ c. fixed (suc n) ws (entryAt w n (suc m) xs c) 1) ++ drop (size w n m) xs
 
--- What a step in place answers and leaves, zs being the numbers after it and the first k of them new: b is whether these are within the limit, and then ys is zs.
+-- What a step in place answers and leaves, zs being the numbers after it and the first k of them new: b is whether these are within the limit, and then ys is zs; past them ys is as zs in any case.
 abbrev pub Leaves : ℕ → ℕ → List ℤ → Bool → List ℤ → Type 0
-Leaves limit k zs b ys = (b ≡ all (within limit) (take k zs)) × (b ≡ true → ys ≡ zs)
+Leaves limit k zs b ys = (b ≡ all (within limit) (take k zs)) × (b ≡ true → ys ≡ zs) × KeptFrom k zs ys
 
 -- h steps on a net of degree m
 unfoldable pub level : ℕ → ℕ → ℕ → List ℤ → ℕ → List ℤ → List ℤ

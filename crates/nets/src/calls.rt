@@ -13,7 +13,7 @@ ghost use Rattle.kinds.specs.Kinds.{group, groupsOf, dimensionOf};
 ghost use Rattle.machine.specs.Refusals.{_else_, firstFailed};
 ghost use Rattle.machine.specs.Calls.{weightList, ownTests};
 ghost use Rattle.machine.specs.Nets.{handedTests};
-ghost use Rattle.nets.specs.Levels.{Descends, Replaces};
+ghost use Rattle.nets.specs.Levels.{Descends, Replaces, LineDescended};
 ghost use Rattle.nets.specs.Flips.{flippedList};
 ghost use Rattle.nets.specs.Parts.{
   inParts,
@@ -36,6 +36,7 @@ ghost use Rattle.nets.specs.Calls.{
 };
 use crate::flips::flip_entries;
 use crate::levels::descend;
+use crate::levels::descend_back;
 use crate::levels::rename;
 use crate::levels::renamed_weights;
 use crate::rows::FEW;
@@ -237,32 +238,70 @@ pub(crate) fn judge_net(entries: &[i64], kind: u8, degree: u8, second: u8) -> u8
 
 // ---- what calls do
 
-// Replaces a vertex, counted from 0, by the point q that the weights name, or leaves the rows as they are
-// where a named polar value is out of range. The work is done in a room, where the vertex comes first.
-pub(crate) fn replace_rows(
-    room: &mut [i64],
-    entries: &mut [i64],
-    dimension: usize,
+// Goes down the levels of a net of two vertices in place, from the side of the vertex, counted from 0, that is
+// replaced by the point q that the weights name. They leave the new net.
+fn descend_line(
+    xs: &mut [i64],
     vertex: usize,
     degree: usize,
     width: usize,
     weights: Weights,
 ) -> bool
-    requires { ⌜ Descends width dimension degree weights (now entries) × (vertex ≤ dimension) × (size width dimension degree ≤ length (now room)) ⌝ }
-    ensures { λ b. ⌜ Replaces width dimension degree (weightList weights) vertex (now (entries .entry)) b (now (entries .exit)) ⌝ }
+    requires { ⌜ Descends width 1 degree weights (now xs) × (vertex ≤ 1) ⌝ }
+    ensures { λ b. ⌜ LineDescended width degree (weightList weights) vertex (now (xs .entry)) b (now (xs .exit)) ⌝ }
 {
-    rename(&mut *room, entries, dimension, vertex, degree, width);
+    if vertex == 0 {
+        return descend(xs, 1, degree, width, weights);
+    }
+    descend_back(xs, degree, width, weights)
+}
+
+// Replaces one of two vertices by q, or leaves the rows as they are where a named polar value is out of range: they
+// are saved in a room and put back.
+fn replace_line(
+    room: &mut [i64],
+    entries: &mut [i64],
+    vertex: usize,
+    degree: usize,
+    width: usize,
+    weights: Weights,
+) -> bool
+    requires { ⌜ Descends width 1 degree weights (now entries) × (vertex ≤ 1) × (size width 1 degree ≤ length (now room)) ⌝ }
+    ensures { λ b. ⌜ Replaces width 1 degree (weightList weights) vertex (now (entries .entry)) b (now (entries .exit)) ⌝ }
+{
+    let count = width * (degree + 1);
+    copy(&mut *room, entries, count);
+    if descend_line(&mut *entries, vertex, degree, width, weights) {
+        return true;
+    }
+    copy(entries, room, count);
+    false
+}
+
+// The same with three vertices, whose rows have four numbers. The work is done in a room, where the vertex comes
+// first.
+fn replace_triangle(
+    room: &mut [i64],
+    entries: &mut [i64],
+    vertex: usize,
+    degree: usize,
+    weights: Weights,
+) -> bool
+    requires { ⌜ Descends 4 2 degree weights (now entries) × (vertex ≤ 2) × (size 4 2 degree ≤ length (now room)) ⌝ }
+    ensures { λ b. ⌜ Replaces 4 2 degree (weightList weights) vertex (now (entries .entry)) b (now (entries .exit)) ⌝ }
+{
+    rename(&mut *room, entries, 2, vertex, degree, 4);
     let renamed = renamed_weights(vertex, weights);
-    if !descend(&mut *room, dimension, degree, width, renamed) {
+    if !descend(&mut *room, 2, degree, 4, renamed) {
         return false;
     }
-    rename(entries, room, dimension, vertex, degree, width);
+    rename(entries, room, 2, vertex, degree, 4);
     true
 }
 
-// The same in rows of four numbers, which every net of one group has. It is said a second time for the
-// compiler, which then knows the width throughout.
-pub(crate) fn replace_in(
+// The same with two or three vertices, in rows of four numbers, which every net of one group has. The compiler then
+// knows the width throughout.
+fn replace_in(
     room: &mut [i64],
     entries: &mut [i64],
     dimension: usize,
@@ -273,13 +312,10 @@ pub(crate) fn replace_in(
     requires { ⌜ Descends 4 dimension degree weights (now entries) × (vertex ≤ dimension) × (size 4 dimension degree ≤ length (now room)) ⌝ }
     ensures { λ b. ⌜ Replaces 4 dimension degree (weightList weights) vertex (now (entries .entry)) b (now (entries .exit)) ⌝ }
 {
-    rename(&mut *room, entries, dimension, vertex, degree, 4);
-    let renamed = renamed_weights(vertex, weights);
-    if !descend(&mut *room, dimension, degree, 4, renamed) {
-        return false;
+    if dimension == 1 {
+        return replace_line(room, entries, vertex, degree, 4, weights);
     }
-    rename(entries, room, dimension, vertex, degree, 4);
-    true
+    replace_triangle(room, entries, vertex, degree, weights)
 }
 
 // The same in a room of its own: a small one where it is enough, which takes less time to clear.
@@ -301,66 +337,46 @@ pub(crate) fn replace_entries(
     replace_in(&mut room, entries, dimension, vertex, degree, weights)
 }
 
-// The same in rows of any width.
+// The same with two vertices, in rows of any width.
 pub(crate) fn replace_wide(
     entries: &mut [i64],
-    dimension: usize,
     vertex: usize,
     degree: usize,
     width: usize,
     weights: Weights,
 ) -> bool
-    requires { ⌜ Descends width dimension degree weights (now entries) × (vertex ≤ dimension) ⌝ }
-    ensures { λ b. ⌜ Replaces width dimension degree (weightList weights) vertex (now (entries .entry)) b (now (entries .exit)) ⌝ }
+    requires { ⌜ Descends width 1 degree weights (now entries) × (vertex ≤ 1) ⌝ }
+    ensures { λ b. ⌜ Replaces width 1 degree (weightList weights) vertex (now (entries .entry)) b (now (entries .exit)) ⌝ }
 {
-    if numbers(dimension, degree, width) <= FEW {
+    if width * (degree + 1) <= FEW {
         let mut room = [0; FEW];
-        return replace_rows(
-            &mut room,
-            entries,
-            dimension,
-            vertex,
-            degree,
-            width,
-            weights,
-        );
+        return replace_line(&mut room, entries, vertex, degree, width, weights);
     }
     let mut room = [0; PLACES];
-    replace_rows(
-        &mut room,
-        entries,
-        dimension,
-        vertex,
-        degree,
-        width,
-        weights,
-    )
+    replace_line(&mut room, entries, vertex, degree, width, weights)
 }
 
-// Replaces a vertex of the second group in each part of the numbers that one entry of the first group has,
-// one part after the other, until a named polar value is out of range. Numbers past the parts stay.
+// Replaces a vertex of the second group, which has two, in each part of the numbers that one entry of the first group
+// has, one part after the other, until a named polar value is out of range. Numbers past the parts stay.
 pub(crate) fn replace_parts(
-    work: &mut [i64],
     entries: &mut [i64],
     parts: usize,
-    dimension: usize,
     vertex: usize,
     degree: usize,
     weights: Weights,
 ) -> bool
-    requires { ⌜ PartsReplaced dimension degree vertex parts weights (now entries) × (size 4 dimension degree ≤ length (now work)) ⌝ }
-    ensures { λ b. ⌜ ReplacesParts dimension degree (weightList weights) vertex parts (now (entries .entry)) b (now (entries .exit)) ⌝ }
+    requires { ⌜ PartsReplaced degree vertex parts weights (now entries) ⌝ }
+    ensures { λ b. ⌜ ReplacesParts degree (weightList weights) vertex parts (now (entries .entry)) b (now (entries .exit)) ⌝ }
 {
-    let length = numbers(dimension, degree, 4);
+    let length = 4 * (degree + 1);
     let mut k = 0;
     while k < parts {
         let from = length * k;
-        if !replace_in(
-            &mut *work,
+        if !descend_line(
             &mut entries[from..from + length],
-            dimension,
             vertex,
             degree,
+            4,
             weights,
         ) {
             return false;
@@ -371,30 +387,20 @@ pub(crate) fn replace_parts(
 }
 
 // The same, or nothing at all where a named polar value is out of range: the numbers are saved and put back.
-pub(crate) fn replace_saved(
+fn replace_saved(
     saved: &mut [i64],
     entries: &mut [i64],
     parts: usize,
-    dimension: usize,
     vertex: usize,
     degree: usize,
     weights: Weights,
 ) -> bool
-    requires { ⌜ PartsReplaced dimension degree vertex parts weights (now entries) × (size 4 dimension degree ≤ 24) × (size 4 dimension degree * parts ≤ length (now saved)) ⌝ }
-    ensures { λ b. ⌜ AllOrNone dimension degree (weightList weights) vertex parts (now (entries .entry)) b (now (entries .exit)) ⌝ }
+    requires { ⌜ PartsReplaced degree vertex parts weights (now entries) × (size 4 1 degree * parts ≤ length (now saved)) ⌝ }
+    ensures { λ b. ⌜ AllOrNone degree (weightList weights) vertex parts (now (entries .entry)) b (now (entries .exit)) ⌝ }
 {
-    let count = numbers(dimension, degree, 4) * parts;
+    let count = 4 * (degree + 1) * parts;
     copy(&mut *saved, entries, count);
-    let mut work = [0; FEW];
-    if replace_parts(
-        &mut work,
-        &mut *entries,
-        parts,
-        dimension,
-        vertex,
-        degree,
-        weights,
-    ) {
+    if replace_parts(&mut *entries, parts, vertex, degree, weights) {
         return true;
     }
     copy(entries, saved, count);
@@ -405,36 +411,19 @@ pub(crate) fn replace_saved(
 pub(crate) fn replace_later(
     entries: &mut [i64],
     parts: usize,
-    dimension: usize,
     vertex: usize,
     degree: usize,
     weights: Weights,
 ) -> bool
-    requires { ⌜ PartsReplaced dimension degree vertex parts weights (now entries) × (size 4 dimension degree ≤ 24) ⌝ }
-    ensures { λ b. ⌜ AllOrNone dimension degree (weightList weights) vertex parts (now (entries .entry)) b (now (entries .exit)) ⌝ }
+    requires { ⌜ PartsReplaced degree vertex parts weights (now entries) ⌝ }
+    ensures { λ b. ⌜ AllOrNone degree (weightList weights) vertex parts (now (entries .entry)) b (now (entries .exit)) ⌝ }
 {
-    if numbers(dimension, degree, 4) * parts <= FEW {
+    if 4 * (degree + 1) * parts <= FEW {
         let mut saved = [0; FEW];
-        return replace_saved(
-            &mut saved,
-            entries,
-            parts,
-            dimension,
-            vertex,
-            degree,
-            weights,
-        );
+        return replace_saved(&mut saved, entries, parts, vertex, degree, weights);
     }
     let mut saved = [0; PLACES];
-    replace_saved(
-        &mut saved,
-        entries,
-        parts,
-        dimension,
-        vertex,
-        degree,
-        weights,
-    )
+    replace_saved(&mut saved, entries, parts, vertex, degree, weights)
 }
 
 // Flips a vertex of the second group in each part of the numbers that one entry of the first group has.
@@ -476,7 +465,7 @@ fn size_number(in_range: bool) -> u8
 // What a replace that is not refused for its own arguments does: the number 10, or 0 and the vertex replaced.
 // Seen from the first group, a net has a row of the later groups' numbers for each entry. A net of one group goes
 // its own way, on which the compiler knows the width of its rows and leaves out all that there is of a second group.
-// The dimension of that is asked for where it is needed, and not kept: docs/DECISIONS.md says what that is worth.
+// Where there is a second group, both have two vertices.
 pub(crate) fn replace_vertex(
     entries: &mut [i64],
     kind: u8,
@@ -496,16 +485,9 @@ pub(crate) fn replace_vertex(
         return size_number(replace_entries(entries, n, v, m, weights));
     }
     if v <= n {
-        return size_number(replace_wide(entries, n, v, m, later_count(kind, second), weights));
+        return size_number(replace_wide(entries, v, m, later_count(kind, second), weights));
     }
-    size_number(replace_later(
-        entries,
-        m + 1,
-        later_dimension(kind),
-        v - 2,
-        second as usize,
-        weights,
-    ))
+    size_number(replace_later(entries, m + 1, v - 2, second as usize, weights))
 }
 
 // What a flip that is not refused for its own arguments does.

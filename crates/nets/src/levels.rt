@@ -1,7 +1,8 @@
 // Levels of de Casteljau steps: with each level one more copy of the point q that the weights name. Where
 // the first vertex is replaced by q, the steps in place leave the new net: an entry is last written on the
-// level that has as many copies of q as the entry has of the vertex. Another vertex is first renamed.
-// Vertices are counted from 0 here.
+// level that has as many copies of q as the entry has of the vertex. The second of two vertices is replaced in the
+// same way from its own side; where there are three, another vertex than the first is first renamed. Vertices are
+// counted from 0 here.
 ghost use mathlib.Core.Path.{_≡_};
 ghost use Prim.Native.Nat.{_+_, _*_, _-_, _<_, _≤_};
 ghost use lib.IntN.{pos};
@@ -10,9 +11,10 @@ ghost use Rattle.entries.specs.Rows.{size, rank, exchanged};
 ghost use Rattle.machine.specs.Calls.{weightList};
 ghost use Rattle.nets.specs.Rows.{placeAt, nextRow, nextThird, written};
 ghost use Rattle.nets.specs.Flips.{countsAt};
-ghost use Rattle.nets.specs.Levels.{copiedRow, renamedAt, Renames, Descends, Descended};
+ghost use Rattle.nets.specs.Levels.{copiedRow, renamedAt, Renames, Descends, Descended, LineDescended};
 use crate::rows::LIMIT;
 use crate::rows::blend;
+use crate::rows::blend_back;
 use crate::rows::place;
 use machine::Weights;
 
@@ -131,6 +133,31 @@ pub(crate) fn descend(
     let mut h = 0;
     while h < degree {
         if !blend(&mut *cur, dimension, degree - h, width, weights, LIMIT) {
+            return false;
+        }
+        h += 1;
+    }
+    true
+}
+
+// The same with two vertices, from the side of the second: a level is made of the one before it and stands one
+// row later. The row that it leaves free keeps the first one of the level before, which is the new entry there.
+pub(crate) fn descend_back(cur: &mut [i64], degree: usize, width: usize, weights: Weights) -> bool
+    requires { ⌜ Descends width 1 degree weights (now cur) ⌝ }
+    ensures { λ b. ⌜ LineDescended width degree (weightList weights) 1 (now (cur .entry)) b (now (cur .exit)) ⌝ }
+{
+    let end = width * (degree + 1);
+    let mut h = 0;
+    while h < degree {
+        if !blend_back(
+            &mut *cur,
+            width * (h + 1),
+            end,
+            width,
+            weights.s,
+            weights.r,
+            LIMIT,
+        ) {
             return false;
         }
         h += 1;

@@ -1,40 +1,51 @@
--- `replace_in` meets its contract: the net is renamed into the room, taken down the levels there, and renamed back where all of them are in range.
+-- `replace_in` meets its contract: there are two vertices or three.
 use borrow.Author.Needs.{needs}
-use borrow.Author.Tests.{not-true, not-false}
-use Rattle.nets.proofs.Renaming.{Renamed, replace-starts, replace-refused, replace-taken}
+use Prim.Native.Nat.{ℕ, _≤_}
+use native.Mathlib.Omega.{arith}
+use mathlib.Core.Path.{_≡_, sym, subst}
+use lib.ListN.{length}
+use Rattle.entries.specs.Rows.{size}
+use Rattle.machine.specs.Calls.{weightList}
+use Rattle.nets.specs.Levels.{Descends, Replaces}
 use Rattle.nets.proofs.calls.replace_in.Statement.{statement}
 use Rattle.nets.proofs.calls.replace_in.Tie as tie
 
-renamed : (c : tie.After-renamed-weights)
-    → let put = c .before .before in
-    let a = put .before .before .before .args in
-    Renamed 4 (a .dimension) (a .degree) (a .vertex) (a .weights) (c .renamed-weights .result) (a .entries .now) (put .rename .last .0)
-renamed c =
-    let put = c .before .before in
-    let s = put .before .before .before in
-    record { start = s .pre .0; top = s .pre .1; room = s .args .room .now; free = s .pre .2; is = put .rename .ensures; exchange-is = c .renamed-weights .ensures }
+-- what is asked for with n as the dimension
+abbrev Asked : tie.Start → ℕ → Type 0
+Asked s n = Descends 4 n (s .args .degree) (s .args .weights) (s .args .entries .now) × (s .args .vertex ≤ n) × (size 4 n (s .args .degree) ≤ length (s .args .room .now))
+
+two : (c : tie.Else1) → c .before .args .dimension ≡ 2
+two c = omega (arith, c .before .pre .0 .sized .low, c .before .pre .0 .sized .high, c .if1 .left)
+
+replace-line-requires : tie.Need-replace-line-requires
+replace-line-requires c κs = let branch = c .before .before in subst (Asked (branch .before)) (branch .if1 .taken) (branch .before .pre)
 
 returns : tie.Need-returns
-returns c = let d = c .before .before in replace-refused (renamed (d .before .before)) (d .descend .ensures) (not-true (d .descend .result) (c .if1 .taken))
+returns c =
+    let d = c .before .before in
+    let branch = d .before .before .before in
+    let a = branch .before .args in
+    subst (λ n. Replaces 4 n (a .degree) (weightList (a .weights)) (a .vertex) (a .entries .now) (d .replace-line .result) (d .replace-line .last .1 .0)) (sym (branch .if1 .taken)) (d .replace-line .ensures)
+
+replace-triangle-requires : tie.Need-replace-triangle-requires
+replace-triangle-requires c κs = let branch = c .before .before in subst (Asked (branch .before)) (two branch) (branch .before .pre)
 
 returns-2 : tie.Need-returns-2
 returns-2 c =
-    let back = c .before in
-    let branch = back .before .before .before in
-    let d = branch .before .before in
-    replace-taken (renamed (d .before .before)) (d .descend .ensures) (back .rename2 .last .0) (not-false (d .descend .result) (branch .if1 .left)) (back .rename2 .ensures)
+    let d = c .before .before in
+    let branch = d .before .before .before in
+    let a = branch .before .args in
+    subst (λ n. Replaces 4 n (a .degree) (weightList (a .weights)) (a .vertex) (a .entries .now) (d .replace-triangle .result) (d .replace-triangle .last .1 .0)) (sym (two branch)) (d .replace-triangle .ensures)
 
 pub replace-in-spec : {M : Type 1} → statement M
 replace-in-spec =
     tie.close
     (tie.spec
-    (λ c κs. search needs)
-    (λ c κs. search needs)
-    (λ c κs. replace-starts (renamed (c .before)))
+    replace-line-requires
     (λ c. search needs)
     (λ c. search needs)
     returns
-    (λ c κs. search needs)
+    replace-triangle-requires
     (λ c. search needs)
     (λ c. search needs)
     returns-2)

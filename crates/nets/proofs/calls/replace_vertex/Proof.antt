@@ -1,14 +1,12 @@
 -- `replace_vertex` meets its contract: the vertex is one of the first group, which is replaced in its rows, of four numbers where there is no second group, or one of the second, which is
 -- replaced in each part.
 use borrow.Author.Needs.{needs}
-use Prim.Native.Nat.{_+_, _-_, _≤_, _<_}
+use Prim.Native.Nat.{_-_, _≤_, _<_}
 use native.Mathlib.Omega.{arith}
 use mathlib.Core.Path.{_≡_, sym, _∙_, subst}
-use Rattle.entries.specs.Rows.{size}
 use Rattle.kinds.specs.Kinds.{dimensionOf, laterDimension}
-use Rattle.machine.specs.Calls.{weightList}
-use Rattle.nets.specs.Parts.{PartsReplaced, AllOrNone}
-use Rattle.nets.proofs.Made.{rowNumbers, row-of-four, own-only, net-parts, part-few, move-light, move-low, own-high, past-two, second-group, replace-made, replace-asked, replace-stepped, parts-sized, parts-replaced}
+use Rattle.kinds.proofs.Limits.{pairs-only}
+use Rattle.nets.proofs.Made.{rowNumbers, row-of-four, own-only, move-low, past-two, replace-asked, replace-stepped, parts-asked, parts-stepped}
 use Rattle.nets.proofs.calls.replace_vertex.Statement.{statement}
 use Rattle.nets.proofs.calls.replace_vertex.Tie as tie
 
@@ -44,19 +42,22 @@ returns c =
 own-low : (c : tie.Then2) → let a = c .before .before .before .before .args in a .vertex - 1 ≤ dimensionOf (a .kind)
 own-low c = let d = c .before .before .before in subst (λ n. d .before .args .vertex - 1 ≤ n) (d .dimension-of .ensures) (c .if2 .taken)
 
+-- which has two vertices
+two : (c : tie.Else1) → 1 ≡ dimensionOf (c .before .before .before .args .kind)
+two c = sym (pairs-only (c .before .before .before .args .kind) (λ none. c .if1 .left (c .before .later-dimension .ensures ∙ none)) .1)
+
 replace-wide-requires : tie.Need-replace-wide-requires
 replace-wide-requires c κs =
     let branch = c .before .before in
-    let d = branch .before .before .before in
-    replace-asked (d .before .pre .0) (own-low branch) (c .later-count .result) (d .dimension-of .result) (c .later-count .ensures) (d .dimension-of .ensures)
+    let s = branch .before .before .before .before in
+    replace-asked (s .pre .0) (own-low branch) (c .later-count .result) 1 (c .later-count .ensures) (two (branch .before))
 
 returns-2 : tie.Need-returns-2
 returns-2 c =
     let r = c .before .before in
     let branch = r .before .before .before in
-    let d = branch .before .before .before in
-    let s = d .before in
-    replace-stepped (s .pre .0) (own-low branch) (r .before .later-count .result) (d .dimension-of .result) (r .before .later-count .ensures) (d .dimension-of .ensures)
+    let s = branch .before .before .before .before in
+    replace-stepped (s .pre .0) (own-low branch) (r .before .later-count .result) 1 (r .before .later-count .ensures) (two (branch .before))
     (s .pre .1) (r .replace-wide .result) (c .size-number2 .result) (r .replace-wide .last .0) (c .size-number2 .ensures) (r .replace-wide .ensures)
 
 -- ---- a vertex of the second group
@@ -65,31 +66,17 @@ past : (c : tie.Else2) → let a = c .before .before .before .before .args in di
 past c = let d = c .before .before .before in subst (λ n. n < d .before .args .vertex - 1) (d .dimension-of .ensures) (let over = c .if2 .left in omega arith)
 
 sub-replace-later : tie.Need-sub-replace-later
-sub-replace-later c = let branch = c .before .before in past-two (branch .before .before .before .before .pre .0) (past branch)
-
-asked : (c : tie.Else2) → let s = c .before .before .before .before in PartsReplaced (laterDimension (s .args .kind)) (s .args .second) (s .args .vertex - 1 - 2) (s .args .degree + 1) (s .args .weights) (s .args .entries .now) × (size 4 (laterDimension (s .args .kind)) (s .args .second) ≤ 24)
-asked c =
-    let o = c .before .before .before .before .pre .0 in
-    let some = second-group o (past c) in
-    (record { parts = net-parts o some; vertex = own-high o (past c); light = move-light o }, part-few o some)
+sub-replace-later c = let branch = c .before in past-two (branch .before .before .before .before .pre .0) (past branch)
 
 replace-later-requires : tie.Need-replace-later-requires
-replace-later-requires c κs =
-    let branch = c .before .before in
-    let s = branch .before .before .before .before in
-    subst (λ d. PartsReplaced d (s .args .second) (s .args .vertex - 1 - 2) (s .args .degree + 1) (s .args .weights) (s .args .entries .now) × (size 4 d (s .args .second) ≤ 24)) (sym (c .later-dimension2 .ensures)) (asked branch)
+replace-later-requires c κs = let branch = c .before in parts-asked (branch .before .before .before .before .pre .0) (past branch)
 
 returns-3 : tie.Need-returns-3
 returns-3 c =
     let r = c .before .before in
-    let later = r .before in
-    let branch = later .before .before in
+    let branch = r .before .before in
     let s = branch .before .before .before .before in
-    let o = s .pre .0 in
-    let is =
-    subst (λ d. AllOrNone d (s .args .second) (weightList (s .args .weights)) (s .args .vertex - 1 - 2) (s .args .degree + 1) (s .args .entries .now) (r .replace-later .result) (r .replace-later .last .0)) (later .later-dimension2 .ensures) (r .replace-later .ensures) in
-    replace-made o (s .pre .1) (r .replace-later .result) (c .size-number3 .result) (r .replace-later .last .0) (c .size-number3 .ensures)
-    (parts-sized o (past branch) (s .pre .1) (r .replace-later .result) (is .0)) (parts-replaced o (past branch) (s .pre .1) (r .replace-later .result) (r .replace-later .last .0) (is .1))
+    parts-stepped (s .pre .0) (past branch) (s .pre .1) (r .replace-later .result) (c .size-number3 .result) (r .replace-later .last .0) (c .size-number3 .ensures) (r .replace-later .ensures)
 
 pub replace-vertex-spec : {M : Type 1} → statement M
 replace-vertex-spec =
@@ -108,7 +95,6 @@ replace-vertex-spec =
     (λ c. search needs)
     returns-2
     (λ c. search needs)
-    (λ c κs. search needs)
     sub-replace-later
     replace-later-requires
     (λ c κs. search needs)

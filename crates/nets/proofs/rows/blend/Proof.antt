@@ -44,7 +44,7 @@ returns c =
     let a = s .args in
     let row = c .before .blend-row in
     curve-made (a .limit) (a .width) (a .dimension) (s .pre .0 .some) (a .xs .now) (a .weights) (row .result) (row .last .0) (a .degree) (c .before .before .before .before .before .if1 .taken) (s .pre .1) (s .pre .2)
-    (seen (a .weights .r)) (seen (a .weights .s)) (first-read s) (second-read s) (row .ensures .0) (row .ensures .1)
+    (seen (a .weights .r)) (seen (a .weights .s)) (first-read s) (second-read s) (row .ensures .0) (row .ensures .1) (row .ensures .2)
 
 blend-rows-requires : tie.Need-blend-rows-requires
 blend-rows-requires c κs =

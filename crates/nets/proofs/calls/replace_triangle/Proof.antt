@@ -1,14 +1,14 @@
--- `replace_rows` meets its contract: the net is renamed into the room, taken down the levels there, and renamed back where all of them are in range.
+-- `replace_triangle` meets its contract: the net is renamed into the room, taken down the levels there, and renamed back where all of them are in range.
 use borrow.Author.Needs.{needs}
 use borrow.Author.Tests.{not-true, not-false}
 use Rattle.nets.proofs.Renaming.{Renamed, replace-starts, replace-refused, replace-taken}
-use Rattle.nets.proofs.calls.replace_rows.Statement.{statement}
-use Rattle.nets.proofs.calls.replace_rows.Tie as tie
+use Rattle.nets.proofs.calls.replace_triangle.Statement.{statement}
+use Rattle.nets.proofs.calls.replace_triangle.Tie as tie
 
 renamed : (c : tie.After-renamed-weights)
     → let put = c .before .before in
     let a = put .before .before .before .args in
-    Renamed (a .width) (a .dimension) (a .degree) (a .vertex) (a .weights) (c .renamed-weights .result) (a .entries .now) (put .rename .last .0)
+    Renamed 4 2 (a .degree) (a .vertex) (a .weights) (c .renamed-weights .result) (a .entries .now) (put .rename .last .0)
 renamed c =
     let put = c .before .before in
     let s = put .before .before .before in
@@ -24,8 +24,8 @@ returns-2 c =
     let d = branch .before .before in
     replace-taken (renamed (d .before .before)) (d .descend .ensures) (back .rename2 .last .0) (not-false (d .descend .result) (branch .if1 .left)) (back .rename2 .ensures)
 
-pub replace-rows-spec : {M : Type 1} → statement M
-replace-rows-spec =
+pub replace-triangle-spec : {M : Type 1} → statement M
+replace-triangle-spec =
     tie.close
     (tie.spec
     (λ c κs. search needs)

@@ -1,0 +1,46 @@
+-- `descend_line` meets its contract: the last level from the side of the first vertex is the net with that one replaced, and from the side of the second the net with the second replaced.
+use borrow.Author.Needs.{needs}
+use native.Mathlib.Omega.{arith}
+use mathlib.Core.Path.{_≡_, sym, ap, _∙_, subst}
+use Rattle.machine.specs.Calls.{weightList}
+use Rattle.nets.specs.Levels.{replacedList, LineDescended}
+use Rattle.nets.proofs.LevelValues.{level-replaced}
+use Rattle.nets.proofs.calls.descend_line.Statement.{statement}
+use Rattle.nets.proofs.calls.descend_line.Tie as tie
+
+returns : tie.Need-returns
+returns c =
+    let d = c .before in
+    let branch = d .before .before in
+    let s = branch .before in
+    let a = s .args in
+    let left = d .descend .ensures in
+    record {
+      named = left .named;
+      made = λ b.
+          left .last b
+          ∙ level-replaced (a .width) 1 (s .pre .0 .sized .some) (a .degree) (weightList (a .weights)) (a .xs .now) (s .pre .0 .long)
+          ∙ ap (λ v. replacedList (a .width) 1 (a .degree) (weightList (a .weights)) v (a .xs .now)) (sym (branch .if1 .taken));
+      kept = left .kept;
+      past = left .past;
+    }
+
+returns-2 : tie.Need-returns-2
+returns-2 c =
+    let d = c .before in
+    let branch = d .before .before in
+    let s = branch .before in
+    let a = s .args in
+    let second : a .vertex ≡ 1 = omega (arith, s .pre .1, branch .if1 .left) in
+    subst (λ v. LineDescended (a .width) (a .degree) (weightList (a .weights)) v (a .xs .now) (d .descend-back .result) (d .descend-back .last .0)) (sym second) (d .descend-back .ensures)
+
+pub descend-line-spec : {M : Type 1} → statement M
+descend-line-spec =
+    tie.close
+    (tie.spec
+    (λ c κs. search needs)
+    (λ c. search needs)
+    returns
+    (λ c κs. search needs)
+    (λ c. search needs)
+    returns-2)

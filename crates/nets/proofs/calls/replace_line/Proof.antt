@@ -1,0 +1,68 @@
+-- `replace_line` meets its contract: the rows are copied, taken down the levels in their places, and put back where a level is out of range.
+use borrow.Author.Needs.{needs}
+use Prim.Native.Nat.{ℕ, _+_, _*_, _≤_}
+use native.Mathlib.Omega.{arith}
+use mathlib.Core.Path.{_≡_, sym, _∙_, subst}
+use mathlib.Core.Bool.{false}
+use lib.ListN.{length}
+use Rattle.nets.specs.Rows.{KeptFrom}
+use Rattle.nets.proofs.Lists.{put-back}
+use Rattle.nets.proofs.Ranks.{size-curve}
+use Rattle.nets.proofs.Places.{degree-below}
+use Rattle.nets.proofs.calls.replace_line.Statement.{statement}
+use Rattle.nets.proofs.calls.replace_line.Tie as tie
+
+module _ (s : tie.Start) where
+  -- how many numbers are copied
+  abbrev count : ℕ
+  count = s .args .width * (s .args .degree + 1)
+
+  -- there is room for them, and they are there
+  fits : (count ≤ 180) × (count ≤ length (s .args .room .now)) × (count ≤ length (s .args .entries .now))
+  fits =
+      let whole = size-curve (s .args .width) (s .args .degree) in
+      (omega (arith, whole, s .pre .0 .sized .room), omega (arith, whole, s .pre .2), omega (arith, whole, s .pre .0 .long))
+
+copy-requires : tie.Need-copy-requires
+copy-requires c κs = let s = c .before .before in (fits s .1, fits s .2)
+
+returns : tie.Need-returns
+returns c =
+    let d = c .before .before in
+    (sym (c .if1 .taken) ∙ d .descend-line .ensures .named, d .descend-line .ensures .made (c .if1 .taken))
+
+copy-requires-2 : tie.Need-copy-requires-2
+copy-requires-2 c κs =
+    let d = c .before .before .before .before in
+    let copy = d .before .before .before in
+    let s = copy .before .before .before in
+    (subst (λ k. count s ≤ k) (sym (d .descend-line .kept .0)) (fits s .2), subst (λ k. count s ≤ k) (sym (copy .copy .kept .0)) (fits s .1))
+
+returns-2 : tie.Need-returns-2
+returns-2 c =
+    let d = c .before .before .before .before .before .before in
+    let copy = d .before .before .before in
+    let s = copy .before .before .before in
+    let left = d .descend-line in
+    let refused : left .result ≡ false = c .before .before .before .before .if1 .left in
+    let past : KeptFrom (count s) (s .args .entries .now) (left .last .0) = subst (λ k. KeptFrom k (s .args .entries .now) (left .last .0)) (size-curve (s .args .width) (s .args .degree)) (left .ensures .past) in (
+      sym refused ∙ left .ensures .named,
+      c .before .copy2 .ensures
+          ∙ put-back (count s) (s .args .entries .now) (left .last .0) (s .args .room .now) (copy .copy .last .0) (fits s .2) (fits s .1) (copy .copy .ensures) (left .ensures .kept) past,
+    )
+
+pub replace-line-spec : {M : Type 1} → statement M
+replace-line-spec =
+    tie.close
+    (tie.spec
+    (λ c. let low = degree-below (c .args .width) 1 (c .args .degree) (c .pre .0 .sized) in search needs)
+    (λ c. let few = fits c .0 in record { fits = omega arith })
+    copy-requires
+    (λ c κs. search needs)
+    (λ c. search needs)
+    (λ c. search needs)
+    returns
+    copy-requires-2
+    (λ c. search needs)
+    (λ c. search needs)
+    returns-2)
