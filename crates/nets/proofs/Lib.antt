@@ -30,3 +30,6 @@ pub mod Through
 pub mod FirstRows
 pub mod Scaled
 pub mod FirstSteps
+pub mod SideValues
+pub mod SideRow
+pub mod SideRows

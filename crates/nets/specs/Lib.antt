@@ -6,3 +6,4 @@ pub mod Coordinates
 pub mod FirstNet
 pub mod Frames
 pub mod Calls
+pub mod Sides

@@ -8,6 +8,7 @@ mod flips;
 mod frames;
 mod levels;
 mod rows;
+mod sides;
 
 ghost use mathlib.Core.Path.{_≡_};
 ghost use mathlib.Core.List.{[], _∷_};
