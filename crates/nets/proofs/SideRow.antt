@@ -3,8 +3,8 @@
 use Prim.Native.Nat.{ℕ, zero, suc, _+_, _*_, _-_, _^_, _≤_, _<_}
 use native.Mathlib.Nat.{add-zero, add-suc, suc-add}
 use native.Mathlib.Omega.{arith}
-use mathlib.Core.Path.{_≡_, refl, sym, ap, ap₂, _∙_, subst}
-use mathlib.Core.Bool.{true, _&&_}
+use mathlib.Core.Path.{_≡_, sym, ap, ap₂, _∙_, subst}
+use mathlib.Core.Bool.{true}
 use mathlib.Core.List.{List}
 use lib.IntN.{ℤ, pos, natAbs, _+ℤ_, _*ℤ_}
 use lib.Signed.{mag}
@@ -21,8 +21,8 @@ use Rattle.nets.proofs.Row.{element, three-small}
 -- ---- one number
 
 -- the blend of the numbers at three places
-abbrev pub threeOf : List ℤ → ℕ → ℕ → ℕ → ℤ → ℤ → ℤ → ℤ
-threeOf xs p q r a b c = a *ℤ getD xs p (pos 0) +ℤ (b *ℤ getD xs q (pos 0) +ℤ c *ℤ getD xs r (pos 0))
+abbrev pub blendOf : List ℤ → ℕ → ℕ → ℕ → ℤ → ℤ → ℤ → ℤ
+blendOf xs p q r a b c = a *ℤ getD xs p (pos 0) +ℤ (b *ℤ getD xs q (pos 0) +ℤ c *ℤ getD xs r (pos 0))
 
 module _ (xs₀ xs : List ℤ) (p q r : ℕ) (a b c : ℤ) (fa : SFits w64 a) (fb : SFits w64 b) (fc : SFits w64 c)
     (old-p : getD xs p (pos 0) ≡ getD xs₀ p (pos 0)) (old-q : getD xs q (pos 0) ≡ getD xs₀ q (pos 0)) (old-r : getD xs r (pos 0) ≡ getD xs₀ r (pos 0))
@@ -47,7 +47,7 @@ module _ (xs₀ xs : List ℤ) (p q r : ℕ) (a b c : ℤ) (fa : SFits w64 a) (f
       (subst (λ w. w * bounded .bound < 2 ^ 63) (sym (ap₂ _+_ (ap₂ _+_ (ap natAbs (back-fits fa)) (ap natAbs (back-fits fb))) (ap natAbs (back-fits fc)))) (bounded .fits))
 
   pub three-value : (z : ℤ) → SFits w64 z → z ≡ seen a *ℤ seen (getD xs p (pos 0)) +ℤ (seen b *ℤ seen (getD xs q (pos 0)) +ℤ seen c *ℤ seen (getD xs r (pos 0)))
-      → seen z ≡ threeOf xs₀ p q r (seen a) (seen b) (seen c)
+      → seen z ≡ blendOf xs₀ p q r (seen a) (seen b) (seen c)
   three-value z fz is =
       back-fits fz ∙ is
       ∙ ap₂ _+ℤ_ (ap (λ v. seen a *ℤ v) read-p) (ap₂ _+ℤ_ (ap (λ v. seen b *ℤ v) read-q) (ap (λ v. seen c *ℤ v) read-r))

@@ -1,7 +1,7 @@
 -- One level of the second or the third vertex of a triangle, row by row from the last, on plain numbers. An entry's blend reads its own row and the row before, which are as they
 -- were when its row's turn comes; in the rows up to row h no entry has more than h copies of the vertex, and they stay.
 use Prim.Native.Nat.{ℕ, zero, suc, pred, _+_, _*_, _-_, _/_, _%_, _≤_, _<_}
-use native.Mathlib.Nat.{le-refl, zero-add, mul-le-mul-left, mul-le-mul-right, mod-lt, div-add-mod}
+use native.Mathlib.Nat.{le-refl, mul-le-mul-left, mul-le-mul-right, mod-lt, div-add-mod}
 use native.Mathlib.Omega.{arith}
 use native.Mathlib.Decide.{decLt}
 use mathlib.Core.Path.{_≡_, refl, sym, ap, ap₂, _∙_, subst}
@@ -13,9 +13,9 @@ use lib.ListN.{length, getD, set}
 use Rattle.integers.specs.Test.{within}
 use Rattle.integers.proofs.All.{clash}
 use Rattle.integers.proofs.Ring.{ring, ring-rules}
-use Rattle.polar.specs.Order.{counts, total}
+use Rattle.polar.specs.Order.{counts}
 use Rattle.entries.specs.Entries.{fixed}
-use Rattle.entries.specs.Rows.{entryAt, size, offset}
+use Rattle.entries.specs.Rows.{entryAt, size}
 use Rattle.entries.proofs.Lengths.{tri-suc, tri-double}
 use Rattle.entries.proofs.Listed.{entry-rank}
 use Rattle.projection.specs.Projection.{limit, inRange}
@@ -48,7 +48,7 @@ module _ (g : ℕ → ℤ) where
 
 -- ---- the places of a triangle
 
--- how many numbers stand before row i, in a row more, and up to a row
+-- the rows stand one after the other, and those up to row i among the numbers
 row-mono : (a b : ℕ) → a ≤ b → 4 * tri a ≤ 4 * tri b
 row-mono a b h = mul-le-mul-left 4 (offset-mono (counts 1) a b h)
 
@@ -59,16 +59,21 @@ rows-inside m i h = let up = row-mono (suc i) (m + 1) (omega arith) in omega (ar
 pub row-start : (i : ℕ) → 2 * i * (i + 1) ≡ 4 * tri i
 row-start i = let twice = tri-double i in omega arith
 
--- the row ends in the places of a net, and the row before has as many numbers as i entries or more
+-- it ends in the places of a net
 pub row-room : (m i : ℕ) → i ≤ m → size 4 2 m ≤ 180 → 2 * i * (i + 1) + 4 * (i + 1) ≤ 180
 row-room m i h fits = omega (arith, rows-inside m i h, row-end 4 i, row-start i)
 
+-- before it there are i entries or more
 pub row-least : (i : ℕ) → 4 * i ≤ 2 * i * (i + 1)
 row-least i = omega (arith, row-start i, tri-most i)
 
 -- number c of the entry with k copies of the third vertex and b of the second
 abbrev pub spot : ℕ → ℕ → ℕ → ℕ
 spot b k c = 4 * (tri (b + k) + k) + c
+
+-- the entries up to row i stand before the next row
+spot-row : (i c b k : ℕ) → c < 4 → b + k ≤ i → spot b k c < 4 * tri (suc i)
+spot-row i c b k own row = let up = row-mono (suc (b + k)) (suc i) (omega arith) in omega (arith, up, row-end 4 (b + k))
 
 entry-spot : (m : ℕ) (xs : List ℤ) (c a b k : ℕ) → a + (b + k) ≡ m → entryAt 4 2 m xs c (a ∷ b ∷ k ∷ []) ≡ getD xs (spot b k c) (pos 0)
 entry-spot m xs c a b k t = entry-rank 4 2 m xs c (a ∷ b ∷ k ∷ []) refl (omega arith) ∙ ap (λ p. getD xs (4 * p + c) (pos 0)) (rank-patch a b k)
@@ -84,11 +89,11 @@ pub record Done (m v h : ℕ) (ws xs cur : List ℤ) (i : ℕ) : Type 0 where
   pub made : (c a b k : ℕ) → c < 4 → a + (b + k) ≡ m → i < b + k → getD cur (spot b k c) (pos 0) ≡ steppedAt 4 2 m ws v h xs c (a ∷ b ∷ k ∷ [])
   pub small : (c a b k : ℕ) → c < 4 → a + (b + k) ≡ m → i < b + k → h < getD (a ∷ b ∷ k ∷ []) v 0 → inRange (steppedAt 4 2 m ws v h xs c (a ∷ b ∷ k ∷ [])) ≡ true
 
--- what is to be written in row i: g, at the entries of the row that have more than h copies of the vertex, which stand together
+-- what is to be written in row i: the numbers of g, at the entries of the row that have more than h copies of the vertex; these stand together, from the entry with `first` copies of
+-- the third vertex up to the one with `end`
 pub record RowOf (m v h : ℕ) (ws xs : List ℤ) (i from count : ℕ) (g : ℕ → ℤ) : Type 0 where
   pub first : ℕ
   pub end : ℕ
-  pub order : first ≤ end
   pub inside : end ≤ suc i
   pub starts : from ≡ 4 * (tri i + first)
   pub ends : from + count ≡ 4 * (tri i + end)
@@ -128,8 +133,8 @@ module _ (m v h : ℕ) (ws xs : List ℤ) where
         record {
           bound = b .bound;
           each = λ p low below.
-          let inside = rows-inside m i (d .high) in
-          subst (λ z. natAbs z ≤ b .bound) (sym (d .still p (omega arith))) (b .each p (omega arith) (omega arith));
+              let inside = rows-inside m i (d .high) in
+              subst (λ z. natAbs z ≤ b .bound) (sym (d .still p (omega arith))) (b .each p (omega arith) (omega arith));
           fits = let less = mul-le-mul-right (b .bound) light in omega (arith, less, b .fits);
         }
 
@@ -156,12 +161,9 @@ module _ (m v h : ℕ) (ws xs : List ℤ) where
           let right : k < r .end = omega (arith, here, r .ends) in
           out left right
 
-      -- a number of a row before or after is in none of the writes
+      -- a number of a later row stands past the writes
       spot-past : (c b k : ℕ) → i < b + k → from + count ≤ spot b k c
       spot-past c b k past = let up = row-mono (suc i) (b + k) past in let top = row-high in omega arith
-
-      spot-row : (c b k : ℕ) → c < 4 → b + k ≤ i → spot b k c < 4 * tri (suc i)
-      spot-row c b k own row = let up = row-mono (suc (b + k)) (suc i) (omega arith) in omega (arith, up, row-end 4 (b + k))
 
       module _ (room : size 4 2 m ≤ length xs) where
         pub done-next : (ys : List ℤ) → ys ≡ written cur from count g → ranged limit g from count ≡ true → Done m v h ws xs ys (i - 1)
@@ -171,9 +173,9 @@ module _ (m v h : ℕ) (ws xs : List ℤ) where
               high = omega (arith, d .high);
               long = ap length is ∙ length-written cur from count g ∙ d .long;
               still = λ p below.
-              let here : p < 4 * tri i = subst (λ j. p < 4 * tri j) back below in
-              let low = row-low in
-              outside p (λ lo hi. omega arith) ∙ d .still p (let less = next in omega arith);
+                  let here : p < 4 * tri i = subst (λ j. p < 4 * tri j) back below in
+                  let low = row-low in
+                  outside p (λ lo hi. omega arith) ∙ d .still p (let less = next in omega arith);
               past = λ p beyond. let inside = rows-inside m i (d .high) in let top = row-high in outside p (λ lo hi. omega arith) ∙ d .past p beyond;
               made = λ c a b k own t after. by c a b k own t (omega arith) (decLt i (b + k)) (decLt h (getD (a ∷ b ∷ k ∷ []) v 0));
               small = λ c a b k own t after some. range c a b k own t (omega arith) some (decLt i (b + k));
@@ -200,7 +202,7 @@ module _ (m v h : ℕ) (ws xs : List ℤ) where
             by c a b k own t after (no p) (no q) =
                 let row : b + k ≡ i = omega arith in
                 outside (spot b k c) (spot-out c b k own row (λ lo hi. q (r .only a b k row lo hi)))
-                ∙ d .still (spot b k c) (spot-row c b k own (omega arith))
+                ∙ d .still (spot b k c) (spot-row i c b k own (omega arith))
                 ∙ sym (stepped-still c a b k t (omega arith))
 
             range : (c a b k : ℕ) → c < 4 → a + (b + k) ≡ m → i ≤ b + k → h < getD (a ∷ b ∷ k ∷ []) v 0 → Dec (i < b + k) → inRange (stepped c (a ∷ b ∷ k ∷ [])) ≡ true
@@ -264,8 +266,7 @@ module _ (m v h : ℕ) (ws xs : List ℤ) where
             by : Dec (i < b + k) → getD cur (spot b k c) (pos 0) ≡ stepped c (a ∷ b ∷ k ∷ [])
             by (yes p) = d .made c a b k (st .own) whole p
             by (no p) =
-                let up = row-mono (suc (b + k)) (suc i) (omega arith) in
-                d .still (spot b k c) (omega (arith, up, row-end 4 (b + k), st .own)) ∙ sym (stepped-still c a b k whole (omega (arith, side a b k, p, least)))
+                d .still (spot b k c) (spot-row i c b k (st .own) (omega arith)) ∙ sym (stepped-still c a b k whole (omega (arith, side a b k, p, least)))
 
         range : (c a b k : ℕ) → Stands 4 2 m c (a ∷ b ∷ k ∷ []) → h < getD (a ∷ b ∷ k ∷ []) v 0 → inRange (stepped c (a ∷ b ∷ k ∷ [])) ≡ true
         range c a b k st some = d .small c a b k (st .own) (omega (arith, st .whole)) (omega (arith, side a b k, some, least)) some
@@ -298,7 +299,6 @@ module _ (m h i : ℕ) (more : h < i) (r s t u : ℤ) (xs cur : List ℤ) (still
       record {
         first = 0;
         end = i - h;
-        order = omega arith;
         inside = omega arith;
         starts = omega arith;
         ends = omega arith;
@@ -328,7 +328,6 @@ module _ (m h i : ℕ) (more : h < i) (r s t u : ℤ) (xs cur : List ℤ) (still
       record {
         first = h + 1;
         end = i + 1;
-        order = omega arith;
         inside = omega arith;
         starts = omega arith;
         ends = omega arith;

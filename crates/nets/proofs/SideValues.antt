@@ -5,9 +5,9 @@ use native.Mathlib.Nat.{not-suc-le-zero, le-of-suc-le-suc, le-refl, sub-zero}
 use native.Mathlib.Numerals.{add-one}
 use native.Mathlib.Omega.{arith}
 use native.Mathlib.Decide.{decLt}
-use mathlib.Core.Path.{_≡_, refl, sym, ap, ap₂, _∙_, subst}
+use mathlib.Core.Path.{_≡_, refl, sym, ap, _∙_, subst}
 use mathlib.Core.Bool.{Bool, true, false, cond}
-use mathlib.Core.List.{List, [], _∷_, List·Memᴰ}
+use mathlib.Core.List.{List, [], _∷_}
 use borrow.Author.Tests.{lt-ltb, le-ltb}
 use lib.IntN.{ℤ, pos, _*ℤ_}
 use lib.ListN.{length, getD, set, take, length-set}
@@ -29,9 +29,9 @@ use Rattle.machine.specs.Calls.{weightList}
 use Rattle.machine.specs.declared.Weights.{Weights}
 use Rattle.nets.specs.Rows.{Bounded, level, weightSum}
 use Rattle.nets.specs.Levels.{valuesOf, namedAt, allNamedAt, replacedList, Descends, Descended}
-use Rattle.nets.specs.Sides.{Stands, steppedAt, Beyond, Levelled, ReplacedInPlace}
+use Rattle.nets.specs.Sides.{Stands, steppedAt, Levelled, ReplacedInPlace}
 use Rattle.nets.proofs.Ranks.{size-mono}
-use Rattle.nets.proofs.LevelValues.{range-bounded, range-entries, level-named, level-made, length-level, blended-past, named-first, named-next, named-fails}
+use Rattle.nets.proofs.LevelValues.{range-bounded, range-entries, level-named, level-made, blended-past, named-first, named-next, named-fails}
 
 -- ---- counts
 
@@ -83,7 +83,7 @@ module _ (w n m v : ℕ) (weights : Weights) (xs : List ℤ) (start : Descends w
   abbrev room : size w n m ≤ length xs
   room = start .long
 
-  -- the polar values, whether those with h copies of q are in range, and the counts of vertex v
+  -- the polar values, and whether those with h copies of q are in range
   abbrev values : ℕ → ℕ → List ℕ → ℤ
   values = valuesOf w n m ws xs
 
@@ -104,8 +104,8 @@ module _ (w n m v : ℕ) (weights : Weights) (xs : List ℤ) (start : Descends w
       record {
         below = zero-le;
         each = λ c e st.
-        let none : min 0 (getD e v 0) ≡ 0 = omega arith in
-        sym (ap (λ k. values c k (set e v (getD e v 0 - k))) none ∙ ap (λ x. entryAt w n m xs c (set e v x)) (sub-zero (getD e v 0)) ∙ ap (entryAt w n m xs c) (set-getD e v 0));
+            let none : min 0 (getD e v 0) ≡ 0 = omega arith in
+            sym (ap (λ k. values c k (set e v (getD e v 0 - k))) none ∙ ap (λ x. entryAt w n m xs c (set e v x)) (sub-zero (getD e v 0)) ∙ ap (entryAt w n m xs c) (set-getD e v 0));
         past = λ i b. refl;
         long = refl;
         named = named-first w n some m ws xs room (sym (level-named w n some m ws xs room 0 zero-le) ∙ ranged);
@@ -238,16 +238,16 @@ module _ (w n m v : ℕ) (weights : Weights) (xs : List ℤ) (start : Descends w
         record {
           named = sym (subst (λ k. all (namedAt w n m ws xs) (upto (suc k)) ≡ true) all-levels (a .named));
           last = λ b.
-          net-ext w n m some cur xs (λ c. replaced (suc n) ws v (entryAt w n m xs c)) (a .long) room
-          (λ c e k l t.
-          let most = copies-most e t in
-          let every : min h (getD e v 0) ≡ getD e v 0 = omega arith in
-          let none : getD e v 0 - getD e v 0 ≡ 0 = omega arith in
-          sym (entry-rank w n m cur c e l t)
-          ∙ a .each c e (record { own = k; long = l; whole = t })
-          ∙ ap (λ q. values c q (set e v (getD e v 0 - q))) every
-          ∙ ap (λ x. values c (getD e v 0) (set e v x)) none)
-          (a .past);
+              net-ext w n m some cur xs (λ c. replaced (suc n) ws v (entryAt w n m xs c)) (a .long) room
+              (λ c e k l t.
+              let most = copies-most e t in
+              let every : min h (getD e v 0) ≡ getD e v 0 = omega arith in
+              let none : getD e v 0 - getD e v 0 ≡ 0 = omega arith in
+              sym (entry-rank w n m cur c e l t)
+              ∙ a .each c e (record { own = k; long = l; whole = t })
+              ∙ ap (λ q. values c q (set e v (getD e v 0 - q))) every
+              ∙ ap (λ x. values c (getD e v 0) (set e v x)) none)
+              (a .past);
           kept = a .long;
         }
 
@@ -268,8 +268,8 @@ module _ (w n m : ℕ) (some : 1 ≤ w) (ws xs : List ℤ) (room : size w n m �
       record {
         named = d .named;
         last = λ ok.
-        net-ext w n m some ys xs (λ c. replaced (suc n) ws 0 (entryAt w n m xs c)) (d .kept) room
-        (λ c e k l t. ap (λ z. getD z (w * rank n e + c) (pos 0)) (d .last ok) ∙ level-made w n some m ws xs room c e k l t)
-        (λ i past. ap (λ z. getD z i (pos 0)) (d .last ok) ∙ level-past m (le-refl m) i past);
+            net-ext w n m some ys xs (λ c. replaced (suc n) ws 0 (entryAt w n m xs c)) (d .kept) room
+            (λ c e k l t. ap (λ z. getD z (w * rank n e + c) (pos 0)) (d .last ok) ∙ level-made w n some m ws xs room c e k l t)
+            (λ i past. ap (λ z. getD z i (pos 0)) (d .last ok) ∙ level-past m (le-refl m) i past);
         kept = d .kept;
       }

@@ -169,7 +169,12 @@ pub(crate) fn descend_third(xs: &mut [i64], degree: usize, weights: Weights) -> 
 }
 
 // Replaces a vertex of a triangle in place.
-pub(crate) fn descend_triangle(xs: &mut [i64], vertex: usize, degree: usize, weights: Weights) -> bool
+pub(crate) fn descend_triangle(
+    xs: &mut [i64],
+    vertex: usize,
+    degree: usize,
+    weights: Weights,
+) -> bool
     requires { ⌜ Descends 4 2 degree weights (now xs) × (vertex ≤ 2) ⌝ }
     ensures { λ b. ⌜ ReplacedInPlace 4 2 degree (weightList weights) vertex (now (xs .entry)) b (now (xs .exit)) ⌝ }
 {

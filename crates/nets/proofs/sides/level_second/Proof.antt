@@ -1,14 +1,12 @@
 -- `level_second` meets its contract: before a turn the rows past row i are done, and those up to it are as they were.
-use borrow.Author.Needs.{needs}
 use borrow.Author.Tests.{not-true, not-false}
-use Prim.Native.Nat.{ℕ, suc, _≤_, _+_, _*_, _-_}
+use Prim.Native.Nat.{ℕ, _≤_, _+_, _*_, _-_}
 use native.Mathlib.Omega.{arith}
 use mathlib.Core.Path.{_≡_, sym, ap, _∙_, subst}
 use mathlib.Core.List.{[], _∷_}
 use lib.IntN.{ℤ, natAbs}
-use lib.ListN.{length, getD}
+use lib.ListN.{getD}
 use Rattle.integers.proofs.Signed.{seen}
-use Rattle.entries.specs.Rows.{size}
 use Rattle.machine.specs.Calls.{weightList}
 use Rattle.nets.specs.Rows.{weightSum}
 use Rattle.nets.specs.Sides.{mixedAcross}
