@@ -23,6 +23,7 @@ pub mod LevelValues
 pub mod Descent
 pub mod BackDescent
 pub mod Renaming
+pub mod Saved
 pub mod Signs
 pub mod Writes
 pub mod Factorials

@@ -28,8 +28,8 @@ use Rattle.projection.specs.Projection.{inRange}
 use Rattle.machine.specs.Calls.{weightList}
 use Rattle.machine.specs.declared.Weights.{Weights}
 use Rattle.nets.specs.Rows.{Bounded, level, weightSum}
-use Rattle.nets.specs.Levels.{valuesOf, namedAt, allNamedAt, replacedList, Descends, Descended}
-use Rattle.nets.specs.Sides.{Stands, steppedAt, Levelled, ReplacedInPlace}
+use Rattle.nets.specs.Levels.{valuesOf, namedAt, allNamedAt, replacedList, Descends, Descended, ReplacedInPlace}
+use Rattle.nets.specs.Sides.{Stands, steppedAt, Levelled}
 use Rattle.nets.proofs.Ranks.{size-mono}
 use Rattle.nets.proofs.LevelValues.{range-bounded, range-entries, level-named, level-made, blended-past, named-first, named-next, named-fails}
 

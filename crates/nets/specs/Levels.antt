@@ -62,9 +62,8 @@ pub record Descended (w n m : ℕ) (ws xs : List ℤ) (b : Bool) (ys : List ℤ)
   pub kept : length ys ≡ length xs
   pub past : KeptFrom (size w n m) xs ys
 
--- what it gives on a net of two vertices, from the side of vertex v: the same, but then the new net
-pub record LineDescended (w m : ℕ) (ws : List ℤ) (v : ℕ) (xs : List ℤ) (b : Bool) (ys : List ℤ) : Type 0 where
-  pub named : b ≡ allNamedAt w 1 m ws xs
-  pub made : b ≡ true → ys ≡ replacedList w 1 m ws v xs
+-- what replacing vertex v in place answers and leaves: whether all named polar values are in range, and the new net if they are
+pub record ReplacedInPlace (w n m : ℕ) (ws : List ℤ) (v : ℕ) (xs : List ℤ) (b : Bool) (ys : List ℤ) : Type 0 where
+  pub named : b ≡ allNamedAt w n m ws xs
+  pub last : b ≡ true → ys ≡ replacedList w n m ws v xs
   pub kept : length ys ≡ length xs
-  pub past : KeptFrom (size w 1 m) xs ys

@@ -58,11 +58,3 @@ pub record Levelled (w n m : ℕ) (ws : List ℤ) (v h : ℕ) (xs : List ℤ) (b
   pub each : b ≡ true → (c : ℕ) (e : List ℕ) → Stands w n m c e → entryAt w n m ys c e ≡ steppedAt w n m ws v h xs c e
   pub small : b ≡ true → (c : ℕ) (e : List ℕ) → Stands w n m c e → h < getD e v 0 → inRange (steppedAt w n m ws v h xs c e) ≡ true
   pub large : b ≡ false → Beyond w n m ws v h xs
-
--- ---- all levels
-
--- what replacing vertex v in place answers and leaves: whether all named polar values are in range, and the new net if they are
-pub record ReplacedInPlace (w n m : ℕ) (ws : List ℤ) (v : ℕ) (xs : List ℤ) (b : Bool) (ys : List ℤ) : Type 0 where
-  pub named : b ≡ allNamedAt w n m ws xs
-  pub last : b ≡ true → ys ≡ replacedList w n m ws v xs
-  pub kept : length ys ≡ length xs

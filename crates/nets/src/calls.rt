@@ -13,7 +13,7 @@ ghost use Rattle.kinds.specs.Kinds.{group, groupsOf, dimensionOf};
 ghost use Rattle.machine.specs.Refusals.{_else_, firstFailed};
 ghost use Rattle.machine.specs.Calls.{weightList, ownTests};
 ghost use Rattle.machine.specs.Nets.{handedTests};
-ghost use Rattle.nets.specs.Levels.{Descends, Replaces, LineDescended};
+ghost use Rattle.nets.specs.Levels.{Descends, Replaces, ReplacedInPlace};
 ghost use Rattle.nets.specs.Flips.{flippedList};
 ghost use Rattle.nets.specs.Parts.{
   inParts,
@@ -37,14 +37,13 @@ ghost use Rattle.nets.specs.Calls.{
 use crate::flips::flip_entries;
 use crate::levels::descend;
 use crate::levels::descend_back;
-use crate::levels::rename;
-use crate::levels::renamed_weights;
 use crate::rows::FEW;
 use crate::rows::LIMIT;
 use crate::rows::PLACES;
 use crate::rows::copy;
 use crate::rows::entries_within;
 use crate::rows::numbers;
+use crate::sides::descend_triangle;
 use integers::is_within;
 use kinds::dimension_of;
 use kinds::known_kind;
@@ -248,7 +247,7 @@ fn descend_line(
     weights: Weights,
 ) -> bool
     requires { ⌜ Descends width 1 degree weights (now xs) × (vertex ≤ 1) ⌝ }
-    ensures { λ b. ⌜ LineDescended width degree (weightList weights) vertex (now (xs .entry)) b (now (xs .exit)) ⌝ }
+    ensures { λ b. ⌜ ReplacedInPlace width 1 degree (weightList weights) vertex (now (xs .entry)) b (now (xs .exit)) ⌝ }
 {
     if vertex == 0 {
         return descend(xs, 1, degree, width, weights);
@@ -271,15 +270,14 @@ fn replace_line(
 {
     let count = width * (degree + 1);
     copy(&mut *room, entries, count);
-    if descend_line(&mut *entries, vertex, degree, width, weights) {
+    if descend_line(&mut entries[0..count], vertex, degree, width, weights) {
         return true;
     }
     copy(entries, room, count);
     false
 }
 
-// The same with three vertices, whose rows have four numbers. The work is done in a room, where the vertex comes
-// first.
+// The same with one of three vertices, in rows of four numbers.
 fn replace_triangle(
     room: &mut [i64],
     entries: &mut [i64],
@@ -290,13 +288,13 @@ fn replace_triangle(
     requires { ⌜ Descends 4 2 degree weights (now entries) × (vertex ≤ 2) × (size 4 2 degree ≤ length (now room)) ⌝ }
     ensures { λ b. ⌜ Replaces 4 2 degree (weightList weights) vertex (now (entries .entry)) b (now (entries .exit)) ⌝ }
 {
-    rename(&mut *room, entries, 2, vertex, degree, 4);
-    let renamed = renamed_weights(vertex, weights);
-    if !descend(&mut *room, 2, degree, 4, renamed) {
-        return false;
+    let count = numbers(2, degree, 4);
+    copy(&mut *room, entries, count);
+    if descend_triangle(&mut entries[0..count], vertex, degree, weights) {
+        return true;
     }
-    rename(entries, room, 2, vertex, degree, 4);
-    true
+    copy(entries, room, count);
+    false
 }
 
 // The same with two or three vertices, in rows of four numbers, which every net of one group has. The compiler then

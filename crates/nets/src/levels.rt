@@ -11,7 +11,7 @@ ghost use Rattle.entries.specs.Rows.{size, rank, exchanged};
 ghost use Rattle.machine.specs.Calls.{weightList};
 ghost use Rattle.nets.specs.Rows.{placeAt, nextRow, nextThird, written};
 ghost use Rattle.nets.specs.Flips.{countsAt};
-ghost use Rattle.nets.specs.Levels.{copiedRow, renamedAt, Renames, Descends, Descended, LineDescended};
+ghost use Rattle.nets.specs.Levels.{copiedRow, renamedAt, Renames, Descends, Descended, ReplacedInPlace};
 use crate::rows::LIMIT;
 use crate::rows::blend;
 use crate::rows::blend_back;
@@ -144,7 +144,7 @@ pub(crate) fn descend(
 // row later. The row that it leaves free keeps the first one of the level before, which is the new entry there.
 pub(crate) fn descend_back(cur: &mut [i64], degree: usize, width: usize, weights: Weights) -> bool
     requires { ⌜ Descends width 1 degree weights (now cur) ⌝ }
-    ensures { λ b. ⌜ LineDescended width degree (weightList weights) 1 (now (cur .entry)) b (now (cur .exit)) ⌝ }
+    ensures { λ b. ⌜ ReplacedInPlace width 1 degree (weightList weights) 1 (now (cur .entry)) b (now (cur .exit)) ⌝ }
 {
     let end = width * (degree + 1);
     let mut h = 0;

@@ -9,14 +9,8 @@ ghost use lib.IntN.{natAbs};
 ghost use lib.ListN.{length};
 ghost use Rattle.machine.specs.Calls.{weightList};
 ghost use Rattle.nets.specs.Rows.{written, ranged, Bounded};
-ghost use Rattle.nets.specs.Levels.{Descends};
-ghost use Rattle.nets.specs.Sides.{
-  mixedAcross,
-  mixedDown,
-  LevelAsked,
-  Levelled,
-  ReplacedInPlace,
-};
+ghost use Rattle.nets.specs.Levels.{Descends, ReplacedInPlace};
+ghost use Rattle.nets.specs.Sides.{mixedAcross, mixedDown, LevelAsked, Levelled};
 use crate::levels::descend;
 use crate::rows::LIMIT;
 use crate::rows::mix;

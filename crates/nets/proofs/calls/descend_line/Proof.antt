@@ -1,10 +1,10 @@
 -- `descend_line` meets its contract: the last level from the side of the first vertex is the net with that one replaced, and from the side of the second the net with the second replaced.
 use borrow.Author.Needs.{needs}
 use native.Mathlib.Omega.{arith}
-use mathlib.Core.Path.{_≡_, sym, ap, _∙_, subst}
+use mathlib.Core.Path.{_≡_, sym, subst}
 use Rattle.machine.specs.Calls.{weightList}
-use Rattle.nets.specs.Levels.{replacedList, LineDescended}
-use Rattle.nets.proofs.LevelValues.{level-replaced}
+use Rattle.nets.specs.Levels.{ReplacedInPlace}
+use Rattle.nets.proofs.SideValues.{descended-replaces}
 use Rattle.nets.proofs.calls.descend_line.Statement.{statement}
 use Rattle.nets.proofs.calls.descend_line.Tie as tie
 
@@ -15,15 +15,8 @@ returns c =
     let s = branch .before in
     let a = s .args in
     let left = d .descend .ensures in
-    record {
-      named = left .named;
-      made = λ b.
-          left .last b
-          ∙ level-replaced (a .width) 1 (s .pre .0 .sized .some) (a .degree) (weightList (a .weights)) (a .xs .now) (s .pre .0 .long)
-          ∙ ap (λ v. replacedList (a .width) 1 (a .degree) (weightList (a .weights)) v (a .xs .now)) (sym (branch .if1 .taken));
-      kept = left .kept;
-      past = left .past;
-    }
+    subst (λ v. ReplacedInPlace (a .width) 1 (a .degree) (weightList (a .weights)) v (a .xs .now) (d .descend .result) (d .descend .last .0)) (sym (branch .if1 .taken))
+    (descended-replaces (a .width) 1 (a .degree) (s .pre .0 .sized .some) (weightList (a .weights)) (a .xs .now) (s .pre .0 .long) (d .descend .result) (d .descend .last .0) left)
 
 returns-2 : tie.Need-returns-2
 returns-2 c =
@@ -32,7 +25,7 @@ returns-2 c =
     let s = branch .before in
     let a = s .args in
     let second : a .vertex ≡ 1 = omega (arith, s .pre .1, branch .if1 .left) in
-    subst (λ v. LineDescended (a .width) (a .degree) (weightList (a .weights)) v (a .xs .now) (d .descend-back .result) (d .descend-back .last .0)) (sym second) (d .descend-back .ensures)
+    subst (λ v. ReplacedInPlace (a .width) 1 (a .degree) (weightList (a .weights)) v (a .xs .now) (d .descend-back .result) (d .descend-back .last .0)) (sym second) (d .descend-back .ensures)
 
 pub descend-line-spec : {M : Type 1} → statement M
 descend-line-spec =

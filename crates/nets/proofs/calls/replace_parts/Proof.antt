@@ -149,7 +149,7 @@ loop-again c =
       omega (arith, t .loop-test .taken),
       parts-more (made s) (l s) (as-long s) (s .args .entries .now) (loop .k) (from t) (from t + width s - from t)
           (loop .entries) (d .descend-line .last .0) (turn-last (l s) (s .args .parts) (loop .k) (length (s .args .entries .now)) (t .loop-test .taken) (s .pre .parts .long)) (here t .at) (here t .as-many) (loop .inv .1)
-          (d .descend-line .ensures .made ok),
+          (d .descend-line .ensures .last ok),
       all-more (named s) (loop .k) (loop .inv .2) (sym (found d) ∙ ok),
     )
 

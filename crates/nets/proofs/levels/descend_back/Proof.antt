@@ -70,9 +70,8 @@ returns c =
     record {
       named = back-fails (a .width) (a .degree) (a .weights) (a .cur .now) (s .pre) (l .cur) (l .h) (l .inv) (turn d .loop-test .taken) (seen (a .weights .r)) (seen (a .weights .s)) (first-read s) (second-read s)
           (k .result) (k .ensures .0) (not-true (k .result) (c .if1 .taken));
-      made = λ b. absurd (clash b refl);
+      last = λ b. absurd (clash b refl);
       kept = k .kept .0 ∙ l .inv .long;
-      past = λ i p. k .ensures .2 i (omega (arith, size-curve (a .width) (a .degree))) ∙ l .inv .past i p;
     }
 
 loop-again : tie.Need-loop-again Inv-loop μ-loop
@@ -92,7 +91,7 @@ returns-2 c =
     let a = s .args in
     let l = c .before .loop in
     let done = back-last (a .width) (a .degree) (a .weights) (a .cur .now) (s .pre) (l .cur) (l .h) (l .inv) (c .loop-test .left) in
-    record { named = done .0; made = λ b. done .1; kept = l .inv .long; past = l .inv .past }
+    record { named = done .0; last = λ b. done .1; kept = l .inv .long }
 
 pub descend-back-spec : {M : Type 1} → statement M
 descend-back-spec =

@@ -3,7 +3,7 @@ use borrow.Author.Needs.{needs}
 use native.Mathlib.Omega.{arith}
 use mathlib.Core.Path.{_≡_, sym, subst}
 use Rattle.machine.specs.Calls.{weightList}
-use Rattle.nets.specs.Sides.{ReplacedInPlace}
+use Rattle.nets.specs.Levels.{ReplacedInPlace}
 use Rattle.nets.proofs.SideValues.{descended-replaces}
 use Rattle.nets.proofs.sides.descend_triangle.Statement.{statement}
 use Rattle.nets.proofs.sides.descend_triangle.Tie as tie
