@@ -3,7 +3,6 @@ pub mod Polar
 pub mod Places
 pub mod Listed
 pub mod Standard
-pub mod Renamed
 pub mod Groups
 pub mod ListedOver
 pub mod Lengths

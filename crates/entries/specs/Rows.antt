@@ -43,9 +43,3 @@ replaced d ws v f e = fixed d ws f (getD e v 0) (set e v 0)
 -- after vertex v is flipped: the sign changes where v is taken an odd number of times
 abbrev pub flipped : ℕ → (List ℕ → ℤ) → List ℕ → ℤ
 flipped v f e = cond (odd (getD e v 0)) (negℤ (f e)) (f e)
-
--- a list whose first member and whose member v have changed places; d stands for a member that is not there
-abbrev pub exchanged : {A : Type 0} → A → ℕ → List A → List A
-exchanged d zero xs = xs
-exchanged d (suc v) [] = []
-exchanged d (suc v) (x ∷ xs) = getD xs v d ∷ set xs v x

@@ -22,7 +22,6 @@ pub mod Places
 pub mod LevelValues
 pub mod Descent
 pub mod BackDescent
-pub mod Renaming
 pub mod Saved
 pub mod Signs
 pub mod Writes

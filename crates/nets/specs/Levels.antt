@@ -1,15 +1,15 @@
--- What the private functions that rename vertices and go down the levels do to a list.
-use Prim.Native.Nat.{ℕ, suc, _+_, _*_, _-_, _/_, _%_, _≤_}
+-- What the private functions that go down the levels do to a list.
+use Prim.Native.Nat.{ℕ, suc, _+_, _*_, _-_, _≤_}
 use mathlib.Core.Path.{_≡_}
 use mathlib.Core.Bool.{Bool, true, cond}
-use mathlib.Core.List.{List, [], _++_}
+use mathlib.Core.List.{List, _++_}
 use lib.IntN.{ℤ, pos}
 use lib.ListN.{length, getD, drop, take}
 use Rattle.integers.specs.Sum.{upto}
 use Rattle.integers.specs.Test.{all}
 use Rattle.polar.specs.Order.{counts}
 use Rattle.entries.specs.Entries.{fixed}
-use Rattle.entries.specs.Rows.{entryAt, listed, size, replaced, exchanged}
+use Rattle.entries.specs.Rows.{entryAt, listed, size, replaced}
 use Rattle.projection.specs.Projection.{inRange}
 use Rattle.machine.specs.declared.Weights.{Weights}
 use Rattle.nets.specs.Rows.{Sized, written, KeptFrom, weightSum, level}
@@ -17,17 +17,6 @@ use Rattle.nets.specs.Rows.{Sized, written, KeptFrom, weightSum, level}
 -- a list with the row at place `from` of another list at place `to`
 abbrev pub copiedRow : ℕ → List ℤ → ℕ → List ℤ → ℕ → List ℤ
 copiedRow w out to xs from = written out (w * to) w (λ i. getD xs (w * from + (i - w * to)) (pos 0))
-
--- the number at place i of a net whose first vertex and vertex v are renamed into each other
-abbrev pub renamedAt : ℕ → ℕ → ℕ → ℕ → List ℤ → ℕ → ℤ
-renamedAt w n m v xs i = entryAt w n m xs (i % w) (exchanged 0 v (getD (counts n m) (i / w) []))
-
--- what renaming vertex v of the net xs into the list out asks for
-pub record Renames (w n m v : ℕ) (out xs : List ℤ) : Type 0 where
-  pub sized : Sized w n m
-  pub vertex : v ≤ n
-  pub room : size w n m ≤ length out
-  pub long : size w n m ≤ length xs
 
 -- the polar values that the numbers of a net fix, by number of the row, copies of q and counts
 abbrev pub valuesOf : ℕ → ℕ → ℕ → List ℤ → List ℤ → ℕ → ℕ → List ℕ → ℤ

@@ -1,21 +1,16 @@
 // Levels of de Casteljau steps: with each level one more copy of the point q that the weights name. Where
 // the first vertex is replaced by q, the steps in place leave the new net: an entry is last written on the
-// level that has as many copies of q as the entry has of the vertex. The second of two vertices is replaced in the
-// same way from its own side; where there are three, another vertex than the first is first renamed. Vertices are
-// counted from 0 here.
+// level that has as many copies of q as the entry has of the vertex. Other vertices are replaced from their own side,
+// in sides.rt. Vertices are counted from 0 here.
 ghost use mathlib.Core.Path.{_≡_};
-ghost use Prim.Native.Nat.{_+_, _*_, _-_, _<_, _≤_};
-ghost use lib.IntN.{pos};
+ghost use Prim.Native.Nat.{_+_, _*_, _-_, _≤_};
 ghost use lib.ListN.{length};
-ghost use Rattle.entries.specs.Rows.{size, rank, exchanged};
 ghost use Rattle.machine.specs.Calls.{weightList};
-ghost use Rattle.nets.specs.Rows.{placeAt, nextRow, nextThird, written};
-ghost use Rattle.nets.specs.Flips.{countsAt};
-ghost use Rattle.nets.specs.Levels.{copiedRow, renamedAt, Renames, Descends, Descended, ReplacedInPlace};
+ghost use Rattle.nets.specs.Rows.{nextRow, nextThird};
+ghost use Rattle.nets.specs.Levels.{copiedRow, Descends, Descended, ReplacedInPlace};
 use crate::rows::LIMIT;
 use crate::rows::blend;
 use crate::rows::blend_back;
-use crate::rows::place;
 use machine::Weights;
 
 // Copies a row.
@@ -66,56 +61,6 @@ pub(crate) fn next_third(dimension: usize, i: usize, k: usize) -> usize
     0
 }
 
-// ---- renaming
-
-// The place of the entry whose counts of the first vertex and of `vertex` are exchanged, entry p having i
-// copies of the vertices after the first, k of them of the third.
-pub(crate) fn renamed_place(
-    dimension: usize,
-    vertex: usize,
-    degree: usize,
-    p: usize,
-    i: usize,
-    k: usize,
-) -> usize
-    requires { ⌜ (1 ≤ dimension) × (dimension ≤ 2) × (vertex ≤ dimension) × (degree ≤ 180) × (i ≤ degree) × (k ≤ (dimension - 1) * i) × (p ≡ placeAt dimension i k) ⌝ }
-    ensures { λ r. ⌜ r ≡ rank dimension (exchanged 0 vertex (countsAt dimension degree i k)) ⌝ }
-{
-    if vertex == 0 {
-        return p;
-    }
-    if vertex == 1 {
-        return place(dimension, degree - i + k, k);
-    }
-    place(dimension, degree - k, degree - i)
-}
-
-// Writes the rows of a net with the first vertex and `vertex` renamed into each other. Entry p has i copies
-// of the vertices after the first, k of them of the third.
-pub(crate) fn rename(
-    out: &mut [i64],
-    xs: &[i64],
-    dimension: usize,
-    vertex: usize,
-    degree: usize,
-    width: usize,
-)
-    requires { ⌜ Renames width dimension degree vertex (now out) (now xs) ⌝ }
-    ensures { λ _. ⌜ now (out .exit) ≡ written (now (out .entry)) 0 (size width dimension degree) (renamedAt width dimension degree vertex (now (xs .entry))) ⌝ }
-{
-    let mut p = 0;
-    let mut i = 0;
-    let mut k = 0;
-    while i <= degree {
-        let from = renamed_place(dimension, vertex, degree, p, i, k);
-        copy_row(&mut *out, p, xs, from, width);
-        p += 1;
-        let row = next_row(dimension, i, k);
-        k = next_third(dimension, i, k);
-        i = row;
-    }
-}
-
 // ---- levels
 
 // Goes down all levels in place; the last one has one row, the point, at the front. The work ends with
@@ -163,28 +108,4 @@ pub(crate) fn descend_back(cur: &mut [i64], degree: usize, width: usize, weights
         h += 1;
     }
     true
-}
-
-// The weights with that of the first vertex and that of `vertex` exchanged.
-pub(crate) fn renamed_weights(vertex: usize, weights: Weights) -> Weights
-    requires { ⌜ vertex ≤ 2 ⌝ }
-    ensures { λ r. ⌜ weightList r ≡ exchanged (pos 0) vertex (weightList weights) ⌝ }
-{
-    if vertex == 0 {
-        return weights;
-    }
-    if vertex == 1 {
-        return Weights {
-            r: weights.s,
-            s: weights.r,
-            t: weights.t,
-            u: weights.u,
-        };
-    }
-    Weights {
-        r: weights.t,
-        s: weights.s,
-        t: weights.r,
-        u: weights.u,
-    }
 }
