@@ -198,6 +198,7 @@ module _ (w n : ℕ) (some : 1 ≤ w) where
             (let past = mul-le-mul-left w (rank-past n (m - suc (getD e 0 0 + j)) e l (omega (arith, t))) in omega arith)
             ∙ stays j (omega arith)
 
+    -- so the last level, with what the levels before it left, is the net with the first vertex replaced
     pub level-replaced : at m ≡ replacedList w n m ws 0 xs
     unfolding replacedList
     level-replaced =
