@@ -1,7 +1,8 @@
 -- Numbers of whole entries, gone through four at a time: before the end there is one more entry, and its numbers stand in front of the rest.
 use Prim.Native.Nat.{ℕ, suc, _+_, _≤_, _<_}
 use native.Mathlib.Omega.{arith}
-use mathlib.Core.Path.{_≡_, ap, _∙_}
+use mathlib.Core.Path.{_≡_, refl, ap, _∙_}
+use mathlib.Core.Bool.{Bool, true, false, _&&_}
 use mathlib.Core.List.{List, _∷_}
 use lib.IntN.{ℤ, pos}
 use lib.ListN.{length, drop, getD}
@@ -25,3 +26,11 @@ next-entry xs i up =
 
     step : (k l : ℕ) → k < length xs → k + 1 ≡ l → drop k xs ≡ getD xs k (pos 0) ∷ drop l xs
     step k l h is = drop-cons xs k (pos 0) h ∙ ap (λ j. getD xs k (pos 0) ∷ drop j xs) (one k ∙ is)
+
+-- tests of the numbers of one entry, and of those after it
+pub regroup : (a b c d r : Bool) → (a && (b && (c && (d && r)))) ≡ ((a && (b && (c && (d && true)))) && r)
+regroup false b c d r = refl
+regroup true false c d r = refl
+regroup true true false d r = refl
+regroup true true true false r = refl
+regroup true true true true r = refl

@@ -27,20 +27,44 @@ use crate::FRAME;
 use crate::rows::LIMIT;
 use crate::rows::four_within;
 use crate::rows::mix;
-use integers::all_within;
+use integers::is_within;
 use kinds::dimension_of;
-use kinds::frame_count;
 use kinds::later_dimension;
 use machine::Weights;
 
 // ---- refusals
 
-// Whether every number of the frame is within the limit.
+// Whether every number of the frame is within the limit: a curve has four of them, a rectangular patch eight and a patch
+// nine. It is asked with every call, and one after the other takes less time than a loop.
 pub(crate) fn frame_within(net: &[i64], kind: u8) -> bool
-    requires { ⌜ 12 ≤ length (now net) ⌝ }
+    requires { ⌜ (12 ≤ length (now net)) × (1 ≤ dimensionOf kind) ⌝ }
     ensures { λ b. ⌜ ((p q : ℕ) → b ≡ all inRange (take (frameCount (groupsOf kind p q)) (drop 3 (now (net .entry))))) ⌝ }
 {
-    all_within(&net[FRAME..FRAME + frame_count(kind)], LIMIT)
+    if !four_within(
+        net[FRAME],
+        net[FRAME + 1],
+        net[FRAME + 2],
+        net[FRAME + 3],
+        LIMIT,
+    ) {
+        return false;
+    }
+    if kind == 1 {
+        return true;
+    }
+    if !four_within(
+        net[FRAME + 4],
+        net[FRAME + 5],
+        net[FRAME + 6],
+        net[FRAME + 7],
+        LIMIT,
+    ) {
+        return false;
+    }
+    if kind == 3 {
+        return true;
+    }
+    is_within(net[FRAME + 8], LIMIT)
 }
 
 // The numbers of a vertex; the third of two is 0.

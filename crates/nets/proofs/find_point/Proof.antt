@@ -145,7 +145,7 @@ find-point-spec =
     returns-3
     (λ c κs. dimension-some (stood (base c)) (passed c))
     returns-4
-    (λ c κs. let places = stood (base (c .before .before)) .long in omega arith)
+    (λ c κs. let h = c .before .before in let places = stood (base h) .long in (omega arith, dimension-some (stood (base h)) (passed h)))
     returns-5
     (λ c. search needs)
     (λ c. search needs)

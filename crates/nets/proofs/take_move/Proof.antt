@@ -147,7 +147,7 @@ take-move-spec =
     (λ c κs. dimension-some (stood (base c)) (passed c))
     (λ c. search needs)
     returns-3
-    (λ c κs. let places = stood (base (c .before .before .before)) .long in omega arith)
+    (λ c κs. let h = c .before .before .before in let places = stood (base h) .long in (omega arith, dimension-some (stood (base h)) (passed h)))
     (λ c. search needs)
     returns-4
     make-moved-requires

@@ -12,7 +12,7 @@ use lib.Seq.{drop-length}
 use Rattle.integers.specs.Test.{within, all}
 use Rattle.nets.specs.Rows.{Whole}
 use Rattle.nets.proofs.Row.{element}
-use Rattle.nets.proofs.WholeEntries.{one-more, next-entry}
+use Rattle.nets.proofs.WholeEntries.{one-more, regroup, next-entry}
 use Rattle.nets.proofs.rows.entries_within.Statement.{statement}
 use Rattle.nets.proofs.rows.entries_within.Tie as tie
 
@@ -22,14 +22,7 @@ Inv-loop numbers limit i₀ i = (i ≤ length numbers) × Whole i × (all (withi
 abbrev μ-loop : tie.MeasureT-loop
 μ-loop numbers limit i₀ i = length numbers - i
 
--- the numbers of one entry, and those after it
-regroup : (a b c d r : Bool) → (a && (b && (c && (d && r)))) ≡ ((a && (b && (c && (d && true)))) && r)
-regroup false b c d r = refl
-regroup true false c d r = refl
-regroup true true false d r = refl
-regroup true true true false r = refl
-regroup true true true true r = refl
-
+-- the test of one entry, and of those after it
 next-four : (p : ℤ → Bool) (xs : List ℤ) (i : ℕ) → i + 4 ≤ length xs
     → all p (drop i xs) ≡ (all p (getD xs i (pos 0) ∷ getD xs (i + 1) (pos 0) ∷ getD xs (i + 2) (pos 0) ∷ getD xs (i + 3) (pos 0) ∷ []) && all p (drop (i + 4) xs))
 next-four p xs i up = ap (all p) (next-entry xs i up) ∙ regroup (at i) (at (i + 1)) (at (i + 2)) (at (i + 3)) (all p (drop (i + 4) xs))
