@@ -40,6 +40,7 @@ use crate::levels::descend_back;
 use crate::rows::FEW;
 use crate::rows::LIMIT;
 use crate::rows::PLACES;
+use crate::rows::SOME;
 use crate::rows::copy;
 use crate::rows::entries_within;
 use crate::rows::numbers;
@@ -346,8 +347,13 @@ pub(crate) fn replace_wide(
     requires { ⌜ Descends width 1 degree weights (now entries) × (vertex ≤ 1) ⌝ }
     ensures { λ b. ⌜ Replaces width 1 degree (weightList weights) vertex (now (entries .entry)) b (now (entries .exit)) ⌝ }
 {
-    if width * (degree + 1) <= FEW {
+    let count = width * (degree + 1);
+    if count <= FEW {
         let mut room = [0; FEW];
+        return replace_line(&mut room, entries, vertex, degree, width, weights);
+    }
+    if count <= SOME {
+        let mut room = [0; SOME];
         return replace_line(&mut room, entries, vertex, degree, width, weights);
     }
     let mut room = [0; PLACES];

@@ -38,6 +38,9 @@ pub(crate) const PLACES: usize = 180;
 // How many numbers a small net has at most: a curve of degree 5 or a patch of degree 2.
 pub(crate) const FEW: usize = 24;
 
+// And one of middling size: a rectangular patch of degrees (2, 5).
+pub(crate) const SOME: usize = 72;
+
 // The largest absolute value of a number of a net, in its entries, its frame and the polar values that calls name: 2
 // to the 48th.
 pub(crate) const LIMIT: u64 = 281474976710656;
