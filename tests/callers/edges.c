@@ -636,6 +636,39 @@ static void test_reached(uint8_t kind, uint8_t degree, uint8_t second) {
         }
 }
 
+/* A first net of 3 or -3 times the monomial without T, U and V in one component: every vertex has the last number 1,
+ * but for s2 of the rectangular patch, which has 2, so the entries have 3 times the scale, and q copies of s2 double it
+ * q times. */
+static void test_first_largest(uint8_t kind, uint8_t degree, uint8_t second, int64_t scale) {
+    const int64_t *frame = kind == 1 ? circle_frame : kind == 2 ? patch_frame : rect_frame;
+    for (int c = 0; c < 8; c++) {
+        int64_t coefficients[180] = {0}, net[MORE];
+        coefficients[c / 2] = c % 2 == 0 ? 3 : -3;
+        fill(net);
+        EXPECT(gadwemosh_first(kind, degree, second, frame, 9, coefficients, 180, net, MORE) == 0);
+        EXPECT(net[GADWEMOSH_LARGEST_PLACE] == 3 * scale << second);
+    }
+}
+
+/* Every shape, with its scale: made, and with its largest component in each place. */
+static void test_largest_of_all(void) {
+    const int64_t curves[10] = {1, 2, 3, 12, 10, 60, 105, 280, 252, 2520};
+    const int64_t patches[8] = {1, 2, 6, 12, 60, 180, 420, 1680};
+    for (int m = 1; m <= 10; m++) {
+        test_first_largest(1, (uint8_t)m, 0, curves[m - 1]);
+        test_reached(1, (uint8_t)m, 0);
+    }
+    for (int m = 1; m <= 8; m++) {
+        test_first_largest(2, (uint8_t)m, 0, patches[m - 1]);
+        test_reached(2, (uint8_t)m, 0);
+    }
+    for (int p = 1; p <= 5; p++)
+        for (int q = 1; q <= 5; q++) {
+            test_first_largest(3, (uint8_t)p, (uint8_t)q, curves[p - 1] * curves[q - 1]);
+            test_reached(3, (uint8_t)p, (uint8_t)q);
+        }
+}
+
 /* Along a list of moves the largest component rises and falls with the entries. */
 static void test_largest_along(void) {
     const int64_t L = GADWEMOSH_LARGEST, line[8] = {-L, 0, 0, 0, L - 1, 0, 0, 0};
@@ -892,13 +925,7 @@ int main(void) {
     test_frame_order();
     test_new_vertices();
     test_claims();
-    for (int degree = 1; degree <= 10; degree++)
-        test_reached(1, (uint8_t)degree, 0);
-    for (int degree = 1; degree <= 8; degree++)
-        test_reached(2, (uint8_t)degree, 0);
-    for (int p = 1; p <= 5; p++)
-        for (int q = 1; q <= 5; q++)
-            test_reached(3, (uint8_t)p, (uint8_t)q);
+    test_largest_of_all();
     test_largest_along();
     test_project();
     test_fields();
