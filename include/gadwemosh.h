@@ -22,8 +22,8 @@
  * written is in no other buffer of the same call. Places past what a call writes keep their values.
  *
  * STACK. A call takes at most GADWEMOSH_STACK bytes of stack. Seen were 15 KB for a text, 11 KB for a field,
- * 9 KB for opening, 7 KB for a first net and below 2 KB for the others (tests/callers/stack.c). At the first
- * call the dynamic linker may take 3 KB more, when it looks up memcpy and memset.
+ * 9 KB for opening, 7 KB for a first net, 2.3 KB for a move and below 2 KB for the others (tests/callers/stack.c). At
+ * the first call the dynamic linker may take 3 KB more, when it looks up memcpy and memset.
  *
  * A NET is a run of GADWEMOSH_NET numbers or more that the caller lends:
  *
@@ -33,7 +33,7 @@
  *   2          second degree: q, 1 to 5, of a rectangular patch; 0 of the others
  *   3 to 11    the frame that the net has reached: 4, 9 or 8 numbers by the kind, as below
  *   12 on      x, y, z, w of each entry, in order
- *   192        kept free for the largest component: not read, not written
+ *   192        the largest absolute component of the entries, as below
  *   193 on     the caller's, where the run is longer
  *
  *   kind           the frame's places   what stands there
@@ -57,9 +57,9 @@
  * In a rectangular patch's the copies of s1 rise, and for each of them those of s2 rise: (0, 0), (0, 1), (1, 0),
  * (1, 1), (2, 0), (2, 1) of s1, s2 in degrees 2 and 1.
  *
- * Only kind, degrees, the numbers of the frame and those of the entries are read and written. All other places,
- * those between the frame's last number and 12 and those between the last entry and 192 too, hold anything and
- * keep their values.
+ * Kind, degrees, the numbers of the frame, those of the entries and the largest component are in use. All other
+ * places, those between the frame's last number and 12 and those between the last entry and 192 too, hold anything
+ * and keep their values.
  *
  * THE FRAME of a first net is that of the record, or the one handed to gadwemosh_first. A replace that is taken
  * puts the point at its weights in the vertex's place, a flip that is taken puts -v in the place of v. A point
@@ -67,6 +67,14 @@
  * the patch, a net covers, and whoever passes on all places of a net passes on its frame. The frame of a net
  * that is handed over is taken as it is: the size of its numbers is tested, and nothing else. A determinant 0 is
  * no refusal there, and entries alone do not say what their frame is.
+ *
+ * THE LARGEST COMPONENT is the greatest of the entries' numbers, each without its sign. So it says how much room the
+ * net has up to GADWEMOSH_LARGEST, and nobody has to walk through the entries for it. gadwemosh_open, gadwemosh_first
+ * and a replace that is taken work it out of the entries that they write. A flip that is taken hands on the number
+ * that it was given: a flip changes only signs, so what was right stays right. A point and a refused call leave it as
+ * it was. So it is right after any calls on a net that was opened or made here. In a net that is handed over any
+ * number may stand in its place: none is refused, no answer depends on it, and a replace that is taken puts the right
+ * one there, whatever it was.
  *
  * LIMITS. Numbers of a net, of its frame and of a point are at most GADWEMOSH_LARGEST, weights at most 4096,
  * numbers of a first frame at most 4, coefficients at most 1048576, all of either sign. docs/RECORDS.md says more
@@ -81,10 +89,12 @@
 extern "C" {
 #endif
 
-/* How many places a net has at least, where the numbers of its frame begin, and where its entries do. */
+/* How many places a net has at least, where the numbers of its frame begin, where its entries do, and where the
+ * largest absolute component of these stands. */
 #define GADWEMOSH_NET 193
 #define GADWEMOSH_FRAME_PLACE 3
 #define GADWEMOSH_ENTRIES 12
+#define GADWEMOSH_LARGEST_PLACE 192
 
 /* How many numbers the frame of a net of this kind has: 4, 9 or 8. */
 #define GADWEMOSH_FRAME_NUMBERS(kind) ((kind) == GADWEMOSH_CURVE ? 4 : (kind) == GADWEMOSH_PATCH ? 9 : 8)
@@ -160,8 +170,9 @@ extern "C" {
 #define GADWEMOSH_DIRECTION 2
 #define GADWEMOSH_NOWHERE 3
 
-/* Opens a record. The first net, over the record's frame, is written where the answer is 0. A refused record
- * writes no net, and `offset` says where in the record the cause stands; it is 0 where the answer is 0 or 11. */
+/* Opens a record. The first net, over the record's frame and with its largest component, is written where the
+ * answer is 0. A refused record writes no net, and `offset` says where in the record the cause stands; it is 0
+ * where the answer is 0 or 11. */
 uint8_t gadwemosh_open(const uint8_t *record, size_t record_length, int64_t *net, size_t net_length,
                        uint64_t *offset);
 
@@ -198,8 +209,9 @@ uint8_t gadwemosh_field(const uint8_t *record, size_t record_length, uint8_t tag
  *
  * The determinant of the frame, for a rectangular patch that of each pair, must not be 0. The coefficients are
  * x, y, z, w of each monomial. The buffers have GADWEMOSH_FRAME and GADWEMOSH_COEFFICIENTS numbers or more; what
- * kind and degrees do not use holds anything. The frame's numbers are written into the net, before its entries. A
- * refusal is 4, 5, 6 or 7, or 11 where one of the three buffers is too short, and writes nothing. */
+ * kind and degrees do not use holds anything. The frame's numbers are written into the net, before its entries, and
+ * the largest component of these behind them. A refusal is 4, 5, 6 or 7, or 11 where one of the three buffers is
+ * too short, and writes nothing. */
 uint8_t gadwemosh_first(uint8_t kind, uint8_t degree, uint8_t second, const int64_t *frame,
                         size_t frame_length, const int64_t *coefficients, size_t coefficients_length,
                         int64_t *net, size_t net_length);
@@ -208,7 +220,8 @@ uint8_t gadwemosh_first(uint8_t kind, uint8_t degree, uint8_t second, const int6
  * a rectangular patch the first two are those of the vertex's own pair, r1 and s1 or r2 and s2. Unused ones are
  * 0: the third of all but a triangular patch, the fourth, all of a flip.
  *
- * A move that is taken writes the entries and the vertex's own numbers in the frame. It is refused 12 where a
+ * A move that is taken writes the entries and the vertex's own numbers in the frame, a replace also the largest
+ * component. It is refused 12 where a
  * number of the net's frame, or for a replace a number of the point at the weights, is beyond GADWEMOSH_LARGEST,
  * and then it does not matter how large the polar values are. A refused move leaves the net as it was. */
 uint8_t gadwemosh_move(int64_t *net, size_t net_length, uint8_t operation, uint8_t vertex, int64_t r,

@@ -1,7 +1,7 @@
 //! Splits a curve: reads its record from standard input, opens it, and makes its two halves at the weights
 //! (1, 1), by replacing s in one copy of the net and r in another; each half has a line with the frame that
-//! it has reached. Then takes the record's own moves and finds its own point. `tests/callers/circle.c` does
-//! the same in C.
+//! it has reached and one with its largest component. Then takes the record's own moves and finds its own
+//! point. `tests/callers/circle.c` does the same in C.
 //!
 //! In this folder: `cargo run --example circle < ../crates/netprint/stdin`.
 
@@ -20,6 +20,7 @@ fn print_net(name: &str, net: &Net) {
     for [x, y, z, w] in net.entries() {
         println!("{x} {y} {z} {w}");
     }
+    println!("largest {}", net.largest());
 }
 
 /// A copy of the net with one vertex replaced by the point at (1, 1).

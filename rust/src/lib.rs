@@ -2,9 +2,9 @@
 //!
 //! A control net is made from a record ([`Net::open`]), from polynomials and a frame ([`Net::first`]) or
 //! from its own frame and entries ([`Net::of_entries`]). It is moved to other frames by [`Net::replace`] and
-//! [`Net::flip`], carries the frame that it has reached ([`Net::frame`]), and is asked for points by
-//! [`Net::point`]; [`project`] says where a point lies. All numbers are whole, and nothing is rounded before the
-//! projection.
+//! [`Net::flip`], carries the frame that it has reached ([`Net::frame`]) and the largest component of its entries
+//! ([`Net::largest`]), and is asked for points by [`Net::point`]; [`project`] says where a point lies. All numbers
+//! are whole, and nothing is rounded before the projection.
 //!
 //! What each call answers is proved, for all inputs: the functions here pass on what a proved static
 //! library says. A call is refused ([`Refused`]) or it is not, and what is refused changes nothing.
@@ -23,6 +23,7 @@
 //! net.replace(Vertex::S, [1, 1, 0, 0])?;
 //! assert_eq!(net.frame(), [0, 1, 1, 2]);
 //! assert!(net.entries().eq([[2, 0, 0, 2], [4, 2, 0, 4], [6, 8, 0, 10]]));
+//! assert_eq!(net.largest(), 10);
 //! # Ok::<(), gadwemosh::Refused>(())
 //! ```
 //!

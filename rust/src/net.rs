@@ -147,11 +147,13 @@ pub struct Move {
     pub weights: Weights,
 }
 
-/// A control net over the frame that it has reached. Two nets are equal where kind, degrees, every number of the
-/// frame, signs included, and every entry are.
+/// A control net over the frame that it has reached, with the largest component of its entries. Two nets are equal
+/// where kind, degrees, every number of the frame, signs included, and every entry are; then their largest components
+/// are equal too.
 #[derive(Clone, PartialEq, Eq, Hash)]
 pub struct Net {
-    /// What `include/gadwemosh.h` says; the places that are not in use are 0.
+    /// What `include/gadwemosh.h` says; the places that are not in use are 0, and the largest component is
+    /// always right.
     places: [i64; raw::NET],
 }
 
@@ -163,6 +165,7 @@ impl Debug for Net {
             .field("degrees", &self.degrees())
             .field("frame", &self.frame())
             .field("entries", &self.entries().collect::<Vec<_>>())
+            .field("largest", &self.largest())
             .finish()
     }
 }
@@ -224,8 +227,12 @@ impl Net {
     /// let mut net = Net::of_entries(Kind::Curve, 2, &[0, 1, 1, 2], &entries)?;
     /// net.flip(Vertex::S)?;
     /// assert_eq!(net.frame(), [0, 1, -1, -2]);
+    /// assert_eq!(net.largest(), 10);
     /// # Ok::<(), Refused>(())
     /// ```
+    ///
+    /// The largest component is no argument: it is worked out here, from the entries, so that it is right whoever
+    /// passed them on. (A net in places of the caller's own, for [`raw`], may have any number there.)
     ///
     /// Nothing is guessed: entries alone do not say over which frame they stand, so the frame must be there, and
     /// it is taken as it is. Its determinant may be 0, and its numbers may be up to 2 to the 48th; one beyond is
@@ -248,7 +255,11 @@ impl Net {
         net.places[raw::FRAME_PLACE..][..vertices.len()].copy_from_slice(vertices);
         net.places[raw::ENTRIES..][..used.len()].copy_from_slice(used);
         // a flip is refused for nothing but the net that it gets, so a copy's flip says how the net is
-        net.clone().flip(kind.vertices()[0]).map(|()| net)
+        net.clone().flip(kind.vertices()[0])?;
+        // the numbers are in range, so each has its absolute value
+        let largest = used.iter().map(|number| number.abs()).max();
+        net.places[raw::LARGEST_PLACE] = largest.unwrap_or(0);
+        Ok(net)
     }
 
     fn blank() -> Net {
@@ -306,6 +317,28 @@ impl Net {
         numbers
             .chunks_exact(4)
             .map(|four| [four[0], four[1], four[2], four[3]])
+    }
+
+    /// The largest absolute component of the entries, 0 to 2 to the 48th: the greatest of their numbers, each
+    /// without its sign. The net stores it, so nothing is worked out here, and 2 to the 48th less this number is the
+    /// room that the entries have left.
+    ///
+    /// It is worked out when a net is made and by each replace that is taken. A flip, which changes only signs,
+    /// leaves it as it is, and so does a refused call.
+    ///
+    /// ```
+    /// use gadwemosh::{Kind, Net, Vertex};
+    ///
+    /// let mut net = Net::first(Kind::Curve, 1, &[0, 1, 1, 1], &[[0, -7, 0, 1], [1, 4, 0, 0]])?;
+    /// assert!(net.entries().eq([[0, -7, 0, 1], [1, -3, 0, 1]]));
+    /// assert_eq!(net.largest(), 7);
+    /// net.replace(Vertex::R, [1, -2, 0, 0])?;
+    /// assert!(net.entries().eq([[-2, -1, 0, -1], [1, -3, 0, 1]]));
+    /// assert_eq!(net.largest(), 3);
+    /// # Ok::<(), gadwemosh::Refused>(())
+    /// ```
+    pub fn largest(&self) -> i64 {
+        self.places[raw::LARGEST_PLACE]
     }
 
     /// The run of numbers that the net stands in, as C takes it.

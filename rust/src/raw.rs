@@ -87,6 +87,11 @@ pub const FRAME_PLACE: usize = 3;
 /// At which place of a net its entries begin.
 pub const ENTRIES: usize = 12;
 
+/// At which place of a net the largest absolute component of its entries stands. A lent net may have any number
+/// there: [`open`], [`first`] and a replace that is taken work it out, a flip hands on the number that it was
+/// given, and what is refused leaves it.
+pub const LARGEST_PLACE: usize = 192;
+
 /// How many numbers [`first`] wants of a frame at least; a curve uses the first four, a rectangular patch the
 /// first eight.
 pub const FRAME: usize = 9;
@@ -132,7 +137,8 @@ pub fn open(record: &[u8], net: &mut [i64], offset: &mut u64) -> u8 {
 /// Makes the first net of polynomials over a frame, without a record (`gadwemosh_first`). The second degree
 /// is that of a rectangular patch, and 0 for the other kinds. The frame wants [`FRAME`] numbers and the
 /// coefficients want [`COEFFICIENTS`]; those that kind and degrees do not use may be anything. The frame's
-/// numbers are written into the net too, from [`FRAME_PLACE`] on.
+/// numbers are written into the net too, from [`FRAME_PLACE`] on, and the largest component to
+/// [`LARGEST_PLACE`].
 #[inline]
 #[must_use]
 pub fn first(
@@ -160,7 +166,7 @@ pub fn first(
 }
 
 /// Replaces or flips a vertex of a lent net (`gadwemosh_move`): a move that is taken writes the entries and the
-/// vertex's numbers in the frame. The weights are those of r, s and t; for a rectangular patch the first two are
+/// vertex's numbers in the frame, and a replace also the largest component. The weights are those of r, s and t; for a rectangular patch the first two are
 /// those of the vertex's own pair. The others are 0.
 #[inline]
 #[must_use]

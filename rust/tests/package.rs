@@ -503,8 +503,98 @@ fn frames_are_compared_and_shown() {
     assert_eq!(
         format!("{other:?}"),
         "Net { kind: Curve, degrees: Degrees { first: 2, second: 0 }, frame: [0, 1, 1, -1], \
-         entries: [[2, 0, 0, 2], [2, 2, 0, 2], [0, 4, 0, 4]] }"
+         entries: [[2, 0, 0, 2], [2, 2, 0, 2], [0, 4, 0, 4]], largest: 4 }"
     );
+}
+
+/// The largest absolute number of a net's entries.
+fn largest_of(net: &Net) -> i64 {
+    let numbers = net.entries().flatten().collect::<Vec<_>>();
+    numbers.into_iter().map(i64::abs).max().unwrap()
+}
+
+/// Every net of this package has its largest component, however it was made and moved.
+#[test]
+fn the_largest_component_along_a_list() {
+    let record = Net::open(&rect_record(&[])).unwrap();
+    for (mut net, largest) in [(circle(), 4), (patch(), 2), (rect(), 4), (record, 4)] {
+        assert_eq!(net.largest(), largest);
+        assert_eq!(net.places()[raw::LARGEST_PLACE], largest);
+        for (n, &vertex) in net.kind().vertices().iter().cycle().take(12).enumerate() {
+            let before = net.largest();
+            net.flip(vertex).unwrap();
+            assert_eq!(net.largest(), before);
+            // a pair has two weights, and so has a curve
+            let seats = if net.kind() == Kind::Triangular { 3 } else { 2 };
+            let own = (usize::from(vertex.number()) - 1) % seats;
+            let mut weights = [0; 4];
+            weights[(own + 1) % seats] = n as i64 % 5 - 2;
+            assert_eq!(net.replace(vertex, weights), Err(Refused::NO_WEIGHT));
+            assert_eq!(net.largest(), before);
+            weights[own] = 2;
+            net.replace(vertex, weights).unwrap();
+            assert_eq!(net.largest(), largest_of(&net));
+        }
+    }
+    // it falls, too: r + s has -1 in the place of -8
+    let entries = [[-8, 0, 0, 1], [7, -2, 0, 1]];
+    let mut net = Net::of_entries(Kind::Curve, 1, &CIRCLE_FRAME, &entries).unwrap();
+    assert_eq!(net.largest(), 8);
+    net.replace(Vertex::R, [1, 1, 0, 0]).unwrap();
+    assert!(net.entries().eq([[-1, -2, 0, 2], [7, -2, 0, 1]]));
+    assert_eq!(net.largest(), 7);
+}
+
+/// A net made from entries has it too, at both ends of the range and with a number of either sign.
+#[test]
+fn the_largest_component_of_a_net_from_entries() {
+    let of = |entries: &[Components]| {
+        let degree = entries.len() as u8 - 1;
+        Net::of_entries(Kind::Curve, degree, &CIRCLE_FRAME, entries)
+    };
+    assert_eq!(of(&[[0; 4]; 11]).unwrap().largest(), 0);
+    assert_eq!(of(&CIRCLE_NET).unwrap().largest(), 4);
+    for large in [5, -5, LARGEST, -LARGEST] {
+        for place in 0..8 {
+            let mut entries = [[3, -3, 0, 1]; 2];
+            entries[place / 4][place % 4] = large;
+            let net = of(&entries).unwrap();
+            assert_eq!(net.largest(), large.abs());
+            assert_eq!(net.largest(), largest_of(&net));
+        }
+    }
+    // further entries are not looked at
+    let further = [[1; 4], [2; 4], [i64::MIN; 4]];
+    let net = Net::of_entries(Kind::Curve, 1, &CIRCLE_FRAME, &further);
+    assert_eq!(net.unwrap().largest(), 2);
+}
+
+/// A lent net may claim any number: a replace puts the right one there, a flip hands it on, and the rest leaves it.
+#[test]
+fn a_lent_net_claims_any_number() {
+    for claim in [0, 3, 4, 5, -4, LARGEST + 1, i64::MAX, i64::MIN] {
+        let mut lent = circle().places().to_vec();
+        lent[raw::LARGEST_PLACE] = claim;
+        let before = lent.clone();
+        let mut found = [5; 4];
+        assert_eq!(raw::make_move(&mut lent, raw::REPLACE, 1, [0, 1, 0, 0]), 9);
+        assert_eq!(raw::make_move(&mut lent, raw::FLIP, 1, [0, 1, 0, 0]), 8);
+        assert_eq!(raw::point(&lent, [1, 1, 0, 0], &mut found), 0);
+        assert_eq!((&lent, found), (&before, [6, 8, 0, 10]));
+        assert_eq!(raw::make_move(&mut lent, raw::FLIP, 1, [0; 4]), 0);
+        assert_eq!(lent[raw::LARGEST_PLACE], claim);
+        assert_eq!(raw::make_move(&mut lent, raw::FLIP, 1, [0; 4]), 0);
+        assert_eq!(lent, before);
+        assert_eq!(raw::make_move(&mut lent, raw::REPLACE, 1, [1, 0, 0, 0]), 0);
+        assert_eq!(lent, circle().places());
+        lent[raw::LARGEST_PLACE] = claim;
+        let (frame, mut coefficients) = ([0, 1, 1, 1, 0, 0, 0, 0, 0], [0; raw::COEFFICIENTS]);
+        coefficients[..12].copy_from_slice(CIRCLE.as_flattened());
+        assert_eq!(raw::first(1, 2, 1, &frame, &coefficients, &mut lent), 4);
+        assert_eq!(lent, before);
+        assert_eq!(raw::first(1, 2, 0, &frame, &coefficients, &mut lent), 0);
+        assert_eq!(lent, circle().places());
+    }
 }
 
 #[test]

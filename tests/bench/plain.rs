@@ -5,10 +5,12 @@
 
 pub const LIMIT: i64 = 1 << 48;
 
-/// How many places a net has at least, where its frame begins, and which of them its entries have at most.
+/// How many places a net has at least, where its frame begins, which of them its entries have at most, and
+/// where the largest absolute component of these stands.
 pub const NET: usize = 193;
 const FRAME: usize = 3;
 const ENTRIES: std::ops::Range<usize> = 12..192;
+const LARGEST: usize = 192;
 pub const PLACES: usize = 180;
 
 /// No text has more bytes.
@@ -103,6 +105,10 @@ impl Group {
         Group { degree, ..self }
     }
 
+    fn of_width(self, width: usize) -> Group {
+        Group { width, ..self }
+    }
+
     /// Where entry k of row n stands; a curve has one entry in each row.
     fn place(self, n: usize, k: usize) -> usize {
         if self.dimension == 1 { n } else { n * (n + 1) / 2 + k }
@@ -127,13 +133,14 @@ fn entries_mut(net: &mut [i64]) -> &mut [i64; PLACES] {
     (&mut net[ENTRIES]).try_into().unwrap()
 }
 
-/// Puts a net into lent places; those that it does not use stay.
-fn put(net: &mut [i64], shape: Shape, frame: &[i64; 9], made: &[i64; PLACES]) {
+/// Puts a net with its largest component into lent places; those that it does not use stay.
+fn put(net: &mut [i64], shape: Shape, frame: &[i64; 9], made: &[i64; PLACES], largest: i64) {
     net[..3].copy_from_slice(&[shape.kind as i64, shape.degree as i64, shape.second as i64]);
     let n = shape.frame_numbers();
     net[FRAME..FRAME + n].copy_from_slice(&frame[..n]);
     let n = shape.numbers();
     entries_mut(net)[..n].copy_from_slice(&made[..n]);
+    net[LARGEST] = largest;
 }
 
 fn in_range(v: i64) -> bool {
@@ -238,25 +245,28 @@ fn weights_in(w: [i64; 4], used: usize) -> bool {
     !unused && w.iter().all(|v| (-4096..=4096).contains(v))
 }
 
-/// Copies the entries from place `at` on, the copies of the first vertex and of vertex v exchanged.
+/// Copies the entries from place `at` on, the copies of the first vertex and of vertex v exchanged. On the way
+/// back into a net the largest absolute number of all that were copied is taken along.
 #[inline(always)]
-fn rename(out: &mut [i64; PLACES], xs: &[i64; PLACES], at: usize, g: Group, v: usize) {
+fn rename<const BACK: bool>(out: &mut [i64; PLACES], xs: &[i64; PLACES], at: usize, g: Group, v: usize, largest: i64) -> i64 {
     match (g.dimension, g.width) {
-        (1, 4) => rename_curve(out, xs, at, g.degree, 4, v),
-        (1, width) => rename_curve(out, xs, at, g.degree, width, v),
-        _ => rename_patch(out, xs, g, v),
+        (1, 4) => rename_curve::<BACK>(out, xs, at, g.of_width(4), v, largest),
+        (1, _) => rename_curve::<BACK>(out, xs, at, g, v, largest),
+        _ => rename_patch::<BACK>(out, xs, g, v, largest),
     }
 }
 
 #[inline(always)]
-fn rename_curve(out: &mut [i64; PLACES], xs: &[i64; PLACES], at: usize, m: usize, width: usize, v: usize) {
+fn rename_curve<const BACK: bool>(out: &mut [i64; PLACES], xs: &[i64; PLACES], at: usize, g: Group, v: usize, mut largest: i64) -> i64 {
+    let (m, width) = (g.degree, g.width);
     for n in 0..=m {
         let (to, from) = (at + width * n, at + width * if v == 0 { n } else { m - n });
-        out[to..to + width].copy_from_slice(&xs[from..from + width]);
+        largest = copied::<BACK>(&mut out[to..to + width], &xs[from..from + width], largest);
     }
+    largest
 }
 
-fn rename_patch(out: &mut [i64; PLACES], xs: &[i64; PLACES], g: Group, v: usize) {
+fn rename_patch<const BACK: bool>(out: &mut [i64; PLACES], xs: &[i64; PLACES], g: Group, v: usize, mut largest: i64) -> i64 {
     let m = g.degree;
     for n in 0..=m {
         for k in 0..=n {
@@ -266,9 +276,22 @@ fn rename_patch(out: &mut [i64; PLACES], xs: &[i64; PLACES], g: Group, v: usize)
                 1 => g.place(m - n + k, k),
                 _ => g.place(m - k, m - n),
             };
-            out[to..to + 4].copy_from_slice(&xs[from..from + 4]);
+            largest = copied::<BACK>(&mut out[to..to + 4], &xs[from..from + 4], largest);
         }
     }
+    largest
+}
+
+/// Copies numbers; those that go back are in range.
+#[inline(always)]
+fn copied<const BACK: bool>(out: &mut [i64], xs: &[i64], mut largest: i64) -> i64 {
+    out.copy_from_slice(xs);
+    if BACK {
+        for v in xs {
+            largest = largest.max(v.abs());
+        }
+    }
+    largest
 }
 
 /// What a vertex belongs to: how the net looks from there, and which of its vertices it is.
@@ -309,22 +332,24 @@ pub fn replace(net: &mut [i64], vertex: u8, w: [i64; 4]) -> u8 {
     let mut room = [0; PLACES];
     let mut at = 0;
     while at < n {
-        rename(&mut room, entries(net), at, g, v);
+        rename::<false>(&mut room, entries(net), at, g, v, 0);
         if !descend(&mut room, at, g, first) {
             return 10;
         }
         at += g.numbers();
     }
     at = 0;
+    let mut largest = 0;
     while at < n {
-        rename(entries_mut(net), &room, at, g, v);
+        largest = rename::<true>(entries_mut(net), &room, at, g, v, largest);
         at += g.numbers();
     }
     net[place..place + size].copy_from_slice(&q[..size]);
+    net[LARGEST] = largest;
     0
 }
 
-/// A flip.
+/// A flip. The largest component stays as it was given.
 pub fn flip(net: &mut [i64], vertex: u8) -> u8 {
     let shape = match handed(net) {
         Ok(shape) => shape,
@@ -414,10 +439,11 @@ fn first(shape: Shape, frame: &[i64; 9], coefficients: &[i64; PLACES], net: &mut
             at += g.numbers();
         }
     }
-    if !all_in_range(&made[..n]) {
+    let largest = made[..n].iter().fold(0, |largest, v| largest.max(v.abs()));
+    if largest > LIMIT {
         return 7;
     }
-    put(net, shape, frame, &made);
+    put(net, shape, frame, &made, largest);
     0
 }
 

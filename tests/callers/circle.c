@@ -1,7 +1,7 @@
 /* Splits a curve: reads its record from standard input, opens it, and makes its two halves at the weights
  * (1, 1), by replacing s in one copy of the net and r in another; each half has a line with the frame that it
- * has reached. Then takes the record's own moves and finds its own point. rust/examples/circle.rs does the same
- * in Rust. */
+ * has reached and one with its largest component. Then takes the record's own moves and finds its own point.
+ * rust/examples/circle.rs does the same in Rust. */
 #include "gadwemosh.h"
 
 #include <inttypes.h>
@@ -19,6 +19,7 @@ static void print_net(const char *name, const int64_t *net) {
     printf("\n");
     for (int64_t j = 0; j <= net[1]; j++)
         print_four(net + GADWEMOSH_CURVE_PLACE(j));
+    printf("largest %" PRId64 "\n", net[GADWEMOSH_LARGEST_PLACE]);
 }
 
 /* A copy of the net with one vertex replaced by the point at (1, 1). */

@@ -45,8 +45,18 @@ static int same(const int64_t *a, const int64_t *b) {
     return memcmp(a, b, MORE * sizeof *a) == 0;
 }
 
-/* The net of the numbers stands in the places, and every place that is not in use holds what it held: of the
- * places for a frame those past the numbers that the kind has. */
+/* The largest of so many numbers, each without its sign. */
+static int64_t largest_of(const int64_t *numbers, int count) {
+    int64_t largest = 0;
+    for (int i = 0; i < count; i++) {
+        int64_t size = numbers[i] < 0 ? -numbers[i] : numbers[i];
+        largest = size > largest ? size : largest;
+    }
+    return largest;
+}
+
+/* The net of the numbers stands in the places, with its largest component, and every place that is not in use holds
+ * what it held: of the places for a frame those past the numbers that the kind has. */
 static int holds(const int64_t *net, const int64_t *old, int kind, int degree, int second, const int64_t *frame,
                  const int64_t *entries, int count) {
     int64_t wanted[MORE];
@@ -56,6 +66,7 @@ static int holds(const int64_t *net, const int64_t *old, int kind, int degree, i
     wanted[2] = second;
     memcpy(wanted + GADWEMOSH_FRAME_PLACE, frame, (size_t)GADWEMOSH_FRAME_NUMBERS(kind) * sizeof *frame);
     memcpy(wanted + GADWEMOSH_ENTRIES, entries, (size_t)count * sizeof *entries);
+    wanted[GADWEMOSH_LARGEST_PLACE] = largest_of(entries, count);
     return same(net, wanted);
 }
 
@@ -344,6 +355,7 @@ static void test_move_rect(void) {
     memcpy(old, net, sizeof net);
     EXPECT(gadwemosh_move(net, MORE, 1, 4, 0, 2, 0, 0) == 10 && same(net, old));
     EXPECT(gadwemosh_move(net, MORE, 1, 4, 0, -1, 0, 0) == 0 && net[35] == -GADWEMOSH_LARGEST);
+    EXPECT(net[GADWEMOSH_LARGEST_PLACE] == GADWEMOSH_LARGEST);
 }
 
 static void test_point(void) {
@@ -552,6 +564,129 @@ static void test_new_vertices(void) {
     test_replace(net, 4, WEIGHTS(-1, 1, 0), 12, NULL);
     test_replace(net, 4, WEIGHTS(-1, -1, 0), 0, VERTEX(1 - L, 2 - L));
     test_replace(net, 4, WEIGHTS(0, 4096, 0), 0, VERTEX(-4096, -8192));
+}
+
+/* Calls on a net whose largest component is `right` and that has any number in its place: a replace puts the right
+ * one there, a flip hands on what it was given, and a point and refused calls leave it. */
+static void test_claim(const int64_t *good, int64_t right, int64_t claim) {
+    int64_t net[MORE], old[MORE], found[4] = {-1, -1, -1, -1};
+    memcpy(old, good, sizeof old);
+    old[GADWEMOSH_LARGEST_PLACE] = claim;
+    memcpy(net, old, sizeof net);
+    EXPECT(gadwemosh_move(net, 192, GADWEMOSH_REPLACE, 1, 1, 0, 0, 0) == 11 && same(net, old));
+    EXPECT(gadwemosh_move(net, MORE, 3, 1, 1, 0, 0, 0) == 8 && same(net, old));
+    EXPECT(gadwemosh_move(net, MORE, GADWEMOSH_FLIP, 1, 1, 0, 0, 0) == 8 && same(net, old));
+    EXPECT(gadwemosh_move(net, MORE, GADWEMOSH_REPLACE, 1, 0, 1, 0, 0) == 9 && same(net, old));
+    EXPECT(point_of_ones(net, found) == 0 && same(net, old) && found[3] != -1);
+    for (int vertex = 1; vertex <= vertices_of(net); vertex++) {
+        EXPECT(gadwemosh_move(net, MORE, GADWEMOSH_FLIP, (uint8_t)vertex, 0, 0, 0, 0) == 0 && !same(net, old));
+        EXPECT(net[GADWEMOSH_LARGEST_PLACE] == claim);
+        EXPECT(gadwemosh_move(net, MORE, GADWEMOSH_FLIP, (uint8_t)vertex, 0, 0, 0, 0) == 0 && same(net, old));
+        EXPECT(replace_by_itself(net, vertex) == 0 && net[GADWEMOSH_LARGEST_PLACE] == right);
+        net[GADWEMOSH_LARGEST_PLACE] = claim;
+        EXPECT(same(net, old));
+    }
+    /* refused 4, 10 of the entries, 10 of the size and 12 */
+    net[1] = 11, old[1] = 11;
+    EXPECT(replace_by_itself(net, 1) == 4 && same(net, old));
+    net[1] = good[1], old[1] = good[1];
+    net[GADWEMOSH_ENTRIES + 4] = old[GADWEMOSH_ENTRIES + 4] = GADWEMOSH_LARGEST + 1;
+    EXPECT(replace_by_itself(net, 1) == 10 && same(net, old));
+    EXPECT(gadwemosh_move(net, MORE, GADWEMOSH_FLIP, 1, 0, 0, 0, 0) == 10 && same(net, old));
+    net[GADWEMOSH_ENTRIES + 4] = old[GADWEMOSH_ENTRIES + 4] = GADWEMOSH_LARGEST;
+    EXPECT(gadwemosh_move(net, MORE, GADWEMOSH_REPLACE, 1, 4096, 4096, 0, 0) == 10 && same(net, old));
+    net[GADWEMOSH_FRAME_PLACE] = old[GADWEMOSH_FRAME_PLACE] = GADWEMOSH_LARGEST + 1;
+    EXPECT(replace_by_itself(net, 1) == 12 && same(net, old));
+    EXPECT(gadwemosh_move(net, MORE, GADWEMOSH_FLIP, 1, 0, 0, 0, 0) == 12 && same(net, old));
+}
+
+static void test_claims(void) {
+    const int64_t L = GADWEMOSH_LARGEST, right[3] = {4, 2, 4};
+    const int64_t claims[] = {0, 1, 2, 3, 4, 5, -1, -2, -4, L, -L, L + 1, -L - 1, INT64_MAX, INT64_MIN, INT64_MIN + 1};
+    int64_t nets[3][MORE];
+    make_nets(nets);
+    for (int kind = 1; kind <= 3; kind++) {
+        EXPECT(nets[kind - 1][GADWEMOSH_LARGEST_PLACE] == right[kind - 1]);
+        for (size_t i = 0; i < sizeof claims / sizeof *claims; i++)
+            test_claim(nets[kind - 1], right[kind - 1], claims[i]);
+    }
+}
+
+/* The largest component stands in one number of the entries, of either sign, and the others are 1; every number that
+ * is not in use is beyond it. A replace by itself works it out. */
+static void test_reached(uint8_t kind, uint8_t degree, uint8_t second) {
+    const int64_t none[180] = {0}, *frame = kind == 1 ? circle_frame : kind == 2 ? patch_frame : rect_frame;
+    int count = 4 * (kind == 1   ? GADWEMOSH_CURVE_ENTRIES(degree)
+                     : kind == 2 ? GADWEMOSH_PATCH_ENTRIES(degree)
+                                 : GADWEMOSH_RECT_ENTRIES(degree, second));
+    int64_t net[MORE], old[MORE];
+    fill(old);
+    EXPECT(gadwemosh_first(kind, degree, second, frame, 9, none, 180, old, MORE) == 0);
+    EXPECT(old[GADWEMOSH_LARGEST_PLACE] == 0 && old[GADWEMOSH_NET] == INT64_MIN + GADWEMOSH_NET);
+    for (int i = 0; i < count; i++)
+        old[GADWEMOSH_ENTRIES + i] = 1;
+    for (int i = 0; i < count; i++)
+        for (int64_t number = -1000; number <= 1000; number += 2000) {
+            old[GADWEMOSH_ENTRIES + i] = number;
+            memcpy(net, old, sizeof net);
+            old[GADWEMOSH_LARGEST_PLACE] = 1000;
+            EXPECT(replace_by_itself(net, 1 + i % vertices_of(net)) == 0 && same(net, old));
+            old[GADWEMOSH_ENTRIES + i] = 1;
+            old[GADWEMOSH_LARGEST_PLACE] = -i;
+        }
+}
+
+/* A first net of 3 or -3 times the monomial without T, U and V in one component: every vertex has the last number 1,
+ * but for s2 of the rectangular patch, which has 2, so the entries have 3 times the scale, and q copies of s2 double it
+ * q times. */
+static void test_first_largest(uint8_t kind, uint8_t degree, uint8_t second, int64_t scale) {
+    const int64_t *frame = kind == 1 ? circle_frame : kind == 2 ? patch_frame : rect_frame;
+    for (int c = 0; c < 8; c++) {
+        int64_t coefficients[180] = {0}, net[MORE];
+        coefficients[c / 2] = c % 2 == 0 ? 3 : -3;
+        fill(net);
+        EXPECT(gadwemosh_first(kind, degree, second, frame, 9, coefficients, 180, net, MORE) == 0);
+        EXPECT(net[GADWEMOSH_LARGEST_PLACE] == 3 * scale << second);
+    }
+}
+
+/* Every shape, with its scale: made, and with its largest component in each place. */
+static void test_largest_of_all(void) {
+    const int64_t curves[10] = {1, 2, 3, 12, 10, 60, 105, 280, 252, 2520};
+    const int64_t patches[8] = {1, 2, 6, 12, 60, 180, 420, 1680};
+    for (int m = 1; m <= 10; m++) {
+        test_first_largest(1, (uint8_t)m, 0, curves[m - 1]);
+        test_reached(1, (uint8_t)m, 0);
+    }
+    for (int m = 1; m <= 8; m++) {
+        test_first_largest(2, (uint8_t)m, 0, patches[m - 1]);
+        test_reached(2, (uint8_t)m, 0);
+    }
+    for (int p = 1; p <= 5; p++)
+        for (int q = 1; q <= 5; q++) {
+            test_first_largest(3, (uint8_t)p, (uint8_t)q, curves[p - 1] * curves[q - 1]);
+            test_reached(3, (uint8_t)p, (uint8_t)q);
+        }
+}
+
+/* Along a list of moves the largest component rises and falls with the entries. */
+static void test_largest_along(void) {
+    const int64_t L = GADWEMOSH_LARGEST, line[8] = {-L, 0, 0, 0, L - 1, 0, 0, 0};
+    int64_t nets[3][MORE], *net = nets[0];
+    make_nets(nets);
+    EXPECT(gadwemosh_move(net, MORE, 1, 2, 1, 1, 0, 0) == 0 && net[GADWEMOSH_LARGEST_PLACE] == 10);
+    EXPECT(gadwemosh_move(net, MORE, 2, 1, 0, 0, 0, 0) == 0 && net[GADWEMOSH_LARGEST_PLACE] == 10);
+    EXPECT(gadwemosh_move(net, MORE, 1, 2, 1, 1, 0, 0) == 0 && net[GADWEMOSH_LARGEST_PLACE] == 4);
+    make_zero(net, 1, circle_frame);
+    memcpy(net + GADWEMOSH_ENTRIES, line, sizeof line);
+    /* r + s has -1 in the place of -L; from there s - 2 r is one too large, s - r is not, and s + 4096 r is smaller */
+    EXPECT(gadwemosh_move(net, MORE, 1, 1, 1, 0, 0, 0) == 0 && net[GADWEMOSH_LARGEST_PLACE] == L);
+    EXPECT(gadwemosh_move(net, MORE, 1, 1, 1, 1, 0, 0) == 0 && net[GADWEMOSH_LARGEST_PLACE] == L - 1);
+    EXPECT(gadwemosh_move(net, MORE, 1, 2, -2, 1, 0, 0) == 10 && net[GADWEMOSH_LARGEST_PLACE] == L - 1);
+    EXPECT(gadwemosh_move(net, MORE, 1, 2, -1, 1, 0, 0) == 0 && net[GADWEMOSH_LARGEST_PLACE] == L);
+    EXPECT(gadwemosh_move(net, MORE, 1, 2, 4096, 1, 0, 0) == 0 && net[GADWEMOSH_LARGEST_PLACE] == L - 4096);
+    EXPECT(gadwemosh_move(net, MORE, 2, 2, 0, 0, 0, 0) == 0 && net[GADWEMOSH_LARGEST_PLACE] == L - 4096);
+    EXPECT(net[GADWEMOSH_ENTRIES + 4] == 4096 - L && net[GADWEMOSH_ENTRIES] == -1);
 }
 
 /* A refused projection: the number, outcome 0, and every other place as it was. */
@@ -763,7 +898,7 @@ static void test_places(void) {
                 EXPECT(GADWEMOSH_PATCH_PLACE(j, m - i - j) == place);
         EXPECT(place == GADWEMOSH_ENTRIES + 4 * GADWEMOSH_PATCH_ENTRIES(m));
     }
-    EXPECT(GADWEMOSH_PATCH_PLACE(0, 8) + 4 == GADWEMOSH_NET - 1);
+    EXPECT(GADWEMOSH_PATCH_PLACE(0, 8) + 4 == GADWEMOSH_LARGEST_PLACE && GADWEMOSH_LARGEST_PLACE + 1 == GADWEMOSH_NET);
     for (int p = 1; p <= 5; p++)
         for (int q = 1; q <= 5; q++) {
             int place = GADWEMOSH_ENTRIES;
@@ -789,6 +924,9 @@ int main(void) {
     test_handed_frames();
     test_frame_order();
     test_new_vertices();
+    test_claims();
+    test_largest_of_all();
+    test_largest_along();
     test_project();
     test_fields();
     test_fields_rect();

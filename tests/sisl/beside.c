@@ -84,7 +84,7 @@ static struct curve random_curve(int degree)
             coefficients[4 * k + i] = between(-1000, 1000);
         coefficients[4 * k + 3] = between(1, 1000);
     }
-    if (gadwemosh_first(GADWEMOSH_CURVE, (uint8_t)degree, frame, 9, coefficients, 180, c.net, GADWEMOSH_NET))
+    if (gadwemosh_first(GADWEMOSH_CURVE, (uint8_t)degree, 0, frame, 9, coefficients, 180, c.net, GADWEMOSH_NET))
         fail("a first net is refused");
     for (int i = 0; i < 4 * (degree + 1); i++)
         c.numbers[i] = (double)c.net[GADWEMOSH_ENTRIES + i];
@@ -95,7 +95,7 @@ static struct curve random_curve(int degree)
 
 static uint8_t replace(int64_t *net, uint8_t vertex, int64_t r, int64_t s)
 {
-    return gadwemosh_move(net, GADWEMOSH_NET, GADWEMOSH_REPLACE, vertex, r, s, 0);
+    return gadwemosh_move(net, GADWEMOSH_NET, GADWEMOSH_REPLACE, vertex, r, s, 0, 0);
 }
 
 static void must(uint8_t number)

@@ -3,9 +3,9 @@
 
 use crate::calls::{Answer, Call, NO_WEIGHTS};
 use crate::counts::Counts;
-use crate::generate::{any_first, any_record, any_room, any_run, any_shape, encode, everywhere, four_numbers, handed, made};
+use crate::generate::{any_claim, any_first, any_record, any_room, any_run, any_shape, encode, everywhere, four_numbers, handed, made};
 use crate::generate::{Caller, Mood};
-use crate::handed::Net;
+use crate::handed::{Net, LARGEST};
 use crate::library::{answer, Library};
 use crate::exact::Exact;
 use crate::machine::Machine;
@@ -25,6 +25,10 @@ const SWEEP_STEP: usize = 16;
 /// Every tag there is, once in so many records; else the five, two beside them, the
 /// largest and any one.
 const ALL_TAGS_ONCE_IN: usize = 32;
+
+/// Before one call in so many on a handed net, another number is put in the place of its largest
+/// component: a replace that is taken would else leave none but right ones.
+const CLAIM_ONCE_IN: usize = 3;
 
 /// Bits of a weight.
 const WEIGHT_BITS: u32 = 64;
@@ -98,9 +102,12 @@ impl Run<'_> {
         let mut calls = Vec::new();
         for _ in 0..self.random.below(25) {
             let call = caller.next(&mut self.random, &[]);
-            calls.push(call);
+            if self.random.once_in(CLAIM_ONCE_IN) {
+                any_claim(&mut self.random, &mut net);
+            }
+            calls.push((net.0.get(LARGEST).copied(), call));
             let taken = self.check_call(&mut net, &call, None);
-            let answer = taken.map_err(|what| format!("{what}\nhanded {start:?}\ncalls {calls:?}"))?;
+            let answer = taken.map_err(|what| format!("{what}\nhanded {start:?}\nlargest and call {calls:?}"))?;
             caller.heard(&call, answer == Answer::Taken);
         }
         Ok(())
@@ -159,6 +166,7 @@ impl Run<'_> {
         }
         let given = answer(self.library, net, call, &mut found);
         self.counts.answer(before.kind(), &given);
+        self.counts.claim(&before, call, &expected);
         if given != expected {
             return Err(format!("the library answers {given:?}, expected {expected:?}, on {before:?}"));
         }
@@ -172,6 +180,7 @@ impl Run<'_> {
             let shape = net.shape().expect("the model's net, on which a move is taken");
             self.counts.limit(net.numbers(shape));
             self.counts.frame_limit(net.frame(shape));
+            self.counts.worked_out(net, call);
         }
         Ok(given)
     }
@@ -183,6 +192,7 @@ impl Run<'_> {
             _ if net.is_short() => Err(Refusal { number: 11, offset: 0 }),
             Ok((record, first)) => {
                 expected_net.write_first(record, first);
+                self.counts.first_over(0, net, &expected_net);
                 Ok(record.shape)
             }
             Err(refusal) => Err(*refusal),
@@ -204,6 +214,9 @@ impl Run<'_> {
         let mut net = any_run(&mut self.random);
         let mut expected_net = net.clone();
         let expected = numbers.make(&mut expected_net);
+        if expected.is_ok() {
+            self.counts.first_over(1, &net, &expected_net);
+        }
         let given = self.library.first(&numbers, &mut net);
         self.counts.first(Kind::numbered(numbers.kind.into()), &expected);
         if given != expected {
@@ -266,7 +279,7 @@ impl Run<'_> {
 }
 
 /// The net left must be of the machine's shape, carry the machine's own frame, number by
-/// number, and hold what that frame gives, entry by entry.
+/// number, hold what that frame gives, entry by entry, and store the largest component of that.
 pub fn check_net(machine: &Machine, net: &Net) -> Result<(), String> {
     let shape = net.shape().ok_or("the net has lost its shape")?;
     if shape != machine.shape() {
@@ -279,6 +292,9 @@ pub fn check_net(machine: &Machine, net: &Net) -> Result<(), String> {
     let expected = machine.net().ok_or("an entry over the machine's frame is out of range")?;
     if net.used(shape) != expected {
         return Err(format!("entries {:?}, over the machine's frame {expected:?}", net.used(shape)));
+    }
+    if Some(net.claimed()) != machine.largest() {
+        return Err(format!("largest {}, over the machine's frame {:?}", net.claimed(), machine.largest()));
     }
     Ok(())
 }

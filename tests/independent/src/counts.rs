@@ -1,8 +1,8 @@
 //! How often every refusal and every kind of projection occurred, in all and for each
 //! kind of net.
 
-use crate::calls::{Answer, Call, Weights, FLIP};
-use crate::handed::{Net, PLACES};
+use crate::calls::{Answer, Call, Weights, FLIP, REPLACE};
+use crate::handed::{Net, ENTRIES, LARGEST, PLACES};
 use crate::projection::{Projection, Room, COORDINATES, DIRECTION};
 use crate::record::{Lookup, Refusal};
 use crate::shape::{Kind, Shape, RANGE};
@@ -56,7 +56,29 @@ pub struct Counts {
     pub stages: [u64; 3],
     /// Calls at the limits of a frame, as `FRAMES` names them.
     pub frames: [u64; 9],
+    /// What stood in the place of the largest component, as `CLAIMS` names it, before calls as
+    /// `CLAIMED` names them.
+    pub claims: [[u64; 5]; 4],
+    /// Replaces taken on nets with a wrong claim, and flips that handed one on, of each kind.
+    pub wrong_claims: [[u64; 2]; 3],
+    /// Largest components that a replace worked out, as `WORKED_OUT` names them.
+    pub worked_out: [u64; 6],
+    /// First nets over a place that held another number, from records and without.
+    pub firsts_over: [u64; 2],
 }
+
+/// A claim, by what is right: the least and the largest number of 64 bits are counted for
+/// themselves, the other negative ones too.
+const CLAIMS: [&str; 5] = ["right", "too small", "too large", "negative", "an end of 64 bits"];
+
+/// Calls on nets with a claim.
+const CLAIMED: [&str; 4] = ["a replace taken", "a flip taken", "a point found", "a call refused"];
+
+/// Where it is reached, where that matters, and what it is.
+const WORKED_OUT: [&str; 6] = [
+    "reached by negative components alone", "by the last entry alone", "by the first entry alone", "below a place not in use",
+    "2^48 exactly", "0",
+];
 
 /// What is refused 12, for the handed frame and for q; and what is not.
 const FRAMES: [&str; 9] = [
@@ -190,6 +212,50 @@ impl Counts {
         }
     }
 
+    /// A call on a net that claims a largest component, and what is answered.
+    pub fn claim(&mut self, net: &Net, call: &Call, answer: &Answer) {
+        let shape = if net.is_short() { None } else { net.shape() };
+        let Some(shape) = shape else { return };
+        let (claimed, right) = (net.claimed(), net.most(shape));
+        let sort = match claimed {
+            i64::MIN | i64::MAX => 4,
+            _ if claimed == right => 0,
+            ..0 => 3,
+            _ => 1 + usize::from(claimed > right),
+        };
+        let asked = match (call, answer) {
+            (_, Answer::Refused(_)) => 3,
+            (Call::Point { .. }, _) => 2,
+            (Call::Move { operation, .. }, _) => usize::from(*operation == FLIP),
+        };
+        self.claims[asked][sort] += 1;
+        if asked < 2 {
+            self.wrong_claims[place(shape.kind)][asked] += u64::from(sort != 0);
+        }
+    }
+
+    /// The net that a move taken leaves.
+    pub fn worked_out(&mut self, net: &Net, call: &Call) {
+        let (Call::Move { operation: REPLACE, .. }, Some(shape)) = (call, net.shape()) else { return };
+        let (most, used) = (net.most(shape), net.numbers(shape));
+        let among = |numbers: &[i64]| numbers.iter().any(|number| number.saturating_abs() == most);
+        let unused = &net.0[ENTRIES + used.len()..LARGEST];
+        let told = [
+            !used.contains(&most),
+            !among(&used[..used.len() - 4]),
+            !among(&used[4..]),
+            unused.iter().any(|number| number.saturating_abs() > most),
+            most == RANGE,
+            most == 0,
+        ];
+        self.worked_out.iter_mut().zip(told).for_each(|(count, is)| *count += u64::from(is));
+    }
+
+    /// A first net is made, of a record (0) or without (1), where `before` was.
+    pub fn first_over(&mut self, way: usize, before: &Net, made: &Net) {
+        self.firsts_over[way] += u64::from(before.claimed() != made.claimed());
+    }
+
     pub fn run(&mut self, net: &Net) {
         self.runs[net.0.len().clamp(PLACES - 1, PLACES + 1) - (PLACES - 1)] += 1;
         if let (Some(kind), false) = (net.kind(), net.is_short()) {
@@ -299,7 +365,41 @@ impl Counts {
             [(format!("12 for the handed frame of a {word}"), tally.frames_beyond), (format!("12 for q of a {word}"), tally.qs_beyond())]
         });
         let all = firsts.into_iter().chain(runs).chain(second).chain(lookups).chain(rooms).chain(stages).chain(frames).chain(twelve);
+        let all = all.chain(self.counts_of_the_largest());
         all.filter(|word| word.1 == 0).map(|word| word.0).collect()
+    }
+
+    /// What is counted of the largest component, each with its words.
+    fn counts_of_the_largest(&self) -> Vec<(String, u64)> {
+        let claims = CLAIMED.iter().zip(self.claims).flat_map(|(call, counts)| {
+            CLAIMS.iter().zip(counts).map(move |(claim, count)| (format!("{call} with a claim that is {claim}"), count))
+        });
+        let kinds = Kind::ALL.into_iter().flat_map(|kind| {
+            let [replaces, flips] = self.wrong_claims[place(kind)];
+            let word = kind.word();
+            [(format!("a replace of a {word} with a wrong claim"), replaces), (format!("a flip of a {word} that hands on a wrong claim"), flips)]
+        });
+        let worked_out = WORKED_OUT.iter().zip(self.worked_out).map(|(word, count)| (format!("worked out: {word}"), count));
+        let firsts = ["of a record", "without a record"].into_iter().zip(self.firsts_over);
+        let firsts = firsts.map(|(way, count)| (format!("a first net {way} over another number"), count));
+        claims.chain(kinds).chain(worked_out).chain(firsts).collect()
+    }
+
+    /// The same in two lines.
+    fn lines_of_the_largest(&self) -> String {
+        let counted = |words: &[&str], counts: &[u64]| {
+            words.iter().zip(counts).map(|(word, count)| format!("{word} {count}")).collect::<Vec<String>>().join(", ")
+        };
+        let claims = CLAIMED.iter().zip(&self.claims).map(|(call, counts)| format!("{call}: {}", counted(&CLAIMS, counts)));
+        let kinds = Kind::ALL.map(|kind| {
+            let [replaces, flips] = self.wrong_claims[place(kind)];
+            format!("{} replaces {replaces} flips {flips}", kind.word())
+        });
+        let claims = claims.collect::<Vec<String>>().join("; ");
+        let [of_a_record, without] = self.firsts_over;
+        let first = format!("\nlargest components claimed, before {claims}; wrong ones: {}", kinds.join(", "));
+        let second = format!("\nlargest components worked out: {}", counted(&WORKED_OUT, &self.worked_out));
+        format!("{first}{second}; by first nets over another number: of a record {of_a_record}, without {without}")
     }
 
     /// Lines with every count, the last ones for each kind.
@@ -320,6 +420,7 @@ impl Counts {
             line += &format!("; projections into too few places {short} just enough {exact} more {longer}");
             let frames = FRAMES.iter().zip(self.frames).map(|(word, count)| format!("{word} {count}"));
             line += &format!("\nframes: {}", frames.collect::<Vec<String>>().join("; "));
+            line += &self.lines_of_the_largest();
         }
         let kinds = Kind::ALL.map(|kind| format!("\n{}: {}", kind.word(), self.kinds[place(kind)].line(numbers)));
         line += &kinds.concat();

@@ -58,6 +58,23 @@ mod tests {
         large(4, 4).make(&mut net).unwrap();
         assert_eq!((&net.0[..3], net.0[12]), (&[3, 4, 4][..], 25 * 144 << (2 * 8 + 20)));
         assert_eq!(net.0[3..12], [4, 4, 1, 0, 4, 4, 1, 0, 0]);
+        assert_eq!(net.claimed(), net.0[12]);
+    }
+
+    /// T - 3Z in x and 2Z in w over (0, 1), (1, 1): entries -3 and -2 in x, 2 and 2 in w.
+    #[test]
+    fn a_first_net_stores_its_largest_component() {
+        let mut coefficients = vec![i64::MIN; COEFFICIENTS];
+        coefficients[..8].copy_from_slice(&[-3, 0, 0, 2, 1, 0, 0, 0]);
+        let given = Given { kind: 1, degree: 1, second: 0, frame: vec![0, 1, 1, 1, 9, 9, 9, 9, 9], coefficients };
+        for claim in [0, 3, 4, -3, i64::MAX, i64::MIN] {
+            let mut net = Net(vec![claim; 200]);
+            given.make(&mut net).unwrap();
+            assert_eq!((net.claimed(), net.0[191], net.0[193]), (3, claim, claim));
+            let before = net.clone();
+            assert_eq!(Given { degree: 0, ..given.clone() }.make(&mut net), Err(4));
+            assert_eq!(net, before);
+        }
     }
 
     #[test]

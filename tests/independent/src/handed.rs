@@ -1,7 +1,8 @@
 //! Calls on a handed net of any numbers at all. Nothing is known of polynomials
 //! here: polar values are linear in each place, so a q is traded for the vertices,
 //! each with its weight, until only entries of the net are left. The frame that the
-//! net carries is taken as it is: whether it is that of the entries nobody asks.
+//! net carries is taken as it is: whether it is that of the entries nobody asks. So is the
+//! largest component that it claims, which a replace works out anew and a flip hands on.
 
 use crate::calls::{place_of, refused_by_itself, Answer, Call, Weights, FLIP, REPLACE};
 use crate::projection::project;
@@ -19,10 +20,13 @@ pub const FRAME: usize = 3;
 /// Where the entries begin, after nine places for the frame.
 pub const ENTRIES: usize = 12;
 
+/// Where the largest absolute component of the entries stands, after the places for them.
+pub const LARGEST: usize = 192;
+
 /// A net in a run of 64-bit numbers: kind, degree and second degree (0 for a curve or
 /// triangular patch) at 0, 1 and 2, the numbers of the frame from 3 on, vertex by vertex (four of
 /// a curve, nine of a patch, eight of a rectangular patch), the components of entry e at 12 + 4e
-/// and the three places after it. All other places hold anything.
+/// and the three places after it, the largest absolute component at 192. All other places hold anything.
 #[derive(Clone, Debug, PartialEq, Eq)]
 pub struct Net(pub Vec<i64>);
 
@@ -37,7 +41,7 @@ impl Net {
         self.0.len() < PLACES
     }
 
-    /// Writes a first net: kind, degrees, the record's frame and the entries.
+    /// Writes a first net: kind, degrees, the record's frame, the entries and the largest component of them.
     pub fn write_first(&mut self, record: &Record, entries: &[[i64; 4]]) {
         self.write(record.shape, entries);
         self.write_frame(&record.frame_numbers());
@@ -48,12 +52,24 @@ impl Net {
         self.0[FRAME..FRAME + numbers.len()].copy_from_slice(numbers);
     }
 
-    /// Writes kind, degrees and entries; the frame and the unused places keep their values.
+    /// Writes kind, degrees, entries and their largest component, whatever stood there; the frame
+    /// and the unused places keep their values.
     pub fn write(&mut self, shape: Shape, entries: &[[i64; 4]]) {
         self.0[..3].copy_from_slice(&head(shape));
+        self.write_entries(entries);
+        self.0[LARGEST] = largest(entries);
+    }
+
+    /// Writes the entries alone.
+    pub fn write_entries(&mut self, entries: &[[i64; 4]]) {
         for (place, number) in self.0[ENTRIES..].iter_mut().zip(entries.iter().flatten()) {
             *place = *number;
         }
+    }
+
+    /// What the net claims as its largest component, right or wrong; the run must be long enough.
+    pub fn claimed(&self) -> i64 {
+        self.0[LARGEST]
     }
 
     /// The kind that the run says it is of, whatever else is wrong with it.
@@ -111,13 +127,19 @@ impl Net {
         self.numbers(shape).chunks(4).map(entry).collect()
     }
 
+    /// The largest absolute component of these entries, whatever the net claims.
+    pub fn most(&self, shape: Shape) -> i64 {
+        largest(&self.used(shape))
+    }
+
     /// The net of the same rectangular patch with its two pairs exchanged, frame and entries.
     pub fn with_pairs_exchanged(&self, shape: Shape) -> Net {
         let [p, q] = shape.degrees;
         let entries = self.used(shape);
         let turned: Entries = (0..=q).flat_map(|j| (0..=p).map(move |i| i * (q + 1) + j)).map(|place| entries[place]).collect();
         let mut other = self.clone();
-        other.write(Shape::rect(q, p), &turned);
+        other.0[..3].copy_from_slice(&head(Shape::rect(q, p)));
+        other.write_entries(&turned);
         let (first, second) = self.frame(shape).split_at(shape.kind.frame_numbers() / 2);
         other.write_frame(&[second, first].concat());
         other
@@ -154,7 +176,8 @@ impl Net {
     }
 
     /// What is refused before size, then size (10). A refused call leaves the net, and so does
-    /// a point. A move that is taken leaves all of the frame but its vertex.
+    /// a point. A move that is taken leaves all of the frame but its vertex. The largest component
+    /// is worked out by a replace and handed on by a flip.
     pub fn answer(&mut self, call: &Call) -> Answer {
         self.try_answer(call).unwrap_or_else(Answer::Refused)
     }
@@ -166,14 +189,14 @@ impl Net {
             Call::Move { operation, vertex, weights } => (operation, vertex, weights),
             Call::Point { weights } => return found(at_point(shape, entries, weights).map_err(|_| 10)?),
         };
-        let moved = if operation == FLIP {
-            flipped(shape, &entries, vertex)
+        let new = self.new_vertex(shape, operation, vertex, weights);
+        if operation == FLIP {
+            self.write_entries(&flipped(shape, &entries, vertex));
         } else {
             let group = shape.kind.group_of(place_of(vertex));
-            replaced(shape, &levels(shape, entries, group, &weights).ok_or(10)?, vertex)
-        };
-        let new = self.new_vertex(shape, operation, vertex, weights);
-        self.write(shape, &moved);
+            let levels = levels(shape, entries, group, &weights).ok_or(10)?;
+            self.write(shape, &replaced(shape, &levels, vertex));
+        }
         self.write_vertex(shape, vertex, &new);
         Ok(Answer::Taken)
     }
@@ -184,6 +207,12 @@ impl Net {
             self.0[place] = number as i64;
         }
     }
+}
+
+/// The largest absolute component. That of i64::MIN, which no accepted net has, is not told
+/// from that of the number after it.
+pub fn largest(entries: &[[i64; 4]]) -> i64 {
+    entries.iter().flatten().map(|component| component.saturating_abs()).max().unwrap_or(0)
 }
 
 fn within_range(number: i128) -> bool {
@@ -286,12 +315,50 @@ mod tests {
         assert_eq!(net.0[..7], [1, 1, 0, 0, 1, 1, 1]);
         assert_eq!(net.0[7..12], before.0[7..12]);
         assert_eq!(net.0[12..20], [1, 2, 3, 4, 5, 6, 7, 8]);
-        assert_eq!(net.0[20..], before.0[20..]);
+        assert_eq!(net.0[20..192], before.0[20..192]);
+        assert_eq!((net.0[192], &net.0[193..]), (8, &before.0[193..]));
         let flip = Call::Move { operation: FLIP, vertex: 2, weights: NO_WEIGHTS };
         assert_eq!(net.answer(&flip), Answer::Taken);
         assert_eq!(net.0[..7], [1, 1, 0, 0, 1, -1, -1]);
         assert_eq!(net.0[7..12], before.0[7..12]);
         assert_eq!(net.0[12..21], [1, 2, 3, 4, -5, -6, -7, -8, before.0[20]]);
+        assert_eq!((net.0[192], &net.0[193..]), (8, &before.0[193..]));
+    }
+
+    /// Whatever stands in its place: a replace works it out, a flip hands it on, and a point or a
+    /// refused call leaves it.
+    #[test]
+    fn the_largest_component_of_a_handed_net() {
+        let replace = |weights| Call::Move { operation: REPLACE, vertex: 2, weights };
+        let flip = Call::Move { operation: FLIP, vertex: 2, weights: NO_WEIGHTS };
+        for claim in [0, 1, 7, 8, 9, -8, RANGE, RANGE + 1, i64::MAX, i64::MIN] {
+            let mut net = Net::empty();
+            net.write(Shape::curve(1), &[[1, -2, 3, 0], [-7, 0, 0, 4]]);
+            net.write_frame(&[0, 1, 1, 1]);
+            assert_eq!(net.claimed(), 7);
+            net.0[LARGEST] = claim;
+            // what is not in use is not looked at
+            net.0[20] = i64::MIN;
+            let before = net.clone();
+            let asked = [(replace([0, 0, 0, 0]), 9), (replace([0, 4097, 0, 0]), 8), (Call::Point { weights: NO_WEIGHTS }, 9)];
+            for (call, number) in asked {
+                assert_eq!(net.answer(&call), Answer::Refused(number));
+                assert_eq!(net, before);
+            }
+            assert!(matches!(net.answer(&Call::Point { weights: [1, 1, 0, 0] }), Answer::Point { x: -6, .. }));
+            assert_eq!(net, before);
+            assert_eq!(net.answer(&flip), Answer::Taken);
+            assert_eq!((net.claimed(), net.0[16]), (claim, 7));
+            assert_eq!(net.answer(&flip), Answer::Taken);
+            assert_eq!(net, before);
+            // 8 times the first entry less the second, and back
+            assert_eq!(net.answer(&replace([8, -1, 0, 0])), Answer::Taken);
+            assert_eq!((&net.0[16..20], net.claimed()), (&[15, -16, 24, -4][..], 24));
+            assert_eq!(net.answer(&replace([-8, 1, 0, 0])), Answer::Taken);
+            assert_eq!((&net.0[16..20], net.claimed()), (&[7, 0, 0, -4][..], 7));
+            assert_eq!(net.answer(&replace([4096, RANGE, 0, 0])), Answer::Refused(8));
+            assert_eq!((net.claimed(), net.0[20]), (7, i64::MIN));
+        }
     }
 
     /// A net of zeros of degree 1 over this frame.

@@ -50,7 +50,14 @@ impl Machine {
         self.polynomials.values(&self.groups())
     }
 
-    /// The same by the exact integer alone.
+    /// How far the components of these values reach from 0, to either side.
+    pub fn largest(&self) -> Option<i64> {
+        let components: Vec<i64> = self.net()?.into_iter().flatten().collect();
+        let (least, most) = (components.iter().min()?, components.iter().max()?);
+        Some((-least).max(*most))
+    }
+
+    /// The values by the exact integer alone.
     pub fn net_exactly(&self) -> Option<Vec<[i64; 4]>> {
         self.polynomials.values_exactly(&self.groups())
     }

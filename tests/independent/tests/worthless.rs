@@ -4,7 +4,7 @@
 use independent::calls::{place_of, Weights, FLIP, REPLACE};
 use independent::compare::compare_calls;
 use independent::first::Given;
-use independent::handed::{Net, ENTRIES, FRAME, PLACES};
+use independent::handed::{largest, Net, ENTRIES, FRAME, LARGEST, PLACES};
 use independent::library::{Library, Model};
 use independent::polar::scale;
 use independent::projection::{project, Projection, Room, COORDINATES, DIRECTION};
@@ -27,7 +27,6 @@ enum Fault {
     StoresHalf,
     WritesPastTheEntries,
     WritesTheFramesPlaces,
-    WritesTheLargestsPlace,
     WritesPastTheNet,
     SecondDegreeNotLookedAt,
     SecondDegreeKept,
@@ -120,10 +119,53 @@ enum Fault {
     TextWithTheRecordsFrame,
     TextWithTheFrameBeforeTheMoves,
     TextWithTheFrameLast,
+    LargestKeptByAReplace,
+    LargestOfTheOldNet,
+    LargestNeverFalling,
+    LargestOfOldAndNew,
+    LargestWorkedOutByAFlip,
+    LargestNegatedByAFlip,
+    LargestOfAFlipWithoutSign,
+    LargestInRangeAfterAFlip,
+    LargestCleared,
+    LargestWithTheSignNotDropped,
+    LargestWithItsSign,
+    LargestOfNegativesOneLess,
+    LargestWithoutTheLastEntry,
+    LargestWithoutTheFirstEntry,
+    LargestWithoutTheWeights,
+    LargestOfTheLastRow,
+    LargestOverPlacesNotInUse,
+    LargestOverTheFrameToo,
+    LargestInThirtyTwoBits,
+    LargestAfterTheEntries,
+    LargestInTheLastPlace,
+    WrongLargestRefused,
+    NegativeLargestRefused,
+    LargestBeyondTheRangeRefused,
+    LargestWrittenOnARefusal,
+    LargestWrittenOnARefusalForSize,
+    LargestLeftByAFirstNet,
+    LargestLeftByARecordsNet,
+    LargestOfTheCoefficients,
+    LargestOfAFirstNetNeverFalling,
+    LargestWrittenByARefusedFirstNet,
+    TextWithTheLargest,
+    LargestJudgedByAPoint,
+    LargestClearedByAFlip,
+}
+
+/// What a fault in the largest component does not touch.
+#[derive(Clone, Copy, Debug, PartialEq)]
+enum Spared {
+    Nothing,
+    FirstNets,
+    Replaces,
 }
 
 struct Spoiled {
     fault: Fault,
+    spared: Spared,
     model: Model,
 }
 
@@ -137,7 +179,6 @@ impl Spoiled {
         let place = match self.fault {
             Fault::WritesPastTheEntries => 191,
             Fault::WritesTheFramesPlaces => 11,
-            Fault::WritesTheLargestsPlace => 192,
             Fault::WritesPastTheNet => PLACES,
             _ => return None,
         };
@@ -160,6 +201,73 @@ impl Spoiled {
             Fault::FirstNetZeroesTheFramesRest => net.0[FRAME + used..ENTRIES].fill(0),
             _ => {}
         }
+    }
+
+    /// What a library takes for the largest component of a net that it made, where `before` stood
+    /// and, for a first net, of these coefficients.
+    fn wrong_largest(&self, net: &Net, before: &Net, shape: Shape, coefficients: &[i64]) -> Option<i64> {
+        let (entries, numbers) = (net.used(shape), net.numbers(shape));
+        let absolute = |numbers: &[i64]| numbers.iter().map(|number| number.saturating_abs()).max().unwrap_or(0);
+        let (right, handed) = (largest(&entries), before.claimed());
+        Some(match self.fault {
+            Fault::LargestWithTheSignNotDropped => *numbers.iter().max()?,
+            Fault::LargestWithItsSign => *numbers.iter().rev().find(|number| number.abs() == right)?,
+            Fault::LargestOfNegativesOneLess => numbers.iter().map(|number| if *number < 0 { !number } else { *number }).max()?,
+            Fault::LargestWithoutTheLastEntry => largest(&entries[..entries.len() - 1]),
+            Fault::LargestWithoutTheFirstEntry => largest(&entries[1..]),
+            Fault::LargestWithoutTheWeights => largest(&entries.iter().map(|[x, y, z, _]| [*x, *y, *z, 0]).collect::<Vec<_>>()),
+            Fault::LargestOfTheLastRow if shape.kind == Kind::Rect => largest(&entries[entries.len() - shape.degrees[1] - 1..]),
+            Fault::LargestOverPlacesNotInUse => absolute(&net.0[ENTRIES..LARGEST]),
+            Fault::LargestOverTheFrameToo => right.max(absolute(net.frame(shape))),
+            Fault::LargestInThirtyTwoBits => i64::from(right as i32),
+            Fault::LargestCleared => 0,
+            Fault::LargestKeptByAReplace if coefficients.is_empty() => handed,
+            Fault::LargestOfTheOldNet if coefficients.is_empty() => before.most(shape),
+            Fault::LargestOfOldAndNew if coefficients.is_empty() => right.max(before.most(shape)),
+            Fault::LargestNeverFalling if coefficients.is_empty() => right.max(handed),
+            Fault::LargestOfAFirstNetNeverFalling if !coefficients.is_empty() => right.max(handed),
+            Fault::LargestOfTheCoefficients if !coefficients.is_empty() => absolute(coefficients),
+            _ => return None,
+        })
+    }
+
+    /// A net that was made where `before` stood, by a replace or, of these coefficients, as a first one.
+    fn spoil_largest(&self, net: &mut Net, before: &Net, coefficients: &[i64]) {
+        let Some(shape) = net.shape() else { return };
+        if self.spared == (if coefficients.is_empty() { Spared::Replaces } else { Spared::FirstNets }) {
+            return;
+        }
+        if let Some(wrong) = self.wrong_largest(net, before, shape, coefficients) {
+            net.0[LARGEST] = wrong;
+        }
+        let elsewhere = match self.fault {
+            Fault::LargestAfterTheEntries => ENTRIES + 4 * shape.places(),
+            Fault::LargestInTheLastPlace => net.0.len() - 1,
+            _ => return,
+        };
+        let right = std::mem::replace(&mut net.0[LARGEST], before.claimed());
+        net.0[elsewhere] = right;
+    }
+
+    /// A move that is wrong in the largest component alone. Nothing if this fault has no say here.
+    fn spoil_largest_of_a_move(&self, net: &mut Net, before: &Net, answer: Result<(), u8>, operation: u8) -> Option<Result<(), u8>> {
+        let shape = if before.is_short() { None } else { before.shape() };
+        let (shape, handed) = (shape?, before.claimed());
+        match (self.fault, answer) {
+            (Fault::WrongLargestRefused, Ok(())) if handed != before.most(shape) => return refused(net, before),
+            (Fault::NegativeLargestRefused, Ok(())) if handed < 0 => return refused(net, before),
+            (Fault::LargestBeyondTheRangeRefused, Ok(())) if !in_range(handed) => return refused(net, before),
+            (Fault::LargestWrittenOnARefusal, Err(_)) => net.0[LARGEST] = before.most(shape),
+            (Fault::LargestWrittenOnARefusalForSize, Err(10)) if usable(before, shape) => net.0[LARGEST] = 0,
+            (Fault::LargestWorkedOutByAFlip, Ok(())) if operation == FLIP => net.0[LARGEST] = net.most(shape),
+            (Fault::LargestNegatedByAFlip, Ok(())) if operation == FLIP => net.0[LARGEST] = handed.wrapping_neg(),
+            (Fault::LargestOfAFlipWithoutSign, Ok(())) if operation == FLIP => net.0[LARGEST] = handed.saturating_abs(),
+            (Fault::LargestInRangeAfterAFlip, Ok(())) if operation == FLIP => net.0[LARGEST] = handed.clamp(-RANGE, RANGE),
+            (Fault::LargestClearedByAFlip, Ok(())) if operation == FLIP => net.0[LARGEST] = 0,
+            (_, Ok(())) if operation == REPLACE => self.spoil_largest(net, before, &[]),
+            _ => {}
+        }
+        None
     }
 
     /// Whether a move that is refused 12 passes where the test is as this fault has it.
@@ -261,6 +369,7 @@ impl Spoiled {
         let shape = shape?;
         let beyond = |(group, weights): (usize, Vec<i64>)| net.named(shape, group, &weights).iter().any(|n| n.abs() > i128::from(RANGE));
         match (self.fault, answer) {
+            (Fault::LargestJudgedByAPoint, Ok(())) if !in_range(net.claimed()) => return Some(Err(10)),
             (Fault::PointsQTested, Ok(())) => {
                 let large = shape.kind.grouped(&weights).into_iter().enumerate().any(beyond);
                 return Some(if large { Err(12) } else { answer });
@@ -291,6 +400,12 @@ impl Spoiled {
             Fault::TextWithoutTheFrame => {}
             Fault::TextWithTheFrameBeforeTheMoves => others.insert(1, line),
             Fault::TextWithTheFrameLast => others.push(line),
+            Fault::TextWithTheLargest => {
+                let (record, entries) = read_with_net(record).ok()?;
+                let (before, after) = lines.split_at(at + 1 + entries.len());
+                let most = format!("largest {}\n", largest(&entries));
+                return record.moves.is_empty().then(|| [before.concat(), most, after.concat()].concat());
+            }
             Fault::TextWithTheRecordsFrame => {
                 let numbers = read_with_net(record).ok()?.0.frame_numbers();
                 let line: String = numbers.iter().map(|number| format!(" {number}")).collect();
@@ -347,6 +462,12 @@ impl Spoiled {
         }
         Some(read)
     }
+}
+
+/// A call that is refused for the number in the place of the largest component.
+fn refused(net: &mut Net, before: &Net) -> Option<Result<(), u8>> {
+    *net = before.clone();
+    Some(Err(10))
 }
 
 /// Points q to put in places of a net, each with its group.
@@ -457,11 +578,16 @@ impl Library for Spoiled {
         if let (Fault::ThreeBytesForACurve, [1, 0, 3, 1 | 2, degree, 0, rest @ ..]) = (self.fault, record) {
             return self.model.read(&[&[1, 0, 2, record[3], *degree], rest].concat(), net);
         }
-        let lent = net.0.clone();
+        let lent = net.clone();
         let before = net.0.get(2).copied().unwrap_or(0);
         let answer = self.model.read(record, net);
+        if let (Ok((read, _)), Ok(())) = (read_with_net(record), answer) {
+            self.spoil_largest(net, &lent, &read.coefficients.concat());
+        }
         match (self.fault, answer) {
-            (Fault::RecordsNetWithoutItsFrame | Fault::FirstNetZeroesTheFramesRest, Ok(())) => self.spoil_first_frame(net, &lent),
+            (Fault::LargestLeftByARecordsNet, Ok(())) => net.0[LARGEST] = lent.claimed(),
+            (Fault::LargestWrittenByARefusedFirstNet, Err(Refusal { number: 7, .. })) => net.0[LARGEST] = RANGE,
+            (Fault::RecordsNetWithoutItsFrame | Fault::FirstNetZeroesTheFramesRest, Ok(())) => self.spoil_first_frame(net, &lent.0),
             (Fault::OneScaleForBothPairs | Fault::EntriesJThenI, Ok(())) => self.spoil_first_net(net),
             (Fault::FirstNetOfARectNeverTooLarge, Err(Refusal { number: 7, .. })) if told_kind(record) == Some(Kind::Rect) => {
                 return Ok(());
@@ -482,10 +608,15 @@ impl Library for Spoiled {
     }
 
     fn first(&mut self, given: &Given, net: &mut Net) -> Result<(), u8> {
-        let lent = net.0.clone();
+        let lent = net.clone();
         let answer = self.model.first(given, net);
+        if answer.is_ok() {
+            self.spoil_largest(net, &lent, &given.coefficients[..net.numbers(net.shape().unwrap()).len()]);
+        }
         match self.fault {
-            Fault::FirstNetWithoutItsFrame | Fault::FirstNetZeroesTheFramesRest if answer.is_ok() => self.spoil_first_frame(net, &lent),
+            Fault::LargestLeftByAFirstNet if answer.is_ok() => net.0[LARGEST] = lent.claimed(),
+            Fault::LargestWrittenByARefusedFirstNet if answer == Err(7) => net.0[LARGEST] = RANGE,
+            Fault::FirstNetWithoutItsFrame | Fault::FirstNetZeroesTheFramesRest if answer.is_ok() => self.spoil_first_frame(net, &lent.0),
             Fault::FirstNetLooksAtUnusedCoefficients if answer.is_ok() => {
                 let outside = given.coefficients[..180].iter().any(|a| a.unsigned_abs() > 1 << 20);
                 return if outside { Err(6) } else { Ok(()) };
@@ -496,7 +627,7 @@ impl Library for Spoiled {
             }
             Fault::FirstNetZeroesTheRest if answer.is_ok() => {
                 let used = ENTRIES + 4 * net.shape().unwrap().places();
-                net.0[used..192].fill(0);
+                net.0[used..LARGEST].fill(0);
             }
             Fault::FirstNetWithoutRoom if answer == Err(11) && !net.is_short() => return Err(6),
             Fault::OneScaleForBothPairs | Fault::EntriesJThenI if answer.is_ok() => self.spoil_first_net(net),
@@ -524,6 +655,9 @@ impl Library for Spoiled {
             return answer;
         }
         let answer = self.model.take(net, operation, vertex, weights);
+        if let Some(spoiled) = self.spoil_largest_of_a_move(net, &before, answer, operation) {
+            return spoiled;
+        }
         if let Some(spoiled) = self.spoil_frame((&mut *net, &before), answer, (operation, vertex, weights)) {
             return spoiled;
         }
@@ -534,7 +668,7 @@ impl Library for Spoiled {
             Fault::SecondNetReversed if operation == 2 && answer.is_ok() && net.0[0] == 1 => {
                 let mut entries = net.used(net.shape().unwrap());
                 entries.reverse();
-                net.write(net.shape().unwrap(), &entries);
+                net.write_entries(&entries);
             }
             Fault::RefusesBeforeTheLimit if operation == 1 && answer.is_ok() => {
                 let edge = net.used(shape.unwrap()).iter().flatten().any(|c| c.abs() == RANGE);
@@ -731,7 +865,7 @@ fn divisor(a: i64, b: i64) -> i64 {
 
 #[test]
 fn the_model_itself_agrees() {
-    let mut library = Spoiled { fault: Fault::None, model: Model };
+    let mut library = Spoiled { fault: Fault::None, spared: Spared::Nothing, model: Model };
     compare_calls(&mut library, 300, 7).unwrap();
 }
 
@@ -741,7 +875,7 @@ fn every_fault_is_found() {
     let faults = [
         FlipDoesNothing, ReplaceDoesNothing, SecondNetReversed, RefusesBeforeTheLimit, RefusesAfterTheLimit,
         LooksOnlyAtTheNewNet, LooksOnlyAtThePointFound, SaysTenTooSoon, NineBeforeEight, StoresHalf,
-        WritesPastTheEntries, WritesTheFramesPlaces, WritesTheLargestsPlace, WritesPastTheNet, SecondDegreeNotLookedAt,
+        WritesPastTheEntries, WritesTheFramesPlaces, WritesPastTheNet, SecondDegreeNotLookedAt,
         SecondDegreeKept, KindByItsLowByte, LooksPastTheEntries, TakesShortRuns, RefusesLongerRuns, PointWithoutRoom,
         PointPastItsPlaces, FirstNetLooksAtUnusedCoefficients, FirstNetLooksAtUnusedFrameNumbers, FirstNetZeroesTheRest,
         FirstNetWithoutRoom, NegativeZero, DirectionNotTurned, DirectionNotReduced, LengthTurned, LengthOfTwo,
@@ -761,12 +895,24 @@ fn every_fault_is_found() {
         HandedFrameNotTestedByPoints, HandedFrameNotTestedByReplaces, NegativeFramesNotTested, OnlyTheOwnPairTested,
         OnlyTheMovedVertexTested, UnusedFramePlacesTested, HandedDeterminantTested, FirstNetWithoutItsFrame,
         RecordsNetWithoutItsFrame, FirstNetZeroesTheFramesRest, TextWithoutTheFrame, TextWithTheRecordsFrame,
-        TextWithTheFrameBeforeTheMoves, TextWithTheFrameLast,
+        TextWithTheFrameBeforeTheMoves, TextWithTheFrameLast, LargestKeptByAReplace, LargestOfTheOldNet,
+        LargestNeverFalling, LargestOfOldAndNew, LargestWorkedOutByAFlip, LargestNegatedByAFlip,
+        LargestOfAFlipWithoutSign, LargestInRangeAfterAFlip, WrongLargestRefused, NegativeLargestRefused,
+        LargestBeyondTheRangeRefused, LargestWrittenOnARefusal, LargestWrittenOnARefusalForSize, LargestLeftByAFirstNet,
+        LargestLeftByARecordsNet, LargestOfTheCoefficients, LargestOfAFirstNetNeverFalling,
+        LargestWrittenByARefusedFirstNet, TextWithTheLargest, LargestJudgedByAPoint, LargestClearedByAFlip,
     ];
-    for fault in faults {
-        let mut library = Spoiled { fault, model: Model };
-        let answer = compare_calls(&mut library, 2000, 7);
-        let what = answer.err().unwrap_or_else(|| panic!("{fault:?} was not found"));
-        println!("{fault:?}: {}", what.chars().take(70).collect::<String>());
+    // once in replaces alone and once in first nets alone
+    let of_either = [
+        LargestWithTheSignNotDropped, LargestWithItsSign, LargestOfNegativesOneLess, LargestWithoutTheLastEntry,
+        LargestWithoutTheFirstEntry, LargestWithoutTheWeights, LargestOfTheLastRow, LargestOverPlacesNotInUse,
+        LargestOverTheFrameToo, LargestInThirtyTwoBits, LargestAfterTheEntries, LargestInTheLastPlace, LargestCleared,
+    ];
+    let alone = |fault| [(fault, Spared::FirstNets), (fault, Spared::Replaces)];
+    for (fault, spared) in faults.map(|fault| (fault, Spared::Nothing)).into_iter().chain(of_either.into_iter().flat_map(alone)) {
+        let mut library = Spoiled { fault, spared, model: Model };
+        let answer = compare_calls(&mut library, 4000, 7);
+        let what = answer.err().unwrap_or_else(|| panic!("{fault:?} was not found, {spared:?} spared"));
+        println!("{fault:?}, {spared:?} spared: {}", what.chars().take(70).collect::<String>());
     }
 }

@@ -1,7 +1,7 @@
 //! Handed nets and quadruples of any numbers.
 
 use super::records::any_shape;
-use crate::handed::{head, Net, ENTRIES, FRAME, PLACES};
+use crate::handed::{head, Net, ENTRIES, FRAME, LARGEST, PLACES};
 use crate::projection::Room;
 use crate::random::Random;
 use crate::shape::{Shape, RANGE};
@@ -25,10 +25,23 @@ pub fn handed(random: &mut Random) -> Net {
     if random.once_in(6) {
         used[random.below(used.len())] = beyond(random);
     }
+    any_claim(random, &mut net);
     if random.once_in(6) {
         shape_outside(random, &mut net);
     }
     net
+}
+
+/// What a net claims as its largest component, where its run is long enough: the right number,
+/// ones near it, its negative, the ends of the range and of 64 bits, or anything.
+pub fn any_claim(random: &mut Random, net: &mut Net) {
+    if net.is_short() {
+        return;
+    }
+    let right = net.shape().map_or(0, |shape| net.most(shape));
+    let (near, far) = (right.saturating_add(random.sign()), random.pick(&[i64::MIN, i64::MAX, i64::MIN + 1, -1, 0, RANGE]));
+    let anywhere = any_number(random);
+    net.0[LARGEST] = random.pick(&[right, right, near, -right, right / 2, right.saturating_mul(2), far, far, anywhere]);
 }
 
 /// The numbers of a handed frame: mostly small, at times of any size in range or at its ends,
@@ -79,10 +92,12 @@ fn about_the_limit(random: &mut Random, shape: Shape, used: &mut [i64]) {
     used[4 * own + component] = random.sign() * (RANGE - random.between(0, 2));
 }
 
-/// Kind, degree or second degree that no net has, numbers that are no bytes among them.
+/// Kind, degree or second degree that no net has, numbers that are no bytes among them, also ones
+/// whose low byte is right.
 fn shape_outside(random: &mut Random, net: &mut Net) {
     let outside = random.pick(&[0, 4, 6, 9, 11, 128, 255, 256, 257, 258, 259, -1, -253, -254, -255, -256, 1 << 32, i64::MAX, i64::MIN]);
-    match random.below(7) {
+    match random.below(8) {
+        7 => net.0[random.pick(&[0, 0, 1, 2])] += random.pick(&[256, -256, 1 << 32, -(1 << 62)]),
         0 => net.0[0] = outside,
         1 => net.0[1] = outside,
         2 => net.0[2] = random.pick(&[outside, 1, 2, 5, 8, 10]),
