@@ -18,8 +18,8 @@ use Rattle.entries.proofs.Listed.{net-ext, entry-rank, digits-below}
 use Rattle.entries.proofs.Form.{total-raise, length-raise}
 use Rattle.machine.specs.Calls.{weightList}
 use Rattle.machine.specs.declared.Weights.{Weights}
-use Rattle.nets.specs.Rows.{written, KeptFrom, mixed, ranged, Bounded, rowsBlended, blended, Leaves}
-use Rattle.nets.proofs.Lists.{length-written, written-outside, written-at, write-kept, ranged-written, ranged-list}
+use Rattle.nets.specs.Rows.{written, mixed, ranged, Bounded, rowsBlended, blended, Leaves}
+use Rattle.nets.proofs.Lists.{length-written, written-outside, written-at, ranged-written, ranged-list}
 use Rattle.entries.proofs.Lengths.{tri-suc}
 use Rattle.nets.proofs.Ranks.{rank-curve, rank-patch, by-two, by-three, size-mono, size-curve, size-patch}
 use Rattle.nets.proofs.PatchRows.{tri, row-end, length-rows, rows-still, rows-at}
@@ -57,12 +57,6 @@ module _ (w : ℕ) (some : 1 ≤ w) (xs : List ℤ) (m : ℕ) (ws : Weights) whe
       (λ c e k l u. by-two (λ y. total y ≡ m → getD curve (w * rank 1 y + c) (pos 0) ≡ fixed 2 (weightList ws) (entryAt w 1 (suc m) xs c) 1 y) (curve-entry long c k) e l u)
       (λ i h. written-outside xs 0 (w * suc m) (mixed xs w w (ws .r) (ws .s) (pos 0)) i (λ p q. omega (arith, size-curve w m)))
 
-  -- the numbers of a level are the blends of the one before it
-  pub curve-at : size w 1 (suc m) ≤ length xs → (i : ℕ) → i < w * suc m → getD (blended w 1 m (weightList ws) xs) i (pos 0) ≡ mixed xs w w (ws .r) (ws .s) (pos 0) i
-  curve-at long i below =
-      ap (λ l. getD l i (pos 0)) (sym (curve-blended long))
-      ∙ written-at xs 0 (w * suc m) (mixed xs w w (ws .r) (ws .s) (pos 0)) i zero-le (omega arith) (omega (arith, size-curve w (suc m)))
-
   -- ---- three vertices: a triangle of rows
 
   patch-entry : w * tri (suc m) ≤ length xs → (c : ℕ) → c < w → (i j k : ℕ) → total (i ∷ j ∷ k ∷ []) ≡ m
@@ -99,9 +93,9 @@ module _ (w : ℕ) (some : 1 ≤ w) (xs : List ℤ) (m : ℕ) (ws : Weights) whe
 
 -- ---- as the code calls them
 
-pub bounded-less : (xs : List ℤ) (lo hi hi′ W W′ : ℕ) → hi′ ≤ hi → W′ ≤ W → Bounded xs lo hi W → Bounded xs lo hi′ W′
-bounded-less xs lo hi hi′ W W′ h w b =
-    record { bound = b .bound; each = λ i l u. b .each i l (omega arith); fits = let up = mul-le-mul-right (b .bound) w in let f = b .fits in omega arith }
+pub bounded-less : (xs : List ℤ) (hi lo hi′ W W′ : ℕ) → hi′ ≤ hi → W′ ≤ W → Bounded xs 0 hi W → Bounded xs lo hi′ W′
+bounded-less xs hi lo hi′ W W′ h w b =
+    record { bound = b .bound; each = λ i l u. b .each i zero-le (omega arith); fits = let up = mul-le-mul-right (b .bound) w in let f = b .fits in omega arith }
 
 -- what a step promises of a group of dimension k
 abbrev Made : ℕ → ℕ → ℕ → List ℤ → Weights → Bool → List ℤ → ℕ → Type 0
@@ -110,15 +104,14 @@ Made limit w degree xs ws b ys k = Leaves limit (size w k (pred degree)) (blende
 module _ (limit w n : ℕ) (some : 1 ≤ w) (xs : List ℤ) (ws : Weights) (b : Bool) (ys : List ℤ) where
   -- with two vertices; r and s are the weights as the code reads them
   pub curve-made : (degree : ℕ) → n ≡ 1 → 1 ≤ degree → size w n degree ≤ length xs → (r s : ℤ) → r ≡ ws .r → s ≡ ws .s
-      → b ≡ ranged limit (mixed xs w w r s (pos 0)) 0 (w * degree) → (b ≡ true → ys ≡ written xs 0 (w * degree) (mixed xs w w r s (pos 0))) → KeptFrom (0 + w * degree) xs ys → Made limit w degree xs ws b ys n
-  curve-made zero one low long r s r-is s-is tested left kept = absurd (not-suc-le-zero low)
-  curve-made (suc m) one low long r s r-is s-is tested left kept =
+      → b ≡ ranged limit (mixed xs w w r s (pos 0)) 0 (w * degree) → (b ≡ true → ys ≡ written xs 0 (w * degree) (mixed xs w w r s (pos 0))) → Made limit w degree xs ws b ys n
+  curve-made zero one low long r s r-is s-is tested left = absurd (not-suc-le-zero low)
+  curve-made (suc m) one low long r s r-is s-is tested left =
       subst (Made limit w (suc m) xs ws b ys) (sym one) (
         tested ∙ ranged-written limit xs new 0 (w * suc m) (mixed xs w w r s (pos 0)) front (sym is)
             ∙ ap (ranged limit (λ i. getD new i (pos 0)) 0) count
             ∙ ranged-list limit new (size w 1 m) (subst (λ k. size w 1 m ≤ k) (sym same-length) (omega (arith, count, front))),
         λ ok. left ok ∙ is,
-        λ i past. kept i (omega (arith, count)) ∙ sym (write-kept xs new 0 (w * suc m) (size w 1 m) (mixed xs w w r s (pos 0)) (omega (arith, count)) (sym is) i past),
       )
     where
       new : List ℤ
@@ -144,7 +137,7 @@ module _ (limit w n : ℕ) (some : 1 ≤ w) (xs : List ℤ) (ws : Weights) (b : 
   patch-made zero two low long left = absurd (not-suc-le-zero low)
   patch-made (suc m) two low long left =
       subst (Made limit w (suc m) xs ws b ys) (sym two)
-      (left .0 ∙ ap₂ (λ l k. all (within limit) (take k l)) is count, λ ok. left .1 ok ∙ is, λ i past. left .2 i (omega (arith, count)) ∙ ap (λ l. getD l i (pos 0)) is)
+      (left .0 ∙ ap₂ (λ l k. all (within limit) (take k l)) is count, λ ok. left .1 ok ∙ is)
     where
       count : w * tri (suc m) ≡ size w 2 m
       count = sym (size-patch w m ∙ ap (λ k. w * tri k) (add-one m))

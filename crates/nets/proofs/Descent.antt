@@ -6,18 +6,18 @@ use native.Mathlib.Omega.{arith}
 use mathlib.Core.Path.{_≡_, refl, sym, ap, ap₂, _∙_, subst}
 use mathlib.Core.Bool.{Bool, true, false}
 use mathlib.Core.List.{List}
-use lib.IntN.{ℤ, pos}
-use lib.ListN.{length, getD, take}
+use lib.IntN.{ℤ}
+use lib.ListN.{length, take}
 use Rattle.integers.specs.Sum.{upto}
 use Rattle.integers.specs.Test.{all}
 use Rattle.entries.specs.Rows.{size}
 use Rattle.projection.specs.Projection.{inRange}
 use Rattle.machine.specs.Calls.{weightList}
 use Rattle.machine.specs.declared.Weights.{Weights}
-use Rattle.nets.specs.Rows.{KeptFrom, Bounded, blended, level, weightSum}
+use Rattle.nets.specs.Rows.{Bounded, blended, level, weightSum}
 use Rattle.nets.specs.Levels.{namedAt, allNamedAt, Descends}
 use Rattle.nets.proofs.Ranks.{size-mono}
-use Rattle.nets.proofs.LevelValues.{range-bounded, level-past, level-named, level-next, named-first, named-next, named-fails}
+use Rattle.nets.proofs.LevelValues.{range-bounded, level-named, level-next, named-first, named-next, named-fails}
 
 -- where the numbers cur of a net stand after h levels
 pub record At (w n m : ℕ) (ws xs cur : List ℤ) (h : ℕ) : Type 0 where
@@ -58,10 +58,6 @@ module _ (w n m : ℕ) (weights : Weights) (xs : List ℤ) (start : Descends w n
     pub at-bounded : Bounded cur 0 (size w n (m - h)) (weightSum weights)
     at-bounded = range-bounded cur (size w n (m - h)) (weightSum weights) at-room (a .ranged) (start .light)
 
-    -- nothing past the net has changed
-    pub at-past : KeptFrom (size w n m) xs cur
-    at-past i past = ap (λ l. getD l i (pos 0)) (a .reached) ∙ level-past w n some m ws xs room h (a .below) i past
-
     -- the next step, whose answer is b
     module _ (more : h < m) (b : Bool) (is : b ≡ all inRange (take (size w n (pred (m - h))) (blended w n (pred (m - h)) ws cur))) where
       abbrev next : List ℤ
@@ -79,13 +75,6 @@ module _ (w n m : ℕ) (weights : Weights) (xs : List ℤ) (start : Descends w n
       -- a level out of range is a named value out of range
       pub at-fails : b ≡ false → false ≡ allNamedAt w n m ws xs
       at-fails no-range = sym (named-fails w n some m ws xs room (suc h) more (sym next-named ∙ no-range))
-
-      -- nor has anything after the step, whatever its answer is
-      pub at-kept : (ys : List ℤ) → KeptFrom (size w n (pred (m - h))) next ys → KeptFrom (size w n m) xs ys
-      at-kept ys kept i past =
-          kept i (let fewer = size-mono w n (pred (m - h)) m (omega arith) in omega (arith, fewer))
-          ∙ ap (λ l. getD l i (pos 0)) next-level-is
-          ∙ level-past w n some m ws xs room (suc h) more i past
 
       pub at-next : b ≡ true → (ys : List ℤ) → ys ≡ next → length ys ≡ length cur → At w n m ws xs ys (h + 1)
       at-next ok ys made kept =

@@ -16,14 +16,14 @@ use Rattle.integers.proofs.All.{one-fails, all-cong, all-map, all-append, all-f
 use Rattle.polar.specs.Order.{total, counts}
 use Rattle.polar.proofs.Order.{counts-total, all-joined}
 use Rattle.entries.specs.Entries.{fixed, raise}
-use Rattle.entries.specs.Rows.{entryAt, listed, size, offset, rank, replaced}
+use Rattle.entries.specs.Rows.{entryAt, listed, size, offset, rank}
 use Rattle.entries.proofs.Form.{total-raise, length-raise}
 use Rattle.entries.proofs.Groups.{total-set, total-zeros, length-zeros}
 use Rattle.entries.proofs.Places.{length-counts}
 use Rattle.entries.proofs.Listed.{length-listed, entry-listed, entry-rank, net-ext, first-digit}
 use Rattle.projection.specs.Projection.{inRange}
-use Rattle.nets.specs.Rows.{KeptFrom, Bounded, blended, level}
-use Rattle.nets.specs.Levels.{valuesOf, namedAt, allNamedAt, replacedList}
+use Rattle.nets.specs.Rows.{Bounded, blended, level}
+use Rattle.nets.specs.Levels.{valuesOf, namedAt, allNamedAt}
 use Rattle.nets.proofs.Ranks.{offset-mono, size-mono}
 
 -- ---- places
@@ -120,13 +120,6 @@ module _ (w n : ℕ) (some : 1 ≤ w) where
         let rest = length-level h (omega arith) in
         length-blended (m - suc h) ws (at h) (let s = size-mono w n (m - suc h) m (omega arith) in omega (arith, s, rest, room)) ∙ rest
 
-    -- past the net nothing changes
-    pub level-past : (h : ℕ) → h ≤ m → KeptFrom (size w n m) xs (at h)
-    unfolding level
-    level-past zero b i past = refl
-    level-past (suc h) b i past =
-        blended-past w n (m - suc h) ws (at h) i (let s = size-mono w n (m - suc h) m (omega arith) in omega (arith, s)) ∙ level-past h (omega arith) i past
-
     -- each level's entries are the polar values with that many copies
     pub level-entry : (h c : ℕ) (e : List ℕ) → h ≤ m → c < w → length e ≡ suc n → h + total e ≡ m → entryAt w n (m - h) (at h) c e ≡ values c h e
     unfolding level fixed
@@ -197,12 +190,6 @@ module _ (w n : ℕ) (some : 1 ≤ w) where
             ∙ blended-past w n (m - suc (getD e 0 0 + j)) ws (level w n m ws (getD e 0 0 + j) xs) (w * rank n e + c)
             (let past = mul-le-mul-left w (rank-past n (m - suc (getD e 0 0 + j)) e l (omega (arith, t))) in omega arith)
             ∙ stays j (omega arith)
-
-    -- so the last level, with what the levels before it left, is the net with the first vertex replaced
-    pub level-replaced : at m ≡ replacedList w n m ws 0 xs
-    unfolding replacedList
-    level-replaced =
-        net-ext w n m some (at m) xs (λ c. replaced (suc n) ws 0 (entryAt w n m xs c)) (length-level m (le-refl m)) room level-made (level-past m (le-refl m))
 
     -- the last level has one entry, the point
     pub level-last : (c : ℕ) → c < w → getD (at m) c (pos 0) ≡ values c m (replicate (suc n) 0)

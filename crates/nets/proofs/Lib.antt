@@ -21,7 +21,6 @@ pub mod Blended
 pub mod Places
 pub mod LevelValues
 pub mod Descent
-pub mod BackDescent
 pub mod Saved
 pub mod Signs
 pub mod Writes
@@ -33,3 +32,4 @@ pub mod FirstSteps
 pub mod SideValues
 pub mod SideRow
 pub mod SideRows
+pub mod SideLine

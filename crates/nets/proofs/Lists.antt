@@ -5,14 +5,14 @@ use native.Mathlib.Numerals.{add-one}
 use native.Mathlib.Omega.{arith}
 use native.Mathlib.Decide.{decLt}
 use mathlib.Core.Path.{_≡_, refl, sym, ap, ap₂, _∙_, subst}
-use mathlib.Core.Bool.{true, false, _&&_}
+use mathlib.Core.Bool.{Bool, true, false, _&&_}
 use mathlib.Core.List.{List, [], _∷_, _++_}
 use borrow.Author.Tests.{le-leb}
 use lib.IntN.{ℤ, pos, natAbs}
 use lib.ListN.{length, getD, set, take, drop, length-set, length-append, length-drop}
-use lib.Seq.{take-suc, length-take-le, ext-getD, getD-take, getD-drop, getD-append-add, getD-set-same, getD-set-other, set-comm}
+use lib.Seq.{take-suc, length-take-le, ext-getD, getD-take, getD-drop, getD-append-add, getD-set-same, getD-set-other}
 use Rattle.integers.specs.Test.{within, all}
-use Rattle.integers.proofs.All.{all-append, and-true, and-one, and-none, and-assoc}
+use Rattle.integers.proofs.All.{clash, all-append, and-true, and-one, and-none, and-assoc}
 use Rattle.nets.specs.Rows.{written, KeptFrom, ranged}
 
 -- ---- writes
@@ -86,39 +86,14 @@ write-next xs cur from i v g low inv is =
 pub write-still : (xs cur : List ℤ) (from i j : ℕ) (g : ℕ → ℤ) → from ≤ i → i ≤ j → cur ≡ written xs from (i - from) g → getD cur j (pos 0) ≡ getD xs j (pos 0)
 write-still xs cur from i j g low past inv = ap (λ l. getD l j (pos 0)) inv ∙ written-outside xs from (i - from) g j (λ a b. omega arith)
 
--- one write more in front of the others, by its place: where the writes go on downwards to place i
-pub write-before : (xs cur : List ℤ) (i f end : ℕ) (v : ℤ) (g : ℕ → ℤ) → f ≡ suc i → f ≤ end → cur ≡ written xs f (end - f) g → v ≡ g i → set cur i v ≡ written xs i (end - i) g
-unfolding written
-write-before xs cur i f end v g next high inv is =
-    ap₂ (λ l y. set l i y) (inv ∙ ap (λ j. written xs j (end - f) g) next) is ∙ in-front (end - f) ∙ ap (λ k. written xs i k g) count-is
-  where
-    count-is : suc (end - f) ≡ end - i
-    count-is = omega arith
-
-    in-front : (k : ℕ) → set (written xs (suc i) k g) i (g i) ≡ written xs i (suc k) g
-    in-front zero = ap (λ j. set xs j (g j)) (sym (add-zero i))
-    in-front (suc k) =
-        set-comm (written xs (suc i) k g) (suc i + k) i (g (suc i + k)) (g i) (λ e. omega arith)
-        ∙ ap₂ (λ l j. set l j (g j)) (in-front k) place-is
-      where
-        place-is : suc i + k ≡ i + suc k
-        place-is = omega arith
-
--- past the writes nothing changes
-pub write-kept : (xs ys : List ℤ) (from k end : ℕ) (g : ℕ → ℤ) → from + k ≤ end → ys ≡ written xs from k g → KeptFrom end xs ys
-write-kept xs ys from k end g high is i past = ap (λ l. getD l i (pos 0)) is ∙ written-outside xs from k g i (λ a b. omega arith)
-
 -- ---- limits
 
 module _ (limit : ℕ) where
-  -- the same numbers, which may stand in other places
-  pub ranged-moved : (f g : ℕ → ℤ) (a b k : ℕ) → ((i : ℕ) → i < k → f (a + i) ≡ g (b + i)) → ranged limit f a k ≡ ranged limit g b k
-  unfolding ranged
-  ranged-moved f g a b zero h = refl
-  ranged-moved f g a b (suc k) h = ap₂ (λ r x. r && within limit x) (ranged-moved f g a b k (λ i l. h i (omega arith))) (h k (omega arith))
-
   pub ranged-cong : (f g : ℕ → ℤ) (from k : ℕ) → ((i : ℕ) → from ≤ i → i < from + k → f i ≡ g i) → ranged limit f from k ≡ ranged limit g from k
-  ranged-cong f g from k h = ranged-moved f g from from k (λ i l. h (from + i) (omega arith) (omega arith))
+  unfolding ranged
+  ranged-cong f g from zero h = refl
+  ranged-cong f g from (suc k) h =
+      ap₂ (λ a x. a && within limit x) (ranged-cong f g from k (λ i a b. h i a (omega arith))) (h (from + k) (omega arith) (omega arith))
 
   -- one number more
   pub ranged-next : (g : ℕ → ℤ) (from i : ℕ) → from ≤ i → ranged limit g from (i - from) ≡ true → within limit (g i) ≡ true → ranged limit g from (i + 1 - from) ≡ true
@@ -141,17 +116,6 @@ module _ (limit : ℕ) where
       ∙ ap₂ (λ x j. x && within limit (g j)) (ranged-append g from a b) (sym (add-assoc from a b))
       ∙ and-assoc (ranged limit g from a) (ranged limit g (from + a) b) (within limit (g (from + a + b)))
 
-  -- one number more in front, at place i
-  pub ranged-before : (g : ℕ → ℤ) (i f end : ℕ) → f ≡ suc i → f ≤ end → ranged limit g f (end - f) ≡ true → within limit (g i) ≡ true → ranged limit g i (end - i) ≡ true
-  unfolding ranged
-  ranged-before g i f end next high inv here =
-      ap (ranged limit g i) count-is
-      ∙ ranged-append g i 1 (end - f)
-      ∙ and-true (ap (λ j. within limit (g j)) (add-zero i) ∙ here) (ap (λ j. ranged limit g j (end - f)) (add-one i ∙ sym next) ∙ inv)
-    where
-      count-is : end - i ≡ 1 + (end - f)
-      count-is = omega arith
-
   -- a part beyond the limit is the whole beyond the limit
   pub ranged-part : (g : ℕ → ℤ) (from a b c : ℕ) → ranged limit g (from + a) b ≡ false → ranged limit g from (a + b + c) ≡ false
   ranged-part g from a b c part =
@@ -168,6 +132,26 @@ module _ (limit : ℕ) where
 
       place-is : from + (i - from) + 0 ≡ i
       place-is = omega arith
+
+  -- a number of a part within the limit
+  pub ranged-at : (g : ℕ → ℤ) (from i k : ℕ) → ranged limit g from k ≡ true → from ≤ i → i < from + k → within limit (g i) ≡ true
+  ranged-at g from i k ok low below = by (within limit (g i)) refl
+    where
+      by : (t : Bool) → within limit (g i) ≡ t → t ≡ true
+      by true e = refl
+      by false e = absurd (clash ok (ranged-fails g from i k low below e))
+
+  -- in a part beyond the limit there is a number beyond it
+  pub ranged-beyond : (g : ℕ → ℤ) (from k : ℕ) → ranged limit g from k ≡ false → (i : ℕ) × (from ≤ i) × (i < from + k) × (within limit (g i) ≡ false)
+  unfolding ranged
+  ranged-beyond g from zero bad = absurd (clash refl bad)
+  ranged-beyond g from (suc k) bad = by (ranged limit g from k) refl (λ e. ranged-beyond g from k e)
+    where
+      by : (t : Bool) → ranged limit g from k ≡ t
+          → (ranged limit g from k ≡ false → (i : ℕ) × (from ≤ i) × (i < from + k) × (within limit (g i) ≡ false))
+          → (i : ℕ) × (from ≤ i) × (i < from + suc k) × (within limit (g i) ≡ false)
+      by true e rest = (from + k, omega arith, omega arith, ap (λ t. t && within limit (g (from + k))) (sym e) ∙ bad)
+      by false e rest = let r = rest e in (r .0, r .1, omega (arith, r .2), r .3)
 
   -- the numbers that are written
   pub ranged-written : (xs ys : List ℤ) (from k : ℕ) (g : ℕ → ℤ) → from + k ≤ length xs → ys ≡ written xs from k g → ranged limit g from k ≡ ranged limit (λ i. getD ys i (pos 0)) from k

@@ -13,7 +13,7 @@ use Rattle.integers.specs.Test.{within, all}
 use Rattle.polar.specs.Order.{counts}
 use Rattle.entries.specs.Rows.{size, offset}
 use Rattle.machine.specs.declared.Weights.{Weights}
-use Rattle.nets.specs.Rows.{written, KeptFrom, mixed, ranged, Bounded, rowsBlended}
+use Rattle.nets.specs.Rows.{written, mixed, ranged, Bounded, rowsBlended}
 use Rattle.nets.proofs.Lists.{length-written, written-outside, written-at, ranged-cong, ranged-part, ranged-list}
 use Rattle.entries.proofs.Lengths.{tri-suc}
 use Rattle.nets.proofs.Ranks.{offset-mono, size-patch}
@@ -137,13 +137,6 @@ module _ (w : ℕ) where
         is
         ∙ (λ j. written (inv j) (at j) (w * add-one i j) (turn-is j))
         ∙ ap (rowsBlended w xs ws) (sym (add-one i))
-
-    -- past the rows all stays as it was; ys is what blending the row leaves, whether it is done or not
-    pub turn-kept : (ys : List ℤ) → KeptFrom (from + w * (i + 1)) xs′ ys → KeptFrom (w * tri degree) (rowsBlended w xs ws degree) ys
-    turn-kept ys kept p past =
-        let up = row-mono (i + 1) degree (omega arith) in
-        let up-one = row-mono i degree (omega arith) in
-        kept p (omega (arith, turn-next, up)) ∙ ap (λ l. getD l p (pos 0)) inv ∙ rows-still xs ws i p (omega (arith, up-one)) ∙ sym (rows-still xs ws degree p past)
 
     -- a row beyond the limit is the level beyond the limit
     pub turn-fails : (limit : ℕ) → size w 2 degree ≤ length xs → ranged limit turnOf from (w * (i + 1)) ≡ false

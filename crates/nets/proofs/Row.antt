@@ -1,9 +1,9 @@
 -- One step of a row's blend, on plain numbers: what stands at and past the place is as it was, so the bound holds and the new number is the blend of the old ones.
-use Prim.Native.Nat.{ℕ, suc, _+_, _*_, _-_, _^_, _≤_, _<_, zero-le}
-use native.Mathlib.Nat.{add-zero, mul-le-mul-left}
+use Prim.Native.Nat.{ℕ, _+_, _*_, _-_, _^_, _≤_, _<_}
+use native.Mathlib.Nat.{mul-le-mul-left}
 use native.Mathlib.Omega.{arith}
 use mathlib.Core.Path.{_≡_, sym, ap, ap₂, _∙_, subst}
-use mathlib.Core.List.{List, [], _∷_}
+use mathlib.Core.List.{List}
 use lib.IntN.{ℤ, pos, natAbs, _+ℤ_, _*ℤ_}
 use lib.Signed.{mag}
 use lib.ListN.{getD, set}
@@ -11,9 +11,8 @@ use borrow.Author.Needs.{sfits-of}
 use mir.Syntax.{w64}
 use mir.Val.{SFits}
 use Rattle.integers.proofs.Signed.{seen, back-fits}
-use Rattle.integers.proofs.Ring.{ring, ring-rules}
-use Rattle.nets.specs.Rows.{written, mixed, mixedBack, Bounded}
-use Rattle.nets.proofs.Lists.{written-outside, write-next, write-still, write-before}
+use Rattle.nets.specs.Rows.{written, mixed, Bounded}
+use Rattle.nets.proofs.Lists.{write-next, write-still}
 
 -- what an element that was read is: its range is known from its type
 pub element : (v : ℤ) → mag v < 2 ^ 63 → seen v ≡ v
@@ -60,41 +59,3 @@ module _ (xs₀ : List ℤ) (from count d e : ℕ) (a b c : ℤ) (fa : SFits w64
   -- the weights as the caller gave them
   pub row-weights : mixed xs₀ d e (seen a) (seen b) (seen c) ≡ mixed xs₀ d e a b c
   row-weights = λ i. mixed xs₀ d e (back-fits fa i) (back-fits fb i) (back-fits fc i)
-
--- ---- from the last number down
-
--- what stands before place f is as it was, f being where the last number was blended
-module _ (xs₀ : List ℤ) (from end d : ℕ) (a b : ℤ) (fa : SFits w64 a) (fb : SFits w64 b) where
-  abbrev back-row : ℕ → List ℤ
-  back-row f = written xs₀ f (end - f) (mixedBack xs₀ d (seen a) (seen b))
-
-  module _ (xs : List ℤ) (f i : ℕ) (next : f ≡ suc i) (low : from ≤ i) (high : f ≤ end) (inv : xs ≡ back-row f)
-      (s0 : mag (getD xs i (pos 0)) < 2 ^ 63) (s1 : mag (getD xs (i - d) (pos 0)) < 2 ^ 63) where
-    -- the element read at j, as it is handed on
-    read-back : (j : ℕ) → j ≤ i → mag (getD xs j (pos 0)) < 2 ^ 63 → seen (getD xs j (pos 0)) ≡ getD xs₀ j (pos 0)
-    read-back j k small =
-        element (getD xs j (pos 0)) small ∙ ap (λ l. getD l j (pos 0)) inv ∙ written-outside xs₀ f (end - f) (mixedBack xs₀ d (seen a) (seen b)) j (λ p q. omega arith)
-
-    pub back-small : d ≤ from → Bounded xs₀ (from - d) end (natAbs a + natAbs b)
-        → natAbs (seen a) * natAbs (seen (getD xs i (pos 0))) + natAbs (seen b) * natAbs (seen (getD xs (i - d) (pos 0))) + 0 * 0 < 2 ^ 63
-    back-small near bounded =
-        three-small (seen a) (seen (getD xs i (pos 0))) (seen b) (seen (getD xs (i - d) (pos 0))) (pos 0) (pos 0) (bounded .bound)
-        (bound-at i (omega arith) s0 (omega arith)) (bound-at (i - d) (omega arith) s1 (omega arith)) zero-le
-        (subst (λ w. w * bounded .bound < 2 ^ 63) (sym (ap₂ (λ p q. p + q + 0) (ap natAbs (back-fits fa)) (ap natAbs (back-fits fb)) ∙ add-zero (natAbs a + natAbs b))) (bounded .fits))
-      where
-        bound-at : (j : ℕ) → j ≤ i → mag (getD xs j (pos 0)) < 2 ^ 63 → from - d ≤ j → natAbs (seen (getD xs j (pos 0))) ≤ bounded .bound
-        bound-at j k s l = subst (λ v. natAbs v ≤ bounded .bound) (sym (read-back j k s)) (bounded .each j l (omega arith))
-
-    module _ (r : ℤ) (fr : SFits w64 r) (is : r ≡ seen a *ℤ seen (getD xs i (pos 0)) +ℤ (seen b *ℤ seen (getD xs (i - d) (pos 0)) +ℤ pos 0 *ℤ pos 0)) where
-      pub back-value : seen r ≡ mixedBack xs₀ d (seen a) (seen b) i
-      back-value =
-          back-fits fr ∙ is
-          ∙ ap₂ (λ x y. seen a *ℤ x +ℤ (seen b *ℤ y +ℤ pos 0 *ℤ pos 0)) (read-back i (omega arith) s0) (read-back (i - d) (omega arith) s1)
-          ∙ ring (seen a ∷ seen b ∷ getD xs₀ i (pos 0) ∷ getD xs₀ (i - d) (pos 0) ∷ []) (search ring-rules depth 60) tt
-
-      pub back-step : set xs i (seen r) ≡ back-row i
-      back-step = write-before xs₀ xs i f end (seen r) (mixedBack xs₀ d (seen a) (seen b)) next high inv back-value
-
-  -- the weights as the caller gave them
-  pub back-weights : mixedBack xs₀ d (seen a) (seen b) ≡ mixedBack xs₀ d a b
-  back-weights = λ i. mixedBack xs₀ d (back-fits fa i) (back-fits fb i)

@@ -1,11 +1,11 @@
 -- One level of the second or the third vertex of a triangle, row by row from the last, on plain numbers. An entry's blend reads its own row and the row before, which are as they
 -- were when its row's turn comes; in the rows up to row h no entry has more than h copies of the vertex, and they stay.
-use Prim.Native.Nat.{ℕ, zero, suc, pred, _+_, _*_, _-_, _/_, _%_, _≤_, _<_}
+use Prim.Native.Nat.{ℕ, suc, pred, _+_, _*_, _-_, _/_, _%_, _≤_, _<_}
 use native.Mathlib.Nat.{le-refl, mul-le-mul-left, mul-le-mul-right, mod-lt, div-add-mod}
 use native.Mathlib.Omega.{arith}
 use native.Mathlib.Decide.{decLt}
 use mathlib.Core.Path.{_≡_, refl, sym, ap, ap₂, _∙_, subst}
-use mathlib.Core.Bool.{Bool, true, false, cond, _&&_}
+use mathlib.Core.Bool.{true, false, cond}
 use mathlib.Core.List.{List, [], _∷_}
 use borrow.Author.Tests.{lt-ltb, le-ltb}
 use lib.IntN.{ℤ, pos, natAbs, _+ℤ_, _*ℤ_}
@@ -19,32 +19,11 @@ use Rattle.entries.specs.Rows.{entryAt, size}
 use Rattle.entries.proofs.Lengths.{tri-suc, tri-double}
 use Rattle.entries.proofs.Listed.{entry-rank}
 use Rattle.projection.specs.Projection.{limit, inRange}
-use Rattle.nets.specs.Rows.{written, ranged, Bounded}
+use Rattle.nets.specs.Rows.{written, KeptFrom, ranged, Bounded}
 use Rattle.nets.specs.Sides.{mixedAcross, mixedDown, Stands, steppedAt, Beyond, Levelled}
-use Rattle.nets.proofs.Lists.{length-written, written-outside, written-at, ranged-fails}
+use Rattle.nets.proofs.Lists.{length-written, written-outside, written-at, ranged-at, ranged-beyond}
 use Rattle.nets.proofs.Ranks.{offset-mono, tri-most, rank-patch, size-patch, by-three}
 use Rattle.nets.proofs.PatchRows.{tri, row-end}
-
--- ---- limits, number by number
-
-module _ (g : ℕ → ℤ) where
-  ranged-at : (from k p : ℕ) → ranged limit g from k ≡ true → from ≤ p → p < from + k → within limit (g p) ≡ true
-  ranged-at from k p ok low high = by (within limit (g p)) refl
-    where
-      by : (t : Bool) → within limit (g p) ≡ t → t ≡ true
-      by true e = refl
-      by false e = absurd (clash ok (ranged-fails limit g from p k low high e))
-
-  ranged-beyond : (from k : ℕ) → ranged limit g from k ≡ false → (p : ℕ) × (from ≤ p) × (p < from + k) × (within limit (g p) ≡ false)
-  unfolding ranged
-  ranged-beyond from zero bad = absurd (clash refl bad)
-  ranged-beyond from (suc k) bad = by (ranged limit g from k) refl (λ e. ranged-beyond from k e)
-    where
-      by : (t : Bool) → ranged limit g from k ≡ t
-          → (ranged limit g from k ≡ false → (p : ℕ) × (from ≤ p) × (p < from + k) × (within limit (g p) ≡ false))
-          → (p : ℕ) × (from ≤ p) × (p < from + suc k) × (within limit (g p) ≡ false)
-      by true e rest = (from + k, omega arith, omega arith, ap (λ t. t && within limit (g (from + k))) (sym e) ∙ bad)
-      by false e rest = let r = rest e in (r .0, r .1, omega (arith, r .2), r .3)
 
 -- ---- the places of a triangle
 
@@ -85,7 +64,7 @@ pub record Done (m v h : ℕ) (ws xs cur : List ℤ) (i : ℕ) : Type 0 where
   pub high : i ≤ m
   pub long : length cur ≡ length xs
   pub still : (p : ℕ) → p < 4 * tri (suc i) → getD cur p (pos 0) ≡ getD xs p (pos 0)
-  pub past : (p : ℕ) → size 4 2 m ≤ p → getD cur p (pos 0) ≡ getD xs p (pos 0)
+  pub past : KeptFrom (size 4 2 m) xs cur
   pub made : (c a b k : ℕ) → c < 4 → a + (b + k) ≡ m → i < b + k → getD cur (spot b k c) (pos 0) ≡ steppedAt 4 2 m ws v h xs c (a ∷ b ∷ k ∷ [])
   pub small : (c a b k : ℕ) → c < 4 → a + (b + k) ≡ m → i < b + k → h < getD (a ∷ b ∷ k ∷ []) v 0 → inRange (steppedAt 4 2 m ws v h xs c (a ∷ b ∷ k ∷ [])) ≡ true
 
@@ -211,12 +190,12 @@ module _ (m v h : ℕ) (ws xs : List ℤ) where
                 let row : b + k ≡ i = omega arith in
                 let these = r .those a b k row some in
                 let place = spot-in c b k own row (these .0) (these .1) in
-                ap inRange (sym (r .blend c a b k own t row some)) ∙ ranged-at g from count (spot b k c) ok (place .0) (place .1)
+                ap inRange (sym (r .blend c a b k own t row some)) ∙ ranged-at limit g from (spot b k c) count ok (place .0) (place .1)
 
       -- the entry that a number of the row is of
       pub done-beyond : ranged limit g from count ≡ false → Beyond 4 2 m ws v h xs
       done-beyond bad =
-          let f = ranged-beyond g from count bad in
+          let f = ranged-beyond limit g from count bad in
           let p = f .0 in
           let digits = div-add-mod p 4 in
           let own : p % 4 < 4 = mod-lt p (omega arith) in

@@ -27,7 +27,7 @@ use Rattle.entries.proofs.Listed.{net-ext, entry-rank}
 use Rattle.projection.specs.Projection.{inRange}
 use Rattle.machine.specs.Calls.{weightList}
 use Rattle.machine.specs.declared.Weights.{Weights}
-use Rattle.nets.specs.Rows.{Bounded, level, weightSum}
+use Rattle.nets.specs.Rows.{KeptFrom, Bounded, level, weightSum}
 use Rattle.nets.specs.Levels.{valuesOf, namedAt, allNamedAt, replacedList, Descends, Descended, ReplacedInPlace}
 use Rattle.nets.specs.Sides.{Stands, steppedAt, Levelled}
 use Rattle.nets.proofs.Ranks.{size-mono}
@@ -69,7 +69,7 @@ sideAt w n m v ws xs h c e = valuesOf w n m ws xs c (min h (getD e v 0)) (set e 
 pub record Side (w n m v : ℕ) (ws xs cur : List ℤ) (h : ℕ) : Type 0 where
   pub below : h ≤ m
   pub each : (c : ℕ) (e : List ℕ) → Stands w n m c e → entryAt w n m cur c e ≡ sideAt w n m v ws xs h c e
-  pub past : (i : ℕ) → size w n m ≤ i → getD cur i (pos 0) ≡ getD xs i (pos 0)
+  pub past : KeptFrom (size w n m) xs cur
   pub long : length cur ≡ length xs
   pub named : all (namedAt w n m ws xs) (upto (suc h)) ≡ true
 
@@ -255,7 +255,7 @@ module _ (w n m v : ℕ) (weights : Weights) (xs : List ℤ) (start : Descends w
 
 module _ (w n m : ℕ) (some : 1 ≤ w) (ws xs : List ℤ) (room : size w n m ≤ length xs) where
   -- past the entries the levels keep what stood there
-  level-past : (h : ℕ) → h ≤ m → (i : ℕ) → size w n m ≤ i → getD (level w n m ws h xs) i (pos 0) ≡ getD xs i (pos 0)
+  level-past : (h : ℕ) → h ≤ m → KeptFrom (size w n m) xs (level w n m ws h xs)
   unfolding level
   level-past zero b i past = refl
   level-past (suc h) b i past =

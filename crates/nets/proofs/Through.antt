@@ -127,7 +127,7 @@ weights-read n v frame z a b u low high =
 pub vertex-bounded : (n v hi : ℕ) (frame cur : List ℤ) (z a b u : ℤ) → 1 ≤ n → n ≤ 2 → FrameWithin n frame → v ≤ n → Bounded cur 0 hi (4 * suc n)
     → z ∷ a ∷ b ∷ u ∷ [] ≡ vertexWeights n frame v → (n ≡ 1 → b ≡ pos 0) → Bounded cur 0 hi (natAbs z + natAbs a + natAbs b)
 vertex-bounded n v hi frame cur z a b u low high f top bounded is none =
-    bounded-less cur 0 hi hi (4 * suc n) (natAbs z + natAbs a + natAbs b) (le-refl hi)
+    bounded-less cur hi 0 hi (4 * suc n) (natAbs z + natAbs a + natAbs b) (le-refl hi)
     (by-dimension (λ d. (d ≡ 1 → b ≡ pos 0) → natAbs z + natAbs a + natAbs b ≤ 4 * suc d) n low high
     (λ h. let zero-b = ap natAbs (h refl) in omega (arith, zero-b, at 0, at 1)) (λ h. omega (arith, at 0, at 1, at 2)) none)
     bounded

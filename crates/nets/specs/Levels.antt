@@ -12,7 +12,7 @@ use Rattle.entries.specs.Entries.{fixed}
 use Rattle.entries.specs.Rows.{entryAt, listed, size, replaced}
 use Rattle.projection.specs.Projection.{inRange}
 use Rattle.machine.specs.declared.Weights.{Weights}
-use Rattle.nets.specs.Rows.{Sized, written, KeptFrom, weightSum, level}
+use Rattle.nets.specs.Rows.{Sized, written, weightSum, level}
 
 -- a list with the row at place `from` of another list at place `to`
 abbrev pub copiedRow : ℕ → List ℤ → ℕ → List ℤ → ℕ → List ℤ
@@ -44,12 +44,11 @@ pub record Descends (w n m : ℕ) (weights : Weights) (xs : List ℤ) : Type 0 w
   pub range : all inRange (take (size w n m) xs) ≡ true
   pub light : weightSum weights ≤ 12288
 
--- what it gives: whether all named polar values are in range, and then the last level; in any case nothing past the net changes
+-- what it gives: whether all named polar values are in range, and then the last level
 pub record Descended (w n m : ℕ) (ws xs : List ℤ) (b : Bool) (ys : List ℤ) : Type 0 where
   pub named : b ≡ allNamedAt w n m ws xs
   pub last : b ≡ true → ys ≡ level w n m ws m xs
   pub kept : length ys ≡ length xs
-  pub past : KeptFrom (size w n m) xs ys
 
 -- what replacing vertex v in place answers and leaves: whether all named polar values are in range, and the new net if they are
 pub record ReplacedInPlace (w n m : ℕ) (ws : List ℤ) (v : ℕ) (xs : List ℤ) (b : Bool) (ys : List ℤ) : Type 0 where

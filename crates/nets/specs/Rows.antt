@@ -71,10 +71,6 @@ nextThird n i k = cond (ltb k ((n - 1) * i)) (k + 1) 0
 abbrev pub mixed : List ℤ → ℕ → ℕ → ℤ → ℤ → ℤ → ℕ → ℤ
 mixed xs d e a b c i = a *ℤ getD xs i (pos 0) +ℤ (b *ℤ getD xs (i + d) (pos 0) +ℤ c *ℤ getD xs (i + e) (pos 0))
 
--- the blend of the number at i with the one d places before it
-abbrev pub mixedBack : List ℤ → ℕ → ℤ → ℤ → ℕ → ℤ
-mixedBack xs d a b i = a *ℤ getD xs i (pos 0) +ℤ b *ℤ getD xs (i - d) (pos 0)
-
 -- the first i rows of a triangle blended with their next rows
 unfoldable pub rowsBlended : ℕ → List ℤ → Weights → ℕ → List ℤ
 rowsBlended w xs ws zero = xs
@@ -86,9 +82,9 @@ rowsBlended w xs ws (suc i) =
 unfoldable pub blended : ℕ → ℕ → ℕ → List ℤ → List ℤ → List ℤ
 blended w n m ws xs = listed w n m (λ c. fixed (suc n) ws (entryAt w n (suc m) xs c) 1) ++ drop (size w n m) xs
 
--- What a step in place answers and leaves, zs being the numbers after it and the first k of them new: b is whether these are within the limit, and then ys is zs; past them ys is as zs in any case.
+-- What a step in place answers and leaves, zs being the numbers after it and the first k of them new: b is whether these are within the limit, and then ys is zs.
 abbrev pub Leaves : ℕ → ℕ → List ℤ → Bool → List ℤ → Type 0
-Leaves limit k zs b ys = (b ≡ all (within limit) (take k zs)) × (b ≡ true → ys ≡ zs) × KeptFrom k zs ys
+Leaves limit k zs b ys = (b ≡ all (within limit) (take k zs)) × (b ≡ true → ys ≡ zs)
 
 -- h steps on a net of degree m
 unfoldable pub level : ℕ → ℕ → ℕ → List ℤ → ℕ → List ℤ → List ℤ

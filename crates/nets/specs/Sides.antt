@@ -12,8 +12,7 @@ use Rattle.entries.specs.Entries.{fixed}
 use Rattle.entries.specs.Rows.{entryAt, size}
 use Rattle.projection.specs.Projection.{inRange}
 use Rattle.machine.specs.declared.Weights.{Weights}
-use Rattle.nets.specs.Rows.{Sized, Bounded, weightSum}
-use Rattle.nets.specs.Levels.{allNamedAt, replacedList}
+use Rattle.nets.specs.Rows.{KeptFrom, Sized, Bounded, weightSum}
 
 -- the blend of the number at i with the one d places before and the one e places further on
 abbrev pub mixedAcross : List ℤ → ℕ → ℕ → ℤ → ℤ → ℤ → ℕ → ℤ
@@ -54,7 +53,7 @@ pub record LevelAsked (m h : ℕ) (weights : Weights) (xs : List ℤ) : Type 0 w
 -- what it answers and leaves: whether the new numbers are in range, and then the level
 pub record Levelled (w n m : ℕ) (ws : List ℤ) (v h : ℕ) (xs : List ℤ) (b : Bool) (ys : List ℤ) : Type 0 where
   pub kept : length ys ≡ length xs
-  pub past : b ≡ true → (i : ℕ) → size w n m ≤ i → getD ys i (pos 0) ≡ getD xs i (pos 0)
+  pub past : b ≡ true → KeptFrom (size w n m) xs ys
   pub each : b ≡ true → (c : ℕ) (e : List ℕ) → Stands w n m c e → entryAt w n m ys c e ≡ steppedAt w n m ws v h xs c e
   pub small : b ≡ true → (c : ℕ) (e : List ℕ) → Stands w n m c e → h < getD e v 0 → inRange (steppedAt w n m ws v h xs c e) ≡ true
   pub large : b ≡ false → Beyond w n m ws v h xs

@@ -13,7 +13,7 @@ ghost use Rattle.kinds.specs.Kinds.{group, groupsOf, dimensionOf};
 ghost use Rattle.machine.specs.Refusals.{_else_, firstFailed};
 ghost use Rattle.machine.specs.Calls.{weightList, ownTests};
 ghost use Rattle.machine.specs.Nets.{handedTests};
-ghost use Rattle.nets.specs.Levels.{Descends, Replaces, ReplacedInPlace};
+ghost use Rattle.nets.specs.Levels.{Descends, Replaces};
 ghost use Rattle.nets.specs.Flips.{flippedList};
 ghost use Rattle.nets.specs.Parts.{
   inParts,
@@ -36,7 +36,6 @@ ghost use Rattle.nets.specs.Calls.{
 };
 use crate::flips::flip_entries;
 use crate::levels::descend;
-use crate::levels::descend_back;
 use crate::rows::FEW;
 use crate::rows::LIMIT;
 use crate::rows::PLACES;
@@ -44,6 +43,7 @@ use crate::rows::SOME;
 use crate::rows::copy;
 use crate::rows::entries_within;
 use crate::rows::numbers;
+use crate::sides::descend_line;
 use crate::sides::descend_triangle;
 use integers::is_within;
 use kinds::dimension_of;
@@ -237,24 +237,6 @@ pub(crate) fn judge_net(entries: &[i64], kind: u8, degree: u8, second: u8) -> u8
 }
 
 // ---- what calls do
-
-// Goes down the levels of a net of two vertices in place, from the side of the vertex, counted from 0, that is
-// replaced by the point q that the weights name. They leave the new net.
-fn descend_line(
-    xs: &mut [i64],
-    vertex: usize,
-    degree: usize,
-    width: usize,
-    weights: Weights,
-) -> bool
-    requires { ⌜ Descends width 1 degree weights (now xs) × (vertex ≤ 1) ⌝ }
-    ensures { λ b. ⌜ ReplacedInPlace width 1 degree (weightList weights) vertex (now (xs .entry)) b (now (xs .exit)) ⌝ }
-{
-    if vertex == 0 {
-        return descend(xs, 1, degree, width, weights);
-    }
-    descend_back(xs, degree, width, weights)
-}
 
 // Replaces one of two vertices by q, or leaves the rows as they are where a named polar value is out of range: they
 // are saved in a room and put back.

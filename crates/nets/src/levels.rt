@@ -7,10 +7,9 @@ ghost use Prim.Native.Nat.{_+_, _*_, _-_, _≤_};
 ghost use lib.ListN.{length};
 ghost use Rattle.machine.specs.Calls.{weightList};
 ghost use Rattle.nets.specs.Rows.{nextRow, nextThird};
-ghost use Rattle.nets.specs.Levels.{copiedRow, Descends, Descended, ReplacedInPlace};
+ghost use Rattle.nets.specs.Levels.{copiedRow, Descends, Descended};
 use crate::rows::LIMIT;
 use crate::rows::blend;
-use crate::rows::blend_back;
 use machine::Weights;
 
 // Copies a row.
@@ -78,31 +77,6 @@ pub(crate) fn descend(
     let mut h = 0;
     while h < degree {
         if !blend(&mut *cur, dimension, degree - h, width, weights, LIMIT) {
-            return false;
-        }
-        h += 1;
-    }
-    true
-}
-
-// The same with two vertices, from the side of the second: a level is made of the one before it and stands one
-// row later. The row that it leaves free keeps the first one of the level before, which is the new entry there.
-pub(crate) fn descend_back(cur: &mut [i64], degree: usize, width: usize, weights: Weights) -> bool
-    requires { ⌜ Descends width 1 degree weights (now cur) ⌝ }
-    ensures { λ b. ⌜ ReplacedInPlace width 1 degree (weightList weights) 1 (now (cur .entry)) b (now (cur .exit)) ⌝ }
-{
-    let end = width * (degree + 1);
-    let mut h = 0;
-    while h < degree {
-        if !blend_back(
-            &mut *cur,
-            width * (h + 1),
-            end,
-            width,
-            weights.s,
-            weights.r,
-            LIMIT,
-        ) {
             return false;
         }
         h += 1;

@@ -15,9 +15,7 @@ ghost use Rattle.entries.specs.Rows.{size, offset};
 ghost use Rattle.machine.specs.Calls.{weightList};
 ghost use Rattle.nets.specs.Rows.{
   written,
-  KeptFrom,
   mixed,
-  mixedBack,
   ranged,
   weightSum,
   Bounded,
@@ -161,7 +159,7 @@ pub(crate) fn blend_row(
     limit: u64,
 ) -> bool
     requires { ⌜ (1 ≤ d) × (d ≤ e) × (from + count + e ≤ length (now xs)) × Bounded (now xs) from (from + count + e) (natAbs a + natAbs b + natAbs c) ⌝ }
-    ensures { λ r. ⌜ (r ≡ ranged limit (mixed (now (xs .entry)) d e a b c) from count) × (r ≡ true → now (xs .exit) ≡ written (now (xs .entry)) from count (mixed (now (xs .entry)) d e a b c)) × KeptFrom (from + count) (now (xs .entry)) (now (xs .exit)) ⌝ }
+    ensures { λ r. ⌜ (r ≡ ranged limit (mixed (now (xs .entry)) d e a b c) from count) × (r ≡ true → now (xs .exit) ≡ written (now (xs .entry)) from count (mixed (now (xs .entry)) d e a b c)) ⌝ }
 {
     let end = from + count;
     let mut f = from;
@@ -172,32 +170,6 @@ pub(crate) fn blend_row(
             return false;
         }
         f += 1;
-    }
-    true
-}
-
-// Blends the numbers from the last one down, each with the one d places before it, which is not blended yet. The
-// first blended number beyond the limit ends the work.
-pub(crate) fn blend_back(
-    xs: &mut [i64],
-    from: usize,
-    end: usize,
-    d: usize,
-    a: i64,
-    b: i64,
-    limit: u64,
-) -> bool
-    requires { ⌜ (d ≤ from) × (from ≤ end) × (end ≤ length (now xs)) × Bounded (now xs) (from - d) end (natAbs a + natAbs b) ⌝ }
-    ensures { λ r. ⌜ (r ≡ ranged limit (mixedBack (now (xs .entry)) d a b) from (end - from)) × (r ≡ true → now (xs .exit) ≡ written (now (xs .entry)) from (end - from) (mixedBack (now (xs .entry)) d a b)) × KeptFrom end (now (xs .entry)) (now (xs .exit)) ⌝ }
-{
-    let mut f = end;
-    while f != from {
-        f -= 1;
-        let v = mix(a, xs[f], b, xs[f - d], 0, 0);
-        xs[f] = v;
-        if !is_within(v, limit) {
-            return false;
-        }
     }
     true
 }

@@ -1,7 +1,8 @@
-// The second and the third vertex of a triangle replaced in place, level by level. With each level every entry that has
-// more copies of the vertex than there were levels gets one more copy of the point q that the weights name, in place of
-// one of the vertex: a blend of the entry with two that have one copy of the vertex less. So the entries with more
-// copies go first. Vertices are counted from 0 here, and rows have four numbers.
+// Vertices of lines and triangles replaced in place, level by level. With each level every entry that has more copies of
+// the vertex than there were levels gets one more copy of the point q that the weights name, in place of one of the
+// vertex: a blend of the entry with those that have one copy of the vertex less and one of another more. So the entries
+// with more copies go first. For the first vertex these are the levels of a point, in levels.rt. Vertices are counted
+// from 0 here, and the rows of a triangle have four numbers.
 ghost use mathlib.Core.Path.{_≡_};
 ghost use mathlib.Core.Bool.{true};
 ghost use Prim.Native.Nat.{_+_, _-_, _≤_};
@@ -75,7 +76,7 @@ pub(crate) fn blend_down(
     true
 }
 
-// ---- one level
+// ---- one level of a triangle
 
 // Level 1 + h of the second vertex. Row i has the entries with i copies of the second and the third vertex together;
 // the partners of an entry are in the row before and further on in its row.
@@ -130,7 +131,53 @@ pub(crate) fn level_third(xs: &mut [i64], degree: usize, h: usize, weights: Weig
     true
 }
 
-// ---- all levels
+// ---- all levels of a line
+
+// Replaces the second vertex of a line in place. Row i has the entry with i copies of it, and the partner of an entry is
+// the row before. The work ends with the first number that is out of range.
+pub(crate) fn descend_back(cur: &mut [i64], degree: usize, width: usize, weights: Weights) -> bool
+    requires { ⌜ Descends width 1 degree weights (now cur) ⌝ }
+    ensures { λ b. ⌜ ReplacedInPlace width 1 degree (weightList weights) 1 (now (cur .entry)) b (now (cur .exit)) ⌝ }
+{
+    let end = width * (degree + 1);
+    let mut h = 0;
+    while h < degree {
+        if !blend_down(
+            &mut *cur,
+            width * (h + 1),
+            end,
+            width,
+            width,
+            weights.s,
+            weights.r,
+            0,
+            LIMIT,
+        ) {
+            return false;
+        }
+        h += 1;
+    }
+    true
+}
+
+// Replaces a vertex of a line in place.
+pub(crate) fn descend_line(
+    xs: &mut [i64],
+    vertex: usize,
+    degree: usize,
+    width: usize,
+    weights: Weights,
+) -> bool
+    requires { ⌜ Descends width 1 degree weights (now xs) × (vertex ≤ 1) ⌝ }
+    ensures { λ b. ⌜ ReplacedInPlace width 1 degree (weightList weights) vertex (now (xs .entry)) b (now (xs .exit)) ⌝ }
+{
+    if vertex == 0 {
+        return descend(xs, 1, degree, width, weights);
+    }
+    descend_back(xs, degree, width, weights)
+}
+
+// ---- all levels of a triangle
 
 // Replaces the second vertex of a triangle in place. The work ends with the first number that is out of range.
 pub(crate) fn descend_second(xs: &mut [i64], degree: usize, weights: Weights) -> bool

@@ -7,7 +7,7 @@ use mathlib.Core.Path.{refl, _∙_}
 use Rattle.integers.proofs.All.{clash}
 use Rattle.machine.specs.Calls.{weightList}
 use Rattle.nets.proofs.Places.{smaller, degree-below}
-use Rattle.nets.proofs.Descent.{At, at-first, at-next, at-kept, at-past, at-fails, at-last, at-room, at-bounded}
+use Rattle.nets.proofs.Descent.{At, at-first, at-next, at-fails, at-last, at-room, at-bounded}
 use Rattle.nets.proofs.levels.descend.Statement.{statement}
 use Rattle.nets.proofs.levels.descend.Tie as tie
 
@@ -47,8 +47,6 @@ returns c =
           (k .result) (k .ensures .0) (not-true (k .result) (c .if1 .taken));
       last = λ b. absurd (clash b refl);
       kept = k .kept .0 ∙ l .inv .long;
-      past = at-kept (a .width) (a .dimension) (a .degree) (a .weights) (a .cur .now) (s .pre) (l .cur) (l .h) (l .inv) (c .before .before .before .before .loop-test .taken)
-          (k .result) (k .ensures .0) (k .last .0) (k .ensures .2);
     }
 
 add-h : tie.Need-add-h Inv-loop μ-loop
@@ -78,12 +76,7 @@ returns-2 c =
     let a = s .args in
     let l = c .before .loop in
     let done = at-last (a .width) (a .dimension) (a .degree) (a .weights) (a .cur .now) (s .pre) (l .cur) (l .h) (l .inv) (c .loop-test .left) in
-    record {
-      named = done .0;
-      last = λ b. done .1;
-      kept = l .inv .long;
-      past = at-past (a .width) (a .dimension) (a .degree) (a .weights) (a .cur .now) (s .pre) (l .cur) (l .h) (l .inv);
-    }
+    record { named = done .0; last = λ b. done .1; kept = l .inv .long }
 
 pub descend-spec : {M : Type 1} → statement M
 descend-spec =

@@ -34,7 +34,7 @@ blend-row-requires c κs =
       s .pre .0 .some,
       search needs,
       omega (arith, whole, s .pre .2),
-      bounded-less (s .args .xs .now) 0 (size (s .args .width) (s .args .dimension) (s .args .degree)) (0 + s .args .width * s .args .degree + s .args .width) (weightSum (s .args .weights))
+      bounded-less (s .args .xs .now) (size (s .args .width) (s .args .dimension) (s .args .degree)) 0 (0 + s .args .width * s .args .degree + s .args .width) (weightSum (s .args .weights))
           (natAbs (seen (s .args .weights .r)) + natAbs (seen (s .args .weights .s)) + 0) (omega (arith, whole)) (omega (arith, ap natAbs (first-read s), ap natAbs (second-read s))) (s .pre .3),
     )
 
@@ -44,7 +44,7 @@ returns c =
     let a = s .args in
     let row = c .before .blend-row in
     curve-made (a .limit) (a .width) (a .dimension) (s .pre .0 .some) (a .xs .now) (a .weights) (row .result) (row .last .0) (a .degree) (c .before .before .before .before .before .if1 .taken) (s .pre .1) (s .pre .2)
-    (seen (a .weights .r)) (seen (a .weights .s)) (first-read s) (second-read s) (row .ensures .0) (row .ensures .1) (row .ensures .2)
+    (seen (a .weights .r)) (seen (a .weights .s)) (first-read s) (second-read s) (row .ensures .0) (row .ensures .1)
 
 blend-rows-requires : tie.Need-blend-rows-requires
 blend-rows-requires c κs =

@@ -6,7 +6,7 @@ use native.Mathlib.Nat.{sub-self}
 use native.Mathlib.Omega.{arith}
 use mathlib.Core.Path.{_≡_, refl, sym, ap, ap₂, _∙_}
 use lib.IntN.{ℤ}
-use lib.ListN.{length, set, length-set}
+use lib.ListN.{length, length-set}
 use mir.Syntax.{w64}
 use mir.Val.{toZ}
 use Rattle.nets.specs.Rows.{written, mixed, ranged}
@@ -14,7 +14,7 @@ use Rattle.integers.specs.Test.{within}
 use Rattle.integers.proofs.All.{clash}
 use Rattle.integers.proofs.Signed.{seen}
 use Rattle.nets.proofs.Row.{row-small, row-value, row-step, row-weights}
-use Rattle.nets.proofs.Lists.{write-kept, ranged-next, ranged-fails}
+use Rattle.nets.proofs.Lists.{ranged-next, ranged-fails}
 use mathlib.Core.Bool.{true}
 use Rattle.nets.proofs.rows.blend_row.Statement.{statement}
 use Rattle.nets.proofs.rows.blend_row.Tie as tie
@@ -59,18 +59,6 @@ value c =
     (l .xs) (l .f) (l .inv .0) (below (c .before .before .before .before)) (s .pre .0) (s .pre .1) (l .inv .2)
     (c .before .before .before .mix-arg .given) (c .before .before .mix-arg2 .given) (c .before .mix-arg3 .given) (c .mix .result) (sfits-of (c .mix .ok)) (c .mix .ensures)
 
--- the list that it is written to
-stands : (c : tie.After-mix Inv-loop μ-loop)
-    → let s = c .before .before .before .before .before .before in
-    let l = c .before .before .before .before .before .loop in
-    set (l .xs) (l .f) (seen (c .mix .result)) ≡ written (s .args .xs .now) (s .args .from) (l .f + 1 - s .args .from) (blends s)
-stands c =
-    let s = c .before .before .before .before .before .before in
-    let l = c .before .before .before .before .before .loop in
-    row-step (s .args .xs .now) (s .args .from) (s .args .count) (s .args .d) (s .args .e) (s .args .a) (s .args .b) (s .args .c) (s .fits .a) (s .fits .b) (s .fits .c)
-    (l .xs) (l .f) (l .inv .0) (below (c .before .before .before .before)) (s .pre .0) (s .pre .1) (l .inv .2)
-    (c .before .before .before .mix-arg .given) (c .before .before .mix-arg2 .given) (c .before .mix-arg3 .given) (c .mix .result) (sfits-of (c .mix .ok)) (c .mix .ensures)
-
 returns : tie.Need-returns Inv-loop μ-loop
 returns c =
     let m = c .before .before in
@@ -79,7 +67,6 @@ returns c =
     let beyond = sym (ap (within (s .args .limit)) (value m)) ∙ sym (c .before .is-within .ensures) ∙ not-true (c .before .is-within .result) (c .if1 .taken) in (
       sym (ap (λ g. ranged (s .args .limit) g (s .args .from) (s .args .count)) (sym (weights s)) ∙ ranged-fails (s .args .limit) (blends s) (s .args .from) (l .f) (s .args .count) (l .inv .0) (below (m .before .before .before .before)) beyond),
       λ b. absurd (clash b refl),
-      write-kept (s .args .xs .now) _ (s .args .from) (l .f + 1 - s .args .from) (s .args .from + s .args .count) (blends s) (omega (arith, l .inv .0, below (m .before .before .before .before))) (stands m),
     )
 
 loop-again : tie.Need-loop-again Inv-loop μ-loop
@@ -89,7 +76,9 @@ loop-again c =
     let l = m .before .before .before .before .before .loop in (
       search needs,
       search needs,
-      stands m,
+      row-step (s .args .xs .now) (s .args .from) (s .args .count) (s .args .d) (s .args .e) (s .args .a) (s .args .b) (s .args .c) (s .fits .a) (s .fits .b) (s .fits .c)
+          (l .xs) (l .f) (l .inv .0) (below (m .before .before .before .before)) (s .pre .0) (s .pre .1) (l .inv .2)
+          (m .before .before .before .mix-arg .given) (m .before .before .mix-arg2 .given) (m .before .mix-arg3 .given) (m .mix .result) (sfits-of (m .mix .ok)) (m .mix .ensures),
       length-set (l .xs) (l .f) _ ∙ l .inv .3,
       ranged-next (s .args .limit) (blends s) (s .args .from) (l .f) (l .inv .0) (l .inv .4)
           (sym (ap (within (s .args .limit)) (value m)) ∙ sym (c .before .is-within .ensures) ∙ not-false (c .before .is-within .result) (c .if1 .left)),
@@ -102,7 +91,6 @@ returns-2 c =
     let whole : l .f - s .args .from ≡ s .args .count = omega arith in (
       sym (ap₂ (λ k g. ranged (s .args .limit) g (s .args .from) k) (sym whole) (sym (weights s)) ∙ l .inv .4),
       λ b. l .inv .2 ∙ ap₂ (λ k g. written (s .args .xs .now) (s .args .from) k g) whole (weights s),
-      write-kept (s .args .xs .now) (l .xs) (s .args .from) (l .f - s .args .from) (s .args .from + s .args .count) (blends s) (omega (arith, l .inv .0, l .inv .1)) (l .inv .2),
     )
 
 pub blend-row-spec : {M : Type 1} → statement M

@@ -18,7 +18,7 @@ use Rattle.machine.specs.declared.Weights.{Weights}
 use Rattle.nets.specs.Rows.{mixed, ranged, Bounded, rowsBlended, weightSum}
 use Rattle.nets.proofs.Lists.{ranged-more, ranged-list}
 use Rattle.nets.proofs.Row.{element}
-use Rattle.nets.proofs.PatchRows.{tri, before-end, turn-fits, turn-bounded, turn-next, turn-step, turn-kept, turn-fails, rows-weights}
+use Rattle.nets.proofs.PatchRows.{tri, before-end, turn-fits, turn-bounded, turn-next, turn-step, turn-fails, rows-weights}
 use Rattle.nets.proofs.rows.blend_rows.Statement.{statement}
 use Rattle.nets.proofs.rows.blend_rows.Tie as tie
 
@@ -107,9 +107,6 @@ returns c =
           ∙ turn-fails w (s .args .xs .now) (l .xs) (read s) (l .i) (s .args .degree) (l .from) (d .before .before .loop-test .taken) (l .inv .1) (l .inv .2) (s .args .limit) (s .pre .1)
           (row-beyond d false (not-true (d .blend-row .result) (c .if1 .taken)))),
       λ b. absurd (clash b refl),
-      λ p past.
-          turn-kept w (s .args .xs .now) (l .xs) (read s) (l .i) (s .args .degree) (l .from) (d .before .before .loop-test .taken) (l .inv .1) (l .inv .2) (d .blend-row .last .0) (d .blend-row .ensures .2) p past
-          ∙ ap (λ ys. getD ys p (pos 0)) (read-rows s (s .args .degree)),
     )
 
 add-from : tie.Need-add-from Inv-loop μ-loop
@@ -155,7 +152,7 @@ returns-2 c =
     let is : l .xs ≡ rowsBlended (s .args .width) (s .args .xs .now) (s .args .weights) (s .args .degree) =
     l .inv .2 ∙ read-rows s (l .i) ∙ ap (rowsBlended (s .args .width) (s .args .xs .now) (s .args .weights)) whole in
     let here : l .from ≤ length (l .xs) = omega (arith, l .inv .1, l .inv .3, s .pre .1, before-end (s .args .width) (l .i) (s .args .degree) (l .inv .0)) in
-    (sym (ap₂ (λ ys k. all (within (s .args .limit)) (take k ys)) (sym is) (sym (l .inv .1 ∙ ap (λ i. s .args .width * tri i) whole)) ∙ sym (ranged-list (s .args .limit) (l .xs) (l .from) here) ∙ l .inv .4), λ b. is, λ p past. ap (λ ys. getD ys p (pos 0)) is)
+    (sym (ap₂ (λ ys k. all (within (s .args .limit)) (take k ys)) (sym is) (sym (l .inv .1 ∙ ap (λ i. s .args .width * tri i) whole)) ∙ sym (ranged-list (s .args .limit) (l .xs) (l .from) here) ∙ l .inv .4), λ b. is)
 
 pub blend-rows-spec : {M : Type 1} → statement M
 blend-rows-spec =

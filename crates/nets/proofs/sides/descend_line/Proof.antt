@@ -1,12 +1,12 @@
--- `descend_line` meets its contract: the last level from the side of the first vertex is the net with that one replaced, and from the side of the second the net with the second replaced.
+-- `descend_line` meets its contract, vertex by vertex. The levels of the first vertex are those of a point, which leave the new net in place.
 use borrow.Author.Needs.{needs}
 use native.Mathlib.Omega.{arith}
 use mathlib.Core.Path.{_≡_, sym, subst}
 use Rattle.machine.specs.Calls.{weightList}
 use Rattle.nets.specs.Levels.{ReplacedInPlace}
 use Rattle.nets.proofs.SideValues.{descended-replaces}
-use Rattle.nets.proofs.calls.descend_line.Statement.{statement}
-use Rattle.nets.proofs.calls.descend_line.Tie as tie
+use Rattle.nets.proofs.sides.descend_line.Statement.{statement}
+use Rattle.nets.proofs.sides.descend_line.Tie as tie
 
 returns : tie.Need-returns
 returns c =
