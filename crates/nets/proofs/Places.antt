@@ -77,13 +77,13 @@ counts-at-rank n m e l t = ap (λ p. getD (counts n m) p []) (sym (place-rank n 
 
 -- the entry with i copies of the vertices after the first, k of them of the third
 module _ (n m i k : ℕ) (low : 1 ≤ n) (high : n ≤ 2) (below : i ≤ m) (third : k ≤ (n - 1) * i) where
-  pub counts-length : length (countsAt n m i k) ≡ suc n
+  counts-length : length (countsAt n m i k) ≡ suc n
   counts-length = by-dimension (λ d. length (countsAt d m i k) ≡ suc d) n low high refl refl
 
-  pub counts-total-is : total (countsAt n m i k) ≡ m
+  counts-total-is : total (countsAt n m i k) ≡ m
   counts-total-is = by-dimension (λ d. k ≤ (d - 1) * i → total (countsAt d m i k) ≡ m) n low high (λ h. omega arith) (λ h. omega arith) third
 
-  pub counts-rank : rank n (countsAt n m i k) ≡ placeAt n i k
+  counts-rank : rank n (countsAt n m i k) ≡ placeAt n i k
   counts-rank =
       by-dimension (λ d. k ≤ (d - 1) * i → rank d (countsAt d m i k) ≡ placeAt d i k) n low high (λ h. rank-curve (m - i) i)
       (λ h. rank-patch (m - i) (i - k) k ∙ ap (λ y. offset (counts 1) y + k) (together h)) third

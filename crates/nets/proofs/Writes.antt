@@ -7,12 +7,11 @@ use mathlib.Core.Bool.{Bool, true, false, cond}
 use mathlib.Core.List.{List}
 use lib.Dec.{ltb}
 use borrow.Author.Tests.{ltb-true, ltb-false}
-use lib.IntN.{ℤ, pos}
-use lib.ListN.{length, getD}
+use lib.IntN.{ℤ}
+use lib.ListN.{length}
 use Rattle.entries.specs.Rows.{size}
 use Rattle.nets.specs.Rows.{Sized, placeAt, nextRow, nextThird, written}
-use Rattle.nets.specs.Levels.{copiedRow}
-use Rattle.nets.proofs.Lists.{written-append, written-cong}
+use Rattle.nets.proofs.Lists.{written-append}
 use Rattle.nets.proofs.Places.{by-dimension, degree-below, place-inside, place-step, place-row, place-whole}
 
 -- one entry more of a row
@@ -21,12 +20,6 @@ pub row-more : (w n i k : ℕ) (g : ℕ → ℤ) (out cur ys : List ℤ) → 1 �
 row-more w n i k g out cur ys low high third inv is =
     is ∙ ap₂ (λ l p. written l p w g) inv (ap (λ p. w * p) (place-step n i k low high third) ∙ mul-add w (placeAt n i 0) k)
     ∙ written-append out (w * placeAt n i 0) (w * k) w g ∙ ap (λ c. written out (w * placeAt n i 0) c g) (sym (mul-add w k 1 ∙ ap (λ y. w * k + y) (mul-one w)))
-
--- a row, copied: what is written is what stands in the other list
-pub row-copied : (w : ℕ) (out : List ℤ) (to : ℕ) (xs : List ℤ) (from : ℕ) (g : ℕ → ℤ) → ((c : ℕ) → c < w → getD xs (w * from + c) (pos 0) ≡ g (w * to + c)) → copiedRow w out to xs from ≡ written out (w * to) w g
-row-copied w out to xs from g h =
-    written-cong out (w * to) w (λ i. getD xs (w * from + (i - w * to)) (pos 0)) g
-    (λ i lo up. let c-below : i - w * to < w = omega arith in let i-is : w * to + (i - w * to) ≡ i = omega arith in h (i - w * to) c-below ∙ ap g i-is)
 
 -- ---- a loop over all entries: the next is entry p, which has i copies of the vertices after the first, k of them of the third, and the entries before it are written
 
