@@ -105,10 +105,6 @@ impl Group {
         Group { degree, ..self }
     }
 
-    fn of_width(self, width: usize) -> Group {
-        Group { width, ..self }
-    }
-
     /// Where entry k of row n stands; a curve has one entry in each row.
     fn place(self, n: usize, k: usize) -> usize {
         if self.dimension == 1 { n } else { n * (n + 1) / 2 + k }
@@ -245,53 +241,65 @@ fn weights_in(w: [i64; 4], used: usize) -> bool {
     !unused && w.iter().all(|v| (-4096..=4096).contains(v))
 }
 
-/// Copies the entries from place `at` on, the copies of the first vertex and of vertex v exchanged. On the way
-/// back into a net the largest absolute number of all that were copied is taken along.
+/// Replaces vertex v in place, from place `at` on, level by level and as far as the blended numbers are in range: an
+/// entry with more copies of the vertex than there were levels is blended with those that have one copy less.
 #[inline(always)]
-fn rename<const BACK: bool>(out: &mut [i64; PLACES], xs: &[i64; PLACES], at: usize, g: Group, v: usize, largest: i64) -> i64 {
-    match (g.dimension, g.width) {
-        (1, 4) => rename_curve::<BACK>(out, xs, at, g.of_width(4), v, largest),
-        (1, _) => rename_curve::<BACK>(out, xs, at, g, v, largest),
-        _ => rename_patch::<BACK>(out, xs, g, v, largest),
+fn replaced(xs: &mut [i64; PLACES], at: usize, g: Group, v: usize, w: [i64; 3]) -> bool {
+    if v == 0 {
+        return descend(xs, at, g, w);
     }
-}
-
-#[inline(always)]
-fn rename_curve<const BACK: bool>(out: &mut [i64; PLACES], xs: &[i64; PLACES], at: usize, g: Group, v: usize, mut largest: i64) -> i64 {
-    let (m, width) = (g.degree, g.width);
-    for n in 0..=m {
-        let (to, from) = (at + width * n, at + width * if v == 0 { n } else { m - n });
-        largest = copied::<BACK>(&mut out[to..to + width], &xs[from..from + width], largest);
-    }
-    largest
-}
-
-fn rename_patch<const BACK: bool>(out: &mut [i64; PLACES], xs: &[i64; PLACES], g: Group, v: usize, mut largest: i64) -> i64 {
-    let m = g.degree;
-    for n in 0..=m {
-        for k in 0..=n {
-            let to = 4 * g.place(n, k);
-            let from = 4 * match v {
-                0 => g.place(n, k),
-                1 => g.place(m - n + k, k),
-                _ => g.place(m - k, m - n),
-            };
-            largest = copied::<BACK>(&mut out[to..to + 4], &xs[from..from + 4], largest);
+    for h in 0..g.degree {
+        let good = match (g.dimension, g.width, v) {
+            (1, 4, _) => line_level(xs, at, g.degree, 4, h, w),
+            (1, width, _) => line_level(xs, at, g.degree, width, h, w),
+            (_, _, 1) => second_level(xs, g.degree, h, w),
+            _ => third_level(xs, g.degree, h, w),
+        };
+        if !good {
+            return false;
         }
     }
-    largest
+    true
 }
 
-/// Copies numbers; those that go back are in range.
+/// The second vertex of a curve: each row with the one before, from the last number down.
 #[inline(always)]
-fn copied<const BACK: bool>(out: &mut [i64], xs: &[i64], mut largest: i64) -> i64 {
-    out.copy_from_slice(xs);
-    if BACK {
-        for v in xs {
-            largest = largest.max(v.abs());
+fn line_level(xs: &mut [i64; PLACES], at: usize, m: usize, width: usize, h: usize, w: [i64; 3]) -> bool {
+    let mut good = true;
+    for i in (at + width * (h + 1)..at + width * (m + 1)).rev() {
+        let v = w[1] * xs[i] + w[0] * xs[i - width];
+        xs[i] = v;
+        good &= in_range(v);
+    }
+    good
+}
+
+/// The second vertex of a patch: the last row first, and a row from its first number on.
+fn second_level(xs: &mut [i64; PLACES], m: usize, h: usize, w: [i64; 3]) -> bool {
+    let mut good = true;
+    for n in (h + 1..=m).rev() {
+        let from = 2 * n * (n + 1);
+        for p in from..from + 4 * (n - h) {
+            let v = w[1] * xs[p] + w[0] * xs[p - 4 * n] + w[2] * xs[p + 4];
+            xs[p] = v;
+            good &= in_range(v);
         }
     }
-    largest
+    good
+}
+
+/// The third: the last row first, and a row from its last number down.
+fn third_level(xs: &mut [i64; PLACES], m: usize, h: usize, w: [i64; 3]) -> bool {
+    let mut good = true;
+    for n in (h + 1..=m).rev() {
+        let row = 2 * n * (n + 1);
+        for p in (row + 4 * (h + 1)..row + 4 * (n + 1)).rev() {
+            let v = w[2] * xs[p] + w[0] * xs[p - 4 * (n + 1)] + w[1] * xs[p - 4];
+            xs[p] = v;
+            good &= in_range(v);
+        }
+    }
+    good
 }
 
 /// What a vertex belongs to: how the net looks from there, and which of its vertices it is.
@@ -300,8 +308,8 @@ fn seat(shape: Shape, vertex: u8) -> (Group, usize) {
     if shape.kind == 3 && v >= 2 { (shape.second_pair(), v - 2) } else { (shape.first(), v) }
 }
 
-/// A replace: the number of the refusal, and the net is changed only where it is 0. The vertex comes
-/// first in a room of its own, where the blends in place leave the new net.
+/// A replace: the number of the refusal, and the net is changed only where it is 0. The blends are made where the
+/// entries stand, which are saved and put back after a refusal.
 pub fn replace(net: &mut [i64], vertex: u8, w: [i64; 4]) -> u8 {
     let shape = match handed(net) {
         Ok(shape) => shape,
@@ -326,26 +334,19 @@ pub fn replace(net: &mut [i64], vertex: u8, w: [i64; 4]) -> u8 {
     if !all_in_range(&q) {
         return 12;
     }
-    let mut first = [w[0], w[1], w[2]];
-    first.swap(0, v);
     let n = shape.numbers();
-    let mut room = [0; PLACES];
+    let mut saved = [0; PLACES];
+    saved[..n].copy_from_slice(&entries(net)[..n]);
     let mut at = 0;
     while at < n {
-        rename::<false>(&mut room, entries(net), at, g, v, 0);
-        if !descend(&mut room, at, g, first) {
+        if !replaced(entries_mut(net), at, g, v, [w[0], w[1], w[2]]) {
+            entries_mut(net)[..n].copy_from_slice(&saved[..n]);
             return 10;
         }
         at += g.numbers();
     }
-    at = 0;
-    let mut largest = 0;
-    while at < n {
-        largest = rename::<true>(entries_mut(net), &room, at, g, v, largest);
-        at += g.numbers();
-    }
     net[place..place + size].copy_from_slice(&q[..size]);
-    net[LARGEST] = largest;
+    net[LARGEST] = entries(net)[..n].iter().map(|v| v.abs()).max().unwrap_or(0);
     0
 }
 
