@@ -22,7 +22,7 @@
  * written is in no other buffer of the same call. Places past what a call writes keep their values.
  *
  * STACK. A call takes at most GADWEMOSH_STACK bytes of stack. Seen were 15 KB for a text, 11 KB for a field,
- * 9 KB for opening, 7 KB for a first net, 2.3 KB for a move and below 2 KB for the others (tests/callers/stack.c). At
+ * 9 KB for opening, 7 KB for a first net, 2.7 KB for a move and below 2 KB for the others (tests/callers/stack.c). At
  * the first call the dynamic linker may take 3 KB more, when it looks up memcpy and memset.
  *
  * A NET is a run of GADWEMOSH_NET numbers or more that the caller lends:
