@@ -28,6 +28,10 @@ unfoldable pub ranged : ℕ → (ℕ → ℤ) → ℕ → ℕ → Bool
 ranged limit g from zero = true
 ranged limit g from (suc k) = ranged limit g from k && within limit (g (from + k))
 
+-- what writing blends in place answers and leaves, g i being the blend at each place i of from, from + 1, .., from + k - 1: whether all are within the limit, and then they stand there
+abbrev pub BlendsLeft : ℕ → (ℕ → ℤ) → ℕ → ℕ → List ℤ → Bool → List ℤ → Type 0
+BlendsLeft limit g from k xs b ys = (b ≡ ranged limit g from k) × (b ≡ true → ys ≡ written xs from k g)
+
 -- the numbers of a list from place lo up to hi are so small that a sum of them with weights of W in all fits 64 bits
 pub record Bounded (xs : List ℤ) (lo hi W : ℕ) : Type 0 where
   pub bound : ℕ

@@ -3,7 +3,6 @@
 // The functions of this crate below the calls see one group of a net: 1 + dimension vertices, a degree,
 // and a row of `width` numbers for each entry, whatever the kind is.
 ghost use mathlib.Core.Path.{_≡_};
-ghost use mathlib.Core.Bool.{true};
 ghost use Prim.Native.Nat.{pred, max, _+_, _*_, _-_, _<_, _≤_, _^_};
 ghost use lib.IntN.{pos, natAbs, _+ℤ_, _*ℤ_};
 ghost use mathlib.Core.List.{[], _∷_};
@@ -16,7 +15,7 @@ ghost use Rattle.machine.specs.Calls.{weightList};
 ghost use Rattle.nets.specs.Rows.{
   written,
   mixed,
-  ranged,
+  BlendsLeft,
   weightSum,
   Bounded,
   Whole,
@@ -159,7 +158,7 @@ pub(crate) fn blend_row(
     limit: u64,
 ) -> bool
     requires { ⌜ (1 ≤ d) × (d ≤ e) × (from + count + e ≤ length (now xs)) × Bounded (now xs) from (from + count + e) (natAbs a + natAbs b + natAbs c) ⌝ }
-    ensures { λ r. ⌜ (r ≡ ranged limit (mixed (now (xs .entry)) d e a b c) from count) × (r ≡ true → now (xs .exit) ≡ written (now (xs .entry)) from count (mixed (now (xs .entry)) d e a b c)) ⌝ }
+    ensures { λ r. ⌜ BlendsLeft limit (mixed (now (xs .entry)) d e a b c) from count (now (xs .entry)) r (now (xs .exit)) ⌝ }
 {
     let end = from + count;
     let mut f = from;

@@ -3,13 +3,11 @@
 // vertex: a blend of the entry with those that have one copy of the vertex less and one of another more. So the entries
 // with more copies go first. For the first vertex these are the levels of a point, in levels.rt. Vertices are counted
 // from 0 here, and the rows of a triangle have four numbers.
-ghost use mathlib.Core.Path.{_≡_};
-ghost use mathlib.Core.Bool.{true};
 ghost use Prim.Native.Nat.{_+_, _-_, _≤_};
 ghost use lib.IntN.{natAbs};
 ghost use lib.ListN.{length};
 ghost use Rattle.machine.specs.Calls.{weightList};
-ghost use Rattle.nets.specs.Rows.{written, ranged, Bounded};
+ghost use Rattle.nets.specs.Rows.{BlendsLeft, Bounded};
 ghost use Rattle.nets.specs.Levels.{Descends, ReplacedInPlace};
 ghost use Rattle.nets.specs.Sides.{mixedAcross, mixedDown, LevelAsked, Levelled};
 use crate::levels::descend;
@@ -34,7 +32,7 @@ pub(crate) fn blend_across(
     limit: u64,
 ) -> bool
     requires { ⌜ (d ≤ from) × (from ≤ end) × (end ≤ from + d) × (1 ≤ e) × (end + e ≤ length (now xs)) × Bounded (now xs) (from - d) (end + e) (natAbs a + natAbs b + natAbs c) ⌝ }
-    ensures { λ r. ⌜ (r ≡ ranged limit (mixedAcross (now (xs .entry)) d e a b c) from (end - from)) × (r ≡ true → now (xs .exit) ≡ written (now (xs .entry)) from (end - from) (mixedAcross (now (xs .entry)) d e a b c)) ⌝ }
+    ensures { λ r. ⌜ BlendsLeft limit (mixedAcross (now (xs .entry)) d e a b c) from (end - from) (now (xs .entry)) r (now (xs .exit)) ⌝ }
 {
     let mut f = from;
     while f != end {
@@ -62,7 +60,7 @@ pub(crate) fn blend_down(
     limit: u64,
 ) -> bool
     requires { ⌜ (1 ≤ e) × (e ≤ d) × (d ≤ from) × (from ≤ end) × (end ≤ length (now xs)) × Bounded (now xs) (from - d) end (natAbs a + natAbs b + natAbs c) ⌝ }
-    ensures { λ r. ⌜ (r ≡ ranged limit (mixedDown (now (xs .entry)) d e a b c) from (end - from)) × (r ≡ true → now (xs .exit) ≡ written (now (xs .entry)) from (end - from) (mixedDown (now (xs .entry)) d e a b c)) ⌝ }
+    ensures { λ r. ⌜ BlendsLeft limit (mixedDown (now (xs .entry)) d e a b c) from (end - from) (now (xs .entry)) r (now (xs .exit)) ⌝ }
 {
     let mut f = end;
     while f != from {
