@@ -3,9 +3,9 @@
 use Prim.Native.Nat.{ℕ, zero, suc, _+_, _<_}
 use native.Mathlib.Nat.{suc-add, add-suc, zero-add, not-suc-le-zero, le-of-suc-le-suc}
 use mathlib.Core.Path.{_≡_, refl, sym, ap, _∙_, fun-ext}
-use mathlib.Core.Bool.{Bool, true, false, not, cond}
+use mathlib.Core.Bool.{cond}
 use mathlib.Core.List.{List, [], _∷_, _++_, map, append-assoc}
-use lib.IntN.{ℤ, pos, negℤ, negℤ-negℤ, _*ℤ_}
+use lib.IntN.{ℤ, pos, negℤ, _*ℤ_}
 use lib.ListN.{length, getD, set, replicate}
 use Rattle.integers.specs.Sum.{sum, upto}
 use Rattle.integers.proofs.Sums.{sum-cong, sum-upto-cong}
@@ -14,6 +14,7 @@ use Rattle.polar.specs.Order.{total}
 use Rattle.entries.specs.Frame.{taken, combination}
 use Rattle.entries.specs.Form.{Form}
 use Rattle.entries.specs.Entries.{raise, fixed, odd}
+use Rattle.entries.proofs.Signs.{signed, signed-suc}
 
 -- the form with the points R fixed
 pub fixing : {d : ℕ} {G : List Point → ℤ} → Form d G → (R : List Point) → Form d (λ ps. G (R ++ ps))
@@ -98,17 +99,6 @@ put-same zero fr zero = refl
 put-same zero fr (suc u) = refl
 put-same (suc v) fr zero = refl
 put-same (suc v) fr (suc u) = put-same v (λ w. fr (suc w)) u
-
--- the sign changes with each negated copy
-abbrev signed : ℕ → ℤ → ℤ
-signed k x = cond (odd k) (negℤ x) x
-
-signed-suc : (k : ℕ) (x : ℤ) → negℤ (signed k x) ≡ signed (suc k) x
-signed-suc k x = by (odd k)
-  where
-    by : (b : Bool) → negℤ (cond b (negℤ x) x) ≡ cond (not b) (negℤ x) x
-    by true = negℤ-negℤ x
-    by false = refl
 
 negations : {d : ℕ} {G : List Point → ℤ} → Form d G → (p : Point) (k : ℕ) (ps : List Point)
     → G (replicate k (map negℤ p) ++ ps) ≡ signed k (G (replicate k p ++ ps))

@@ -1,9 +1,12 @@
+pub mod Signs
 pub mod Form
 pub mod Polar
 pub mod Places
 pub mod Listed
 pub mod Standard
 pub mod Groups
+pub mod Flips
+pub mod FlippedFrames
 pub mod ListedOver
 pub mod Lengths
 pub mod FirstGroup

@@ -4,7 +4,7 @@ use mathlib.Core.Path.{_≡_, refl, sym, ap, ap₂, _∙_}
 use mathlib.Core.Bool.{Bool, true, false, cond}
 use mathlib.Core.List.{List, [], _∷_, map}
 use lib.Dec.{eqb}
-use lib.IntN.{ℤ, pos, negℤ, natAbs}
+use lib.IntN.{ℤ, pos, natAbs}
 use lib.ListN.{length, getD}
 use Rattle.integers.specs.Sum.{upto}
 use Rattle.integers.specs.Largest.{largestOf}
@@ -12,7 +12,8 @@ use Rattle.integers.proofs.Laws.{natAbs-neg}
 use Rattle.integers.proofs.Largest.{largest-append, largest-same}
 use Rattle.polar.specs.Order.{joined}
 use Rattle.polar.specs.Groups.{Group, countsOver}
-use Rattle.entries.specs.Entries.{numberCount, entryOver, listedOver, odd, flippedOver}
+use Rattle.entries.specs.Entries.{numberCount, entryOver, listedOver, flippedOver}
+use Rattle.entries.proofs.Signs.{signed-unseen}
 use Rattle.entries.proofs.ListedOver.{listed-again}
 use Rattle.machine.specs.Calls.{groupAt, ownAt}
 use Rattle.machine.specs.Nets.{Net, netGroups, entry, entriesAfter, largestAfter}
@@ -31,17 +32,13 @@ rows-same f g (e ∷ es) h =
     ∙ sym (largest-append (map (λ c. g c e) (upto 4)) (joined (λ e. map (λ c. g c e) (upto 4)) es))
 
 -- entries with some signs changed have the largest component that they had
-flipped-largest : (gs : List Group) (numbers : List ℤ) (i v : ℕ) → length numbers ≡ numberCount gs
+pub flipped-largest : (gs : List Group) (numbers : List ℤ) (i v : ℕ) → length numbers ≡ numberCount gs
     → largestOf numbers ≡ largestOf (listedOver gs (λ c es. flippedOver i v (entryOver gs numbers c) es))
 unfolding listedOver
 flipped-largest gs numbers i v l =
     ap largestOf (sym (listed-again gs numbers l))
     ∙ rows-same (entryOver gs numbers) (λ c es. flippedOver i v (entryOver gs numbers c) es) (countsOver gs)
-    (λ c es. sign (odd (getD (getD es i []) v 0)) (entryOver gs numbers c es))
-  where
-    sign : (s : Bool) (x : ℤ) → natAbs x ≡ natAbs (cond s (negℤ x) x)
-    sign true x = sym (natAbs-neg x)
-    sign false x = refl
+    (λ c es. sym (signed-unseen natAbs natAbs-neg (getD (getD es i []) v 0) (entryOver gs numbers c es)))
 
 -- ---- a move
 

@@ -96,6 +96,11 @@ module _ (at : ℕ) (xs lent : List ℤ) (fits : at + length xs ≤ length lent)
   pub put-between : (n m : ℕ) → at + length xs ≤ n → slice n m (putAt at xs lent) ≡ slice n m lent
   put-between n m h = drop-take n m (putAt at xs lent) ∙ ap (take (m - n)) (put-behind n h) ∙ sym (drop-take n m lent)
 
+-- numbers put over as many others
+put-over : (at : ℕ) (xs ys lent : List ℤ) → length xs ≡ length ys → at + length ys ≤ length lent → putAt at xs (putAt at ys lent) ≡ putAt at xs lent
+put-over at xs ys lent same fits =
+    ap₂ (λ l r. l ++ (xs ++ r)) (put-before at ys lent fits at (omega arith)) (put-behind at ys lent fits (at + length xs) (omega arith))
+
 -- to put numbers where they stand changes nothing
 put-same : (at n : ℕ) (lent : List ℤ) → at + n ≤ length lent → putAt at (take n (drop at lent)) lent ≡ lent
 put-same at n lent fits =
@@ -145,6 +150,9 @@ put-apart at by xs ys lent apart room =
 
     behind : (C : List ℤ) → length C ≡ by → putAt by ys (C ++ B) ≡ C ++ putAt 0 ys B
     behind C long = let here : by ≡ length C + 0 = omega arith in ap (λ k. putAt k ys (C ++ B)) here ∙ put-second 0 ys C B
+
+put-past : (at by : ℕ) (xs ys lent : List ℤ) {rest : List ℤ} → at + length xs ≤ by → by ≤ length lent → putAt by ys lent ≡ rest → putAt by ys (putAt at xs lent) ≡ putAt at xs rest
+put-past at by xs ys lent apart room is = put-apart at by xs ys lent apart room ∙ ap (putAt at xs) is
 
 -- numbers put into a part that is put where it stands
 pub put-within : (at k n : ℕ) (xs lent : List ℤ) → at + n ≤ length lent → k + length xs ≤ n → putAt at (putAt k xs (take n (drop at lent))) lent ≡ putAt (at + k) xs lent
@@ -313,6 +321,60 @@ module _ (net : Net) (lent : List ℤ) (enough : wide lent ≡ true) (sound : So
       ap (λ l. l ++ drop 3 three)
       (h ∙ sym (put-before 3 numbers two three-fits 3 (lit≤ tt) ∙ put-before 12 (net .entries) one two-fits 3 (lit≤ tt) ∙ put-before 192 (net .largest ∷ []) lent long 3 (lit≤ tt)))
       ∙ take-append-drop 3 three
+
+  -- another net with as many numbers, put over it: nothing of the first is left
+  pub put-again : (other : Net) → length (numbersOf (other .frames)) ≡ length numbers → length (other .entries) ≡ length (net .entries) → put other (put net lent) ≡ put other lent
+  unfolding put
+  put-again other same-numbers same-entries =
+      ap (λ l. putAt 0 first (putAt 3 vertices (putAt 12 (other .entries) l))) largest-in
+      ∙ ap (λ l. putAt 0 first (putAt 3 vertices l)) entries-in
+      ∙ ap (putAt 0 first) vertices-in
+      ∙ put-over 0 first head (putAt 3 vertices inner) refl (let l = long in let e = framed vertices inner same-numbers inner-long in omega arith)
+    where
+      first : List ℤ
+      first = pos (other .kind) ∷ pos (other .degree) ∷ pos (other .second) ∷ []
+
+      vertices : List ℤ
+      vertices = numbersOf (other .frames)
+
+      -- as many places after frame numbers or entries are put in
+      framed : (xs l : List ℤ) → length xs ≡ length numbers → length l ≡ length lent → length (putAt 3 xs l) ≡ length lent
+      framed xs l many e = put-length 3 xs l (let c = numbers-count in let f = long in omega arith) ∙ e
+
+      filled : (xs l : List ℤ) → length xs ≡ length (net .entries) → length l ≡ length lent → length (putAt 12 xs l) ≡ length lent
+      filled xs l many e = put-length 12 xs l (let c = entries-count in let f = long in omega arith) ∙ e
+
+      -- the places with the other net's largest component, and with its entries too
+      outer : List ℤ
+      outer = putAt 192 (other .largest ∷ []) lent
+
+      outer-long : length outer ≡ length lent
+      outer-long = put-length 192 (other .largest ∷ []) lent long
+
+      inner : List ℤ
+      inner = putAt 12 (other .entries) outer
+
+      inner-long : length inner ≡ length lent
+      inner-long = filled (other .entries) outer same-entries outer-long
+
+      largest-in : putAt 192 (other .largest ∷ []) (putAt 0 head three) ≡ putAt 0 head (putAt 3 numbers (putAt 12 (net .entries) outer))
+      largest-in =
+          put-past 0 192 head (other .largest ∷ []) three (lit≤ tt) (let l = long in let e = three-long in omega arith)
+          (put-past 3 192 numbers (other .largest ∷ []) two (let c = numbers-count in omega arith) (let l = long in let e = two-long in omega arith)
+          (put-past 12 192 (net .entries) (other .largest ∷ []) one (let c = entries-count in omega arith) (let l = long in let e = one-long in omega arith)
+          (put-over 192 (other .largest ∷ []) (net .largest ∷ []) lent refl long)))
+
+      entries-in : putAt 12 (other .entries) (putAt 0 head (putAt 3 numbers (putAt 12 (net .entries) outer))) ≡ putAt 0 head (putAt 3 numbers inner)
+      entries-in =
+          let stood = filled (net .entries) outer refl outer-long in
+          put-past 0 12 head (other .entries) (putAt 3 numbers (putAt 12 (net .entries) outer)) (lit≤ tt) (let l = long in let e = framed numbers (putAt 12 (net .entries) outer) refl stood in omega arith)
+          (put-past 3 12 numbers (other .entries) (putAt 12 (net .entries) outer) (let c = numbers-count in omega arith) (let l = long in omega arith)
+          (put-over 12 (other .entries) (net .entries) outer same-entries (let l = long in let e = outer-long in let c = entries-count in omega arith)))
+
+      vertices-in : putAt 3 vertices (putAt 0 head (putAt 3 numbers inner)) ≡ putAt 0 head (putAt 3 vertices inner)
+      vertices-in =
+          put-past 0 3 head vertices (putAt 3 numbers inner) (lit≤ tt) (let l = long in let e = framed numbers inner refl inner-long in omega arith)
+          (put-over 3 vertices numbers inner same-numbers (let l = long in let e = inner-long in let c = numbers-count in omega arith))
 
 -- ---- the net that stands there
 

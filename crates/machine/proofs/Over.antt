@@ -21,7 +21,8 @@ use Rattle.polar.specs.Polar.{terms}
 use Rattle.polar.proofs.Order.{counts-total, all-joined}
 use Rattle.polar.proofs.Value.{of-pairs, polar-diagonal}
 use Rattle.entries.specs.Frame.{vertexAt, takenOver, pointsOver, putOver}
-use Rattle.entries.specs.Entries.{listedOver, odd, noneOfQ, asQ, onlyQ, flippedOver}
+use Rattle.entries.specs.Entries.{listedOver, noneOfQ, asQ, onlyQ, flippedOver}
+use Rattle.entries.proofs.Signs.{signed, signed-unseen}
 use Rattle.entries.proofs.Places.{member-counts}
 use Rattle.entries.proofs.Groups.{Counted, Named, Framed, Forms, polar-forms, fixes-over, putting-over, flipping-over, points-long, named-none, named-as, named-only, only-taken}
 use Rattle.entries.proofs.ListedOver.{in-pairs, member-over, counts-over, length-listed-over, entry-listed-over, listed-over-cong}
@@ -179,6 +180,17 @@ replaced-in net vertex weights there named =
     listed-in gs (λ c es. netPolar net move c (asQ i v es))
     (λ c es k counted. named-at (namedByReplace gs i) (netPolar net move) named c (asQ i v es) k (as-named gs i v es there counted))
 
+-- a net that is not refused as handed is judged by the call's own tests, by the numbers of a replace's q, and by the size
+pub judged : (net : Net) → known (net .kind) (net .degree) (net .second) ≡ true → netInRange net ≡ true → all inRange (numbersOf (net .frames)) ≡ true → (c : Call)
+    → firstFailed (netTests net c) ≡ firstFailed (callTests (netGroups net) c (newNumbers (netGroups net) (net .frames) c) (netPolar net c))
+unfolding netTests handedTests judgedNumbers callTests beforeSize
+judged net right fits near c =
+    let gs = netGroups net in
+    let new = newNumbers gs (net .frames) c in
+    ap₂ (λ a b. firstFailed (a else 4 ∷ b else 10 ∷ callTests gs c (numbersOf (net .frames) ++ new) (netPolar net c))) right fits
+    ∙ ap (λ a. firstFailed ((ownTests gs c ++ (a else 12 ∷ [])) ++ (allNamed (namedBy gs c) (netPolar net c) else 10 ∷ [])))
+    (all-append inRange (numbersOf (net .frames)) new ∙ ap (λ b. b && all inRange new) near)
+
 -- ---- the net over frames
 
 module _ (f : Polynomials) (frames : Frames) (long : Framed (groups f) frames) where
@@ -207,16 +219,11 @@ module _ (f : Polynomials) (frames : Frames) (long : Framed (groups f) frames) w
   sizes-agree : (call : Call) → allNamed (namedBy gs call) (netPolar net call) ≡ allNamed (namedBy gs call) (machinePolar f frames call)
   sizes-agree call = named-cong (namedBy gs call) (netPolar net call) (machinePolar f frames call) (λ c es k m. polar-is call c es k (by-call gs call es m))
 
-  -- the frames that it carries are in range, so 12 is decided by a replace's q
-  near-agree : all inRange (numbersOf frames) ≡ true → (call : Call) → all inRange (numbersOf frames ++ newNumbers gs frames call) ≡ all inRange (newNumbers gs frames call)
-  near-agree near call = all-append inRange (numbersOf frames) (newNumbers gs frames call) ∙ ap (λ b. b && all inRange (newNumbers gs frames call)) near
-
   refusals-agree : known (f .kind) (f .degree) (f .second) ≡ true → netInRange net ≡ true → all inRange (numbersOf frames) ≡ true → (call : Call)
       → firstFailed (netTests net call) ≡ firstFailed (machineTests f frames call)
-  unfolding netTests handedTests judgedNumbers machineTests callTests beforeSize netOver
+  unfolding machineTests callTests netOver
   refusals-agree right fits near call =
-      ap₂ (λ a b. firstFailed (a else 4 ∷ b else 10 ∷ callTests gs call (numbersOf frames ++ newNumbers gs frames call) (netPolar net call))) right fits
-      ∙ ap₂ (λ a b. firstFailed ((ownTests gs call ++ (a else 12 ∷ [])) ++ (b else 10 ∷ []))) (near-agree near call) (sizes-agree call)
+      judged net right fits near call ∙ ap (λ b. firstFailed (beforeSize gs call (newNumbers gs frames call) ++ (b else 10 ∷ []))) (sizes-agree call)
 
   -- ---- accepted calls
 
@@ -239,7 +246,7 @@ module _ (f : Polynomials) (frames : Frames) (long : Framed (groups f) frames) w
       polar-is call c (asQ i v es) k (named-as gs i v es counted)
       ∙ sym (putting-over gs (polarOf f c) (forms c) frames long (pointsOver gs (weightsFor gs call) frames) (points-long gs (weightsFor gs call) frames) i v h es counted)
   moved-is false i v h call c es k counted =
-      ap (λ x. cond (odd (getD (getD es i []) v 0)) (negℤ x) x) (entry-is c es k counted)
+      ap (signed (getD (getD es i []) v 0)) (entry-is c es k counted)
       ∙ sym (flipping-over gs (polarOf f c) (forms c) frames long i v h es counted)
 
   -- the found point is L × F(q)
@@ -266,17 +273,13 @@ module _ (f : Polynomials) (frames : Frames) (long : Framed (groups f) frames) w
   moved-in b i v j h call fits ok =
       in-range-over (moved b i v call) (λ c es k counted. ap inRange (sym (moved-is b i v h call c es k counted)) ∙ by b ok c es k counted)
     where
-      sign : (s : Bool) (x : ℤ) → inRange (cond s (negℤ x) x) ≡ inRange x
-      sign true x = in-range-neg x
-      sign false x = refl
-
       by : (b : Bool) → allNamed (cond b (namedByReplace gs i) []) (machinePolar f frames call) ≡ true → (c : ℕ) (es : List (List ℕ)) → c < 4 → Counted gs es
           → inRange (cond b (netPolar net call c (asQ i v es)) (flippedOver i v (entry net c) es)) ≡ true
       by true named c es k counted =
           ap inRange (polar-is call c (asQ i v es) k (named-as gs i v es counted))
           ∙ named-at (namedByReplace gs i) (machinePolar f frames call) named c (asQ i v es) k (as-named gs i v es j counted)
       by false named c es k counted =
-          sign (odd (getD (getD es i []) v 0)) (entry net c es)
+          signed-unseen inRange in-range-neg (getD (getD es i []) v 0) (entry net c es)
           ∙ ap inRange (entry-is c es k counted)
           ∙ listed-in-at gs (λ a x. polarOf f a (takenOver frames x)) fits c es k counted
 
