@@ -7,4 +7,7 @@ pub mod Demand3
 pub mod Lent
 pub mod Carried
 pub mod Largest
+pub mod FlippedNets
+pub mod FlipLaws
+pub mod FlipLawsLent
 pub mod Samples

@@ -11,4 +11,5 @@ pub mod Demand3
 pub mod Lent
 pub mod Largest
 pub mod Carried
+pub mod FlipLaws
 pub mod Samples
