@@ -1,8 +1,8 @@
 -- What the entries of a flipped net fix: with vertex v flipped they fix what the entries before fix with v's weight negated, up to the sign of v's own copies.
 -- By induction on the copies of q: one more copy is a sum over the vertices, in which the member of v alone has another sign. Over groups the same, group after group;
 -- the weights of a group in which no q is taken do not matter.
-use Prim.Native.Nat.{ℕ, zero, suc, _+_}
-use native.Mathlib.Nat.{zero-add, add-suc, suc-add, suc-inj, suc-ne-zero}
+use Prim.Native.Nat.{ℕ, zero, suc}
+use native.Mathlib.Nat.{suc-inj, suc-ne-zero}
 use native.Mathlib.Decide.{ℕ-discrete}
 use mathlib.Core.Path.{_≡_, refl, sym, ap, _∙_, fun-ext}
 use mathlib.Core.Logic.{_≢_}
@@ -11,15 +11,12 @@ use lib.IntN.{ℤ, pos, negℤ, _*ℤ_}
 use lib.ListN.{length, getD, set, drop}
 use lib.Seq.{getD-set-other}
 use Rattle.integers.specs.Sum.{sum, upto}
-use Rattle.integers.proofs.Sums.{sum-cong, sum-upto-cong}
+use Rattle.integers.proofs.Sums.{sum-cong}
 use Rattle.integers.proofs.Laws.{*ℤ-negl, *ℤ-negr}
-use Rattle.polar.specs.Order.{total}
 use Rattle.polar.specs.Groups.{Group, head, tail}
-use Rattle.entries.specs.Entries.{raise, fixed, fixedOver, noneOfQ, asQ, flippedOver}
+use Rattle.entries.specs.Entries.{raise, fixed, signed, fixedOver, noneOfQ, asQ, flippedOver}
 use Rattle.entries.specs.Rows.{flipped}
-use Rattle.entries.proofs.Signs.{signed, signed-suc, signed-neg, signed-kept, signed-sum}
-use Rattle.entries.proofs.Form.{length-raise, total-raise}
-use Rattle.entries.proofs.Groups.{Counted, Named}
+use Rattle.entries.proofs.Signs.{signed-suc, signed-neg, signed-kept, signed-sum}
 
 -- ---- one group
 
@@ -210,27 +207,3 @@ copies-same zero v (e ∷ es) = none-left v e
     none-left zero (n ∷ e) = refl
     none-left (suc v) (n ∷ e) = none-left v e
 copies-same (suc j) v (e ∷ es) = copies-same j v es
-
--- ---- entries that agree fix the same
-
-fixed-cong : (d m : ℕ) (ws : List ℤ) (f g : List ℕ → ℤ) → ((e : List ℕ) → length e ≡ d → total e ≡ m → f e ≡ g e)
-    → (h : ℕ) (e : List ℕ) → length e ≡ d → h + total e ≡ m → fixed d ws f h e ≡ fixed d ws g h e
-unfolding fixed
-fixed-cong d m ws f g same zero e l t = same e l (sym (zero-add (total e)) ∙ t)
-fixed-cong d m ws f g same (suc h) e l t =
-    sum-upto-cong d
-    (λ v p.
-    ap (λ z. getD ws v (pos 0) *ℤ z)
-    (fixed-cong d m ws f g same h (raise v e) (length-raise v e (rw l p) ∙ l) (ap (λ k. h + k) (total-raise v e) ∙ add-suc h (total e) ∙ sym (suc-add h (total e)) ∙ t)))
-
-pub fixed-over-cong : (gs : List Group) (weights : List (List ℤ)) (f g : List (List ℕ) → ℤ) → ((es : List (List ℕ)) → Counted gs es → f es ≡ g es)
-    → (es : List (List ℕ)) → Named gs es → fixedOver gs weights f es ≡ fixedOver gs weights g es
-unfolding fixedOver
-fixed-over-cong [] weights f g same es named = same [] tt
-fixed-over-cong (a ∷ gs) weights f g same [] named = absurd named
-fixed-over-cong (a ∷ gs) weights f g same ([] ∷ es) named = absurd (suc-ne-zero _ (sym (named .0)))
-fixed-over-cong (a ∷ gs) weights f g same ((h ∷ e) ∷ es) named =
-    let d = suc (a .dimension) in
-    fixed-over-cong gs (tail weights) (λ rest. fixed d (head weights) (λ r. f (r ∷ rest)) h e) (λ rest. fixed d (head weights) (λ r. g (r ∷ rest)) h e)
-    (λ rest p. fixed-cong d (a .degree) (head weights) (λ r. f (r ∷ rest)) (λ r. g (r ∷ rest)) (λ r l t. same (r ∷ rest) (l, t, p)) h e (suc-inj (named .0)) (named .1))
-    es (named .2)

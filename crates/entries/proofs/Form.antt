@@ -3,7 +3,6 @@
 use Prim.Native.Nat.{ℕ, zero, suc, _+_, _<_}
 use native.Mathlib.Nat.{suc-add, add-suc, zero-add, not-suc-le-zero, le-of-suc-le-suc}
 use mathlib.Core.Path.{_≡_, refl, sym, ap, _∙_, fun-ext}
-use mathlib.Core.Bool.{cond}
 use mathlib.Core.List.{List, [], _∷_, _++_, map, append-assoc}
 use lib.IntN.{ℤ, pos, negℤ, _*ℤ_}
 use lib.ListN.{length, getD, set, replicate}
@@ -13,8 +12,8 @@ use Rattle.polar.specs.Sigma.{Point}
 use Rattle.polar.specs.Order.{total}
 use Rattle.entries.specs.Frame.{taken, combination}
 use Rattle.entries.specs.Form.{Form}
-use Rattle.entries.specs.Entries.{raise, fixed, odd}
-use Rattle.entries.proofs.Signs.{signed, signed-suc}
+use Rattle.entries.specs.Entries.{raise, fixed, signed}
+use Rattle.entries.proofs.Signs.{signed-suc}
 
 -- the form with the points R fixed
 pub fixing : {d : ℕ} {G : List Point → ℤ} → Form d G → (R : List Point) → Form d (λ ps. G (R ++ ps))
@@ -110,7 +109,7 @@ negations {d} {G} F p (suc k) ps =
 
 -- over the frame with −v in the place of v the sign changes where v is taken an odd number of times
 pub flipping : {d : ℕ} {G : List Point → ℤ} → Form d G → (fr : ℕ → Point) (v : ℕ) (e : List ℕ)
-    → G (taken (put v (map negℤ (fr v)) fr) e) ≡ cond (odd (getD e v 0)) (negℤ (G (taken fr e))) (G (taken fr e))
+    → G (taken (put v (map negℤ (fr v)) fr) e) ≡ signed (getD e v 0) (G (taken fr e))
 flipping {d} {G} F fr v e =
     putting F fr (map negℤ (fr v)) v e
     ∙ negations F (fr v) (getD e v 0) (taken fr (set e v 0))

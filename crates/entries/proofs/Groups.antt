@@ -4,7 +4,6 @@ use Prim.Native.Nat.{ℕ, zero, suc, _+_, _/_, _<_}
 use native.Mathlib.Nat.{le-of-suc-le-suc, not-suc-le-zero, zero-add, add-zero}
 use native.Mathlib.Omega.{arith}
 use mathlib.Core.Path.{_≡_, refl, sym, ap, ap₂, _∙_, fun-ext, subst}
-use mathlib.Core.Bool.{cond}
 use mathlib.Core.List.{List, [], _∷_, _++_, map, append-nil}
 use lib.IntN.{ℤ, pos, negℤ, _*ℤ_}
 use lib.ListN.{length, getD, set, replicate, length-set}
@@ -19,7 +18,7 @@ use Rattle.polar.specs.Scale.{scaleOver, multinomialOver}
 use Rattle.polar.specs.Polar.{Term, σOver, polarOver}
 use Rattle.polar.proofs.Value.{copies}
 use Rattle.entries.specs.Frame.{taken, combination, vertexAt, takenOver, pointsOver, before, putOver}
-use Rattle.entries.specs.Entries.{fixed, odd, fixedOver, noneOfQ, asQ, onlyQ}
+use Rattle.entries.specs.Entries.{fixed, signed, fixedOver, noneOfQ, asQ, onlyQ}
 use Rattle.entries.specs.Form.{Form}
 use Rattle.entries.proofs.Form.{fixes, put, putting, flipping}
 use Rattle.entries.proofs.Polar.{σ-form}
@@ -169,7 +168,7 @@ putting-over (g ∷ gs) G F (frame ∷ frames) long (q ∷ qs) l (suc i) v h (e 
 pub flipping-over : (gs : List Group) (G : List (List Point) → ℤ) → Forms gs G → (frames : List (List Point)) → Framed gs frames
     → (i v : ℕ) → v < length (getD frames i []) → (es : List (List ℕ)) → Counted gs es
     → G (takenOver (putOver i v (map negℤ (vertexAt (getD frames i []) v)) frames) es)
-    ≡ cond (odd (getD (getD es i []) v 0)) (negℤ (G (takenOver frames es))) (G (takenOver frames es))
+    ≡ signed (getD (getD es i []) v 0) (G (takenOver frames es))
 flipping-over [] G F [] long i v h es counted = absurd (not-suc-le-zero h)
 flipping-over [] G F (frame ∷ frames) long i v h es counted = absurd long
 flipping-over (g ∷ gs) G F [] long i v h es counted = absurd long

@@ -5,6 +5,7 @@ pub mod Places
 pub mod Listed
 pub mod Standard
 pub mod Groups
+pub mod Fixed
 pub mod Flips
 pub mod FlippedFrames
 pub mod ListedOver

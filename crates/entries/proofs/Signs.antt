@@ -1,4 +1,4 @@
--- The sign of k negations. Each law goes by whether k is odd.
+-- Numbers with their sign changed k times. Each law goes by whether k is odd.
 use Prim.Native.Nat.{ℕ, suc}
 use mathlib.Core.Path.{_≡_, refl, sym}
 use mathlib.Core.Bool.{Bool, true, false, not, cond}
@@ -6,11 +6,7 @@ use mathlib.Core.List.{List}
 use lib.IntN.{ℤ, negℤ, negℤ-negℤ}
 use Rattle.integers.specs.Sum.{sum}
 use Rattle.integers.proofs.Sums.{sum-neg}
-use Rattle.entries.specs.Entries.{odd}
-
--- the sign changes with each negated copy
-abbrev pub signed : ℕ → ℤ → ℤ
-signed k x = cond (odd k) (negℤ x) x
+use Rattle.entries.specs.Entries.{odd, signed}
 
 pub signed-suc : (k : ℕ) (x : ℤ) → negℤ (signed k x) ≡ signed (suc k) x
 signed-suc k x = by (odd k)

@@ -39,6 +39,10 @@ abbrev pub odd : ℕ → Bool
 odd zero = false
 odd (suc n) = not (odd n)
 
+-- a number with its sign changed n times
+abbrev pub signed : ℕ → ℤ → ℤ
+signed n x = cond (odd n) (negℤ x) x
+
 -- ---- over groups: the counts of an entry are a list of counts for each group
 
 -- how many numbers a net has, four for each entry
@@ -81,4 +85,4 @@ onlyQ gs = map (λ g. g .degree ∷ replicate (suc (g .dimension)) 0) gs
 
 -- after vertex v of group i is flipped: the sign changes where it is taken an odd number of times
 abbrev pub flippedOver : ℕ → ℕ → (List (List ℕ) → ℤ) → List (List ℕ) → ℤ
-flippedOver i v f es = cond (odd (getD (getD es i []) v 0)) (negℤ (f es)) (f es)
+flippedOver i v f es = signed (getD (getD es i []) v 0) (f es)

@@ -1,13 +1,12 @@
 -- One group's net whose entries are rows of w numbers, in the order of `counts n m`: what the functions of the crate nets work on. A net of one group has rows of four
 -- numbers; seen from its first group, a net of several groups has in each row the numbers of the groups after it. No public contract cites this file.
 use Prim.Native.Nat.{ℕ, zero, suc, _+_, _*_}
-use mathlib.Core.Bool.{cond}
 use mathlib.Core.List.{List, [], _∷_, map}
-use lib.IntN.{ℤ, pos, negℤ}
+use lib.IntN.{ℤ, pos}
 use lib.ListN.{length, getD, set}
 use Rattle.integers.specs.Sum.{upto}
 use Rattle.polar.specs.Order.{joined, total, counts}
-use Rattle.entries.specs.Entries.{placeOf, fixed, odd}
+use Rattle.entries.specs.Entries.{placeOf, fixed, signed}
 
 -- number c of the row of the entry with counts e
 unfoldable pub entryAt : ℕ → ℕ → ℕ → List ℤ → ℕ → List ℕ → ℤ
@@ -42,4 +41,4 @@ replaced d ws v f e = fixed d ws f (getD e v 0) (set e v 0)
 
 -- after vertex v is flipped: the sign changes where v is taken an odd number of times
 abbrev pub flipped : ℕ → (List ℕ → ℤ) → List ℕ → ℤ
-flipped v f e = cond (odd (getD e v 0)) (negℤ (f e)) (f e)
+flipped v f e = signed (getD e v 0) (f e)

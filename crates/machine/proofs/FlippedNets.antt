@@ -15,11 +15,12 @@ use Rattle.polar.specs.Order.{counts}
 use Rattle.polar.specs.Groups.{Group, countsOver}
 use Rattle.polar.proofs.Value.{of-pairs}
 use Rattle.entries.specs.Frame.{pointsOver, putOver}
-use Rattle.entries.specs.Entries.{numberCount, entryOver, listedOver, fixedOver, flippedOver, noneOfQ, asQ}
-use Rattle.entries.proofs.Signs.{signed, signed-twice, signed-unseen, signed-swap}
+use Rattle.entries.specs.Entries.{numberCount, entryOver, listedOver, signed, fixedOver, flippedOver, noneOfQ, asQ}
+use Rattle.entries.proofs.Signs.{signed-twice, signed-unseen, signed-swap}
 use Rattle.entries.proofs.Groups.{Counted, Named, withQ, counted-long, named-as}
+use Rattle.entries.proofs.Fixed.{fixed-over-cong}
 use Rattle.entries.proofs.ListedOver.{length-listed-over, entry-listed-over, listed-over-cong, listed-again}
-use Rattle.entries.proofs.Flips.{negatedAt, negatedOver, copiesAt, fixed-flipped-over, NoneOfQ, QOfOne, SameIn, fixed-same-in, turned-same, none-of-q, q-of-one, copies-other, copies-same, fixed-over-cong}
+use Rattle.entries.proofs.Flips.{negatedAt, negatedOver, copiesAt, fixed-flipped-over, NoneOfQ, QOfOne, SameIn, fixed-same-in, turned-same, none-of-q, q-of-one, copies-other, copies-same}
 use Rattle.entries.proofs.FlippedFrames.{flippedFrames, put-again, put-flip, flip-flip, flip-back, points-flipped, point-same-in}
 use Rattle.projection.specs.Projection.{inRange}
 use Rattle.kinds.specs.Frames.{Frames}

@@ -21,8 +21,8 @@ use Rattle.polar.specs.Polar.{terms}
 use Rattle.polar.proofs.Order.{counts-total, all-joined}
 use Rattle.polar.proofs.Value.{of-pairs, polar-diagonal}
 use Rattle.entries.specs.Frame.{vertexAt, takenOver, pointsOver, putOver}
-use Rattle.entries.specs.Entries.{listedOver, noneOfQ, asQ, onlyQ, flippedOver}
-use Rattle.entries.proofs.Signs.{signed, signed-unseen}
+use Rattle.entries.specs.Entries.{listedOver, signed, noneOfQ, asQ, onlyQ, flippedOver}
+use Rattle.entries.proofs.Signs.{signed-unseen}
 use Rattle.entries.proofs.Places.{member-counts}
 use Rattle.entries.proofs.Groups.{Counted, Named, Framed, Forms, polar-forms, fixes-over, putting-over, flipping-over, points-long, named-none, named-as, named-only, only-taken}
 use Rattle.entries.proofs.ListedOver.{in-pairs, member-over, counts-over, length-listed-over, entry-listed-over, listed-over-cong}

@@ -9,12 +9,12 @@ use mathlib.Core.Bool.{Bool, true, _&&_, cond}
 use mathlib.Core.List.{List, [], _∷_, map}
 use lib.Dec.{eqb, lit≤}
 use borrow.Author.Tests.{le-leb, eq-eqb, ne-eqb}
-use lib.IntN.{ℤ, pos, negℤ}
+use lib.IntN.{ℤ, pos}
 use lib.ListN.{length, getD, set, take, replicate, length-set}
 use lib.Seq.{getD-take}
 use Rattle.polar.specs.Order.{counts}
 use Rattle.polar.specs.Groups.{Group, countsOver}
-use Rattle.entries.specs.Entries.{odd, numberCount, placeOver, entryOver, listedOver, fixedOver, asQ, onlyQ, flippedOver}
+use Rattle.entries.specs.Entries.{signed, numberCount, placeOver, entryOver, listedOver, fixedOver, asQ, onlyQ, flippedOver}
 use Rattle.entries.specs.Rows.{entryAt, listed, size, replaced, flipped}
 use Rattle.entries.proofs.Groups.{Counted, counted-long, total-set, total-zeros, length-zeros, named-only}
 use Rattle.entries.proofs.Places.{length-counts}
@@ -125,7 +125,7 @@ module _ (n m : ℕ) (later : List Group) where
           row-listed (group n m) later (left (eqb operation 1) (groupAt gs v) (ownAt gs v)) (λ c. flipped v (entryAt w n m xs c))
           (λ c e es k l t counted.
           (λ i. left (ne-eqb operation 1 two i) (first-group i) (own-number i) c (e ∷ es))
-          ∙ ap (λ x. cond (odd (getD e v 0)) (negℤ x) x)
+          ∙ ap (signed (getD e v 0))
           (row-entry (group n m) later used c e es ∙ entry-used w n m xs (4 * placeOver later es + c) e (number-below c es k counted) l t))
 
   -- ---- a point

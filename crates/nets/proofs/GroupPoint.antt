@@ -1,26 +1,25 @@
 -- The size rule of a point over groups is the code's: the first group's levels, and then the rule of the groups after it on the one row that the last level leaves.
--- The polar values that entries fix depend on nothing but the entries and the weights of the vertices.
-use Prim.Native.Nat.{ℕ, zero, suc, _+_, _*_, _-_, _<_}
-use native.Mathlib.Nat.{zero-add, suc-add, add-suc}
+-- Numbers past the entries and weights past the vertices fix nothing (entries/proofs/Fixed.antt).
+use Prim.Native.Nat.{ℕ, suc, _+_, _*_, _-_, _<_}
 use native.Mathlib.Omega.{arith}
-use mathlib.Core.Path.{_≡_, refl, sym, ap, ap₂, _∙_, fun-ext, subst}
+use mathlib.Core.Path.{_≡_, sym, ap, ap₂, _∙_, fun-ext}
 use mathlib.Core.Bool.{_&&_}
 use mathlib.Core.List.{List, [], _∷_, map}
-use lib.IntN.{ℤ, pos, _*ℤ_}
+use lib.IntN.{ℤ, pos}
 use lib.ListN.{length, getD, take, replicate}
 use lib.Seq.{getD-take}
 use Rattle.integers.specs.Sum.{upto}
 use Rattle.integers.specs.Test.{all}
-use Rattle.integers.proofs.Sums.{sum-upto-cong, upto-below}
+use Rattle.integers.proofs.Sums.{upto-below}
 use Rattle.integers.proofs.All.{all-append, all-map, all-cong, and-one}
 use Rattle.polar.specs.Order.{total, counts}
-use Rattle.polar.specs.Groups.{Group, head, tail, pairs}
+use Rattle.polar.specs.Groups.{Group, pairs}
 use Rattle.polar.proofs.Order.{counts-total}
 use Rattle.projection.specs.Projection.{inRange}
-use Rattle.entries.specs.Entries.{placeOf, fixed, raise, numberCount, placeOver, entryOver, fixedOver}
+use Rattle.entries.specs.Entries.{placeOf, fixed, numberCount, placeOver, entryOver, fixedOver}
 use Rattle.entries.specs.Rows.{entryAt, size}
-use Rattle.entries.proofs.Form.{total-raise, length-raise}
 use Rattle.entries.proofs.Groups.{Counted, Named}
+use Rattle.entries.proofs.Fixed.{fixed-cong, fixed-over-cong}
 use Rattle.entries.proofs.Places.{placed, member-counts}
 use Rattle.entries.proofs.Listed.{digits-below}
 use Rattle.entries.proofs.ListedOver.{place-over}
@@ -28,38 +27,6 @@ use Rattle.machine.specs.Sizes.{namedByReplace, namedByPoint, allNamed}
 use Rattle.machine.proofs.Over.{by-point}
 use Rattle.nets.specs.Levels.{valuesOf, namedAt, allNamedAt}
 use Rattle.nets.proofs.GroupRows.{row-entry, named-rows}
-
--- ---- what polar values depend on
-
--- entries that agree, with weights that agree on the vertices, fix the same polar values
-pub fixed-cong : (d m : ℕ) (ws us : List ℤ) → ((v : ℕ) → v < d → getD ws v (pos 0) ≡ getD us v (pos 0)) → (f g : List ℕ → ℤ) → ((e : List ℕ) → length e ≡ d → total e ≡ m → f e ≡ g e)
-    → (h : ℕ) (e : List ℕ) → length e ≡ d → h + total e ≡ m → fixed d ws f h e ≡ fixed d us g h e
-unfolding fixed
-fixed-cong d m ws us same f g agree zero e l t = agree e l (sym (zero-add (total e)) ∙ t)
-fixed-cong d m ws us same f g agree (suc h) e l t =
-    sum-upto-cong d
-    (λ v p.
-    ap₂ (λ w z. w *ℤ z) (same v p)
-    (fixed-cong d m ws us same f g agree h (raise v e) (length-raise v e (subst (λ k. v < k) (sym l) p) ∙ l) (ap (λ k. h + k) (total-raise v e) ∙ add-suc h (total e) ∙ sym (suc-add h (total e)) ∙ t)))
-
-pub fixed-over-cong : (gs : List Group) (weights : List (List ℤ)) (f g : List (List ℕ) → ℤ) → ((es : List (List ℕ)) → Counted gs es → f es ≡ g es)
-    → (es : List (List ℕ)) → Named gs es → fixedOver gs weights f es ≡ fixedOver gs weights g es
-unfolding fixedOver
-fixed-over-cong [] weights f g agree [] named = agree [] tt
-fixed-over-cong [] weights f g agree (e ∷ es) named = absurd named
-fixed-over-cong (k ∷ gs) weights f g agree [] named = absurd named
-fixed-over-cong (k ∷ gs) weights f g agree ([] ∷ es) named = absurd (wrong (named .0))
-  where
-    wrong : 0 ≡ suc (suc (k .dimension)) → ⊥
-    wrong w = omega arith
-fixed-over-cong (k ∷ gs) weights f g agree ((h ∷ e) ∷ es) named =
-    fixed-over-cong gs (tail weights) (λ rest. fixed (suc (k .dimension)) (head weights) (λ r. f (r ∷ rest)) h e) (λ rest. fixed (suc (k .dimension)) (head weights) (λ r. g (r ∷ rest)) h e)
-    (λ rest p.
-    fixed-cong (suc (k .dimension)) (k .degree) (head weights) (head weights) (λ v q. refl) (λ r. f (r ∷ rest)) (λ r. g (r ∷ rest)) (λ r l t. agree (r ∷ rest) (l, t, p)) h e (shorter (named .0)) (named .1))
-    es (named .2)
-  where
-    shorter : suc (length e) ≡ suc (suc (k .dimension)) → length e ≡ suc (k .dimension)
-    shorter p = omega arith
 
 -- the numbers past the entries are no entries
 pub entry-used : (w n m : ℕ) (xs : List ℤ) (c : ℕ) (e : List ℕ) → c < w → length e ≡ suc n → total e ≡ m → entryAt w n m (take (size w n m) xs) c e ≡ entryAt w n m xs c e

@@ -7,7 +7,7 @@ use mathlib.Core.Bool.{Bool, true, false, cond}
 use mathlib.Core.List.{List, [], _∷_, _++_, map}
 use lib.Dec.{eqb}
 use borrow.Author.Tests.{lt-leb, eq-eqb}
-use lib.IntN.{ℤ, pos, negℤ}
+use lib.IntN.{ℤ, pos}
 use lib.ListN.{length, getD, drop, length-map}
 use lib.Seq.{getD-take, getD-drop, ext-getD}
 use Rattle.integers.specs.Sum.{upto}
@@ -18,9 +18,10 @@ use Rattle.polar.specs.Order.{joined, counts}
 use Rattle.polar.specs.Groups.{Group}
 use Rattle.polar.proofs.Order.{all-joined}
 use Rattle.projection.specs.Projection.{inRange}
-use Rattle.entries.specs.Entries.{placeOf, odd, fixed, numberCount, placeOver, entryOver, listedOver, fixedOver, noneOfQ, asQ, flippedOver}
+use Rattle.entries.specs.Entries.{placeOf, signed, fixed, numberCount, placeOver, entryOver, listedOver, fixedOver, noneOfQ, asQ, flippedOver}
 use Rattle.entries.specs.Rows.{entryAt}
 use Rattle.entries.proofs.Places.{joined-map, counts-at, place-rank, rank-at}
+use Rattle.entries.proofs.Fixed.{fixed-over-cong}
 use Rattle.entries.proofs.Groups.{Counted, Named, named-as}
 use Rattle.entries.proofs.ListedOver.{place-over, listed-over-cong}
 use Rattle.kinds.specs.Kinds.{group}
@@ -31,7 +32,6 @@ use Rattle.machine.specs.declared.Weights.{Weights}
 use Rattle.machine.specs.declared.Call.the-variants.{Move}
 use Rattle.nets.specs.Parts.{partAt}
 use Rattle.nets.proofs.GroupRows.{row-entry, first-listed}
-use Rattle.nets.proofs.GroupPoint.{fixed-over-cong}
 use Rattle.nets.proofs.FirstMoves.{polarBy, sizeBy, movedBy}
 
 -- ---- the entries of one group by their places
@@ -144,7 +144,7 @@ module _ (n m : ℕ) (gs : List Group) (xs : List ℤ) where
         (λ i u. cond (eqb operation 1) (polarBy (g ∷ gs) (Move operation vertex weights) xs c (asQ i u (e ∷ es))) (flippedOver i u (entryOver (g ∷ gs) xs c) (e ∷ es))) group-is own-is
         ∙ ap₂ (cond (eqb operation 1))
         (part-fixed (weightList weights) (map (λ h. weightList weights) gs) c e (asQ (groupAt gs (pred rest)) (ownAt gs (pred rest)) es) k (named-as gs (groupAt gs (pred rest)) (ownAt gs (pred rest)) es counted))
-        (ap (λ x. cond (odd (getD (getD es (groupAt gs (pred rest)) []) (ownAt gs (pred rest)) 0)) (negℤ x) x) (part-entry c e es k counted))
+        (ap (signed (getD (getD es (groupAt gs (pred rest)) []) (ownAt gs (pred rest)) 0)) (part-entry c e es k counted))
 
     pub later-moved : movedBy (g ∷ gs) operation vertex weights xs ≡ joined (λ k. movedBy gs operation rest weights (partAt (numberCount gs) xs k)) (upto (length (counts n m)))
     later-moved =

@@ -20,6 +20,7 @@ use Rattle.projection.specs.Projection.{inRange}
 use Rattle.entries.specs.Entries.{entryOver, fixedOver, onlyQ}
 use Rattle.entries.specs.Rows.{size}
 use Rattle.entries.proofs.Places.{length-counts}
+use Rattle.entries.proofs.Fixed.{fixed-cong}
 use Rattle.entries.proofs.Listed.{first-digit}
 use Rattle.entries.proofs.Groups.{total-zeros, length-zeros}
 use Rattle.kinds.specs.Kinds.{group, laterGroups, laterDimension}
@@ -35,7 +36,7 @@ use Rattle.machine.specs.declared.Call.the-variants.{Point}
 use Rattle.nets.specs.Rows.{written, weightSum, level}
 use Rattle.nets.specs.Levels.{valuesOf, namedAt, allNamedAt, Descends}
 use Rattle.nets.specs.Calls.{netFrom, InOrder, laterWeights, LaterDescends, LaterDescended, Pointed}
-use Rattle.nets.proofs.GroupPoint.{fixed-cong, named-used, values-left, named-point}
+use Rattle.nets.proofs.GroupPoint.{named-used, values-left, named-point}
 use Rattle.nets.proofs.LevelValues.{level-named, level-last, length-level}
 use Rattle.nets.proofs.FirstMoves.{counts-some, polarBy, sizeBy, point-size, point-value}
 use Rattle.nets.proofs.Made.{light, n, w, over, used, groups-are, entries-used, net-sized, net-ranged, row-in, number-by, part-size, later-sized}

@@ -7,11 +7,11 @@ use mathlib.Core.List.{List, []}
 use lib.IntN.{ℤ, pos}
 use lib.ListN.{length, getD}
 use Rattle.polar.specs.Order.{counts}
-use Rattle.entries.specs.Entries.{odd}
+use Rattle.entries.specs.Entries.{odd, signed}
 use Rattle.entries.specs.Rows.{entryAt, size, rank, flipped}
 use Rattle.entries.proofs.Listed.{net-ext, entry-rank, rank-below, digits-below}
 use Rattle.nets.specs.Rows.{Sized, written, placeAt}
-use Rattle.nets.specs.Flips.{countsAt, signed, signedAt, flippedList}
+use Rattle.nets.specs.Flips.{countsAt, signedAt, flippedList}
 use Rattle.nets.proofs.Lists.{length-written, written-outside, written-at, written-cong}
 use Rattle.nets.proofs.Places.{by-dimension, row-digit, row-of, counts-at-rank, counts-at-place}
 use Rattle.nets.proofs.Writes.{Going}

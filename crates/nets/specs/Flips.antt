@@ -1,11 +1,10 @@
 -- What the private functions that flip a vertex do to a list.
 use Prim.Native.Nat.{ℕ, zero, suc, _*_, _-_, _/_, _<_, _≤_}
-use mathlib.Core.Bool.{cond}
 use mathlib.Core.List.{List, [], _∷_, _++_}
-use lib.IntN.{ℤ, pos, negℤ, natAbs}
+use lib.IntN.{ℤ, pos, natAbs}
 use lib.ListN.{length, getD, drop}
 use Rattle.polar.specs.Order.{counts}
-use Rattle.entries.specs.Entries.{odd}
+use Rattle.entries.specs.Entries.{signed}
 use Rattle.entries.specs.Rows.{entryAt, listed, size, flipped}
 use Rattle.nets.specs.Rows.{Sized, written}
 
@@ -14,9 +13,6 @@ abbrev pub countsAt : ℕ → ℕ → ℕ → ℕ → List ℕ
 countsAt zero m i k = []
 countsAt (suc zero) m i k = (m - i) ∷ i ∷ []
 countsAt (suc (suc n)) m i k = (m - i) ∷ (i - k) ∷ k ∷ []
-
-abbrev pub signed : ℕ → ℤ → ℤ
-signed count x = cond (odd count) (negℤ x) x
 
 -- a list with the row at place p signed by a count
 abbrev pub signedRow : ℕ → List ℤ → ℕ → ℕ → List ℤ

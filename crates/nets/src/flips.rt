@@ -4,7 +4,8 @@ ghost use mathlib.Core.Path.{_≡_};
 ghost use Prim.Native.Nat.{_+_, _*_, _-_, _≤_};
 ghost use lib.IntN.{natAbs};
 ghost use lib.ListN.{length, getD};
-ghost use Rattle.nets.specs.Flips.{countsAt, signed, signedRow, flippedList, InRange, Flips};
+ghost use Rattle.entries.specs.Entries.{signed};
+ghost use Rattle.nets.specs.Flips.{countsAt, signedRow, flippedList, InRange, Flips};
 use crate::levels::next_row;
 use crate::levels::next_third;
 

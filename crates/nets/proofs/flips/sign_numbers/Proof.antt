@@ -7,8 +7,8 @@ use mathlib.Core.Path.{_≡_, refl, sym, ap, _∙_, subst}
 use lib.IntN.{pos, natAbs}
 use lib.ListN.{length, getD, length-set}
 use Rattle.integers.proofs.Signed.{seen, back-fits}
+use Rattle.entries.specs.Entries.{signed}
 use Rattle.nets.specs.Rows.{written}
-use Rattle.nets.specs.Flips.{signed}
 use Rattle.nets.proofs.Row.{element}
 use Rattle.nets.proofs.Lists.{write-next, write-still}
 use Rattle.nets.proofs.flips.sign_numbers.Statement.{statement}
