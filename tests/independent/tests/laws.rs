@@ -1,7 +1,7 @@
 //! Libraries that are wrong in one place each, where the laws of flips and replaces see it. `run_laws`
 //! must find every one, and so must each law alone that it breaks; the other laws must hold of it.
 
-use independent::calls::{place_of, seats, Weights, FLIP, REPLACE};
+use independent::calls::{place_of, seats, Weights, FLIP, NO_WEIGHTS, REPLACE};
 use independent::first::Given;
 use independent::handed::{Net, ENTRIES, FRAME, LARGEST, PLACES};
 use independent::laws::{run_laws, run_some_laws, Law};
@@ -49,13 +49,17 @@ enum Fault {
     RefusalLeavesTheNewVertex,
     RefusalLeavesHalfANet,
     RefusalWritesTheLargest,
+    RefusalTakesBackAFlip,
+    RefusalFlipsTheVertex,
+    SizeIsTwelveForANegativeOwnWeight,
+    SizeIsTwelveForANegativeOtherWeight,
     LargestWithItsSign,
     NegatedByTheOtherPair,
     ReplaceInTheOtherPair,
 }
 
 /// Each with the laws that it breaks.
-const FAULTS: [(Fault, &[Law]); 37] = {
+const FAULTS: [(Fault, &[Law]); 41] = {
     use Fault::*;
     use Law::*;
     [
@@ -93,6 +97,10 @@ const FAULTS: [(Fault, &[Law]); 37] = {
         (RefusalLeavesTheNewVertex, &[Itself]),
         (RefusalLeavesHalfANet, &[SameGroup, OtherPair, Itself]),
         (RefusalWritesTheLargest, &[Itself]),
+        (RefusalTakesBackAFlip, &[SameGroup, OtherPair, Itself]),
+        (RefusalFlipsTheVertex, &[Itself]),
+        (SizeIsTwelveForANegativeOwnWeight, &[Itself]),
+        (SizeIsTwelveForANegativeOtherWeight, &[SameGroup]),
         (LargestWithItsSign, &[SameGroup, OtherPair]),
         (NegatedByTheOtherPair, &[OtherPair]),
         (ReplaceInTheOtherPair, &[SameGroup, OtherPair, Itself]),
@@ -101,9 +109,15 @@ const FAULTS: [(Fault, &[Law]); 37] = {
 
 struct Spoiled {
     fault: Fault,
+    /// The vertex of the last call and the net before it, where that was a flip.
+    flipped: Option<(u8, Net)>,
 }
 
 impl Spoiled {
+    fn new(fault: Fault) -> Spoiled {
+        Spoiled { fault, flipped: None }
+    }
+
     fn is(&self, fault: Fault) -> bool {
         self.fault == fault
     }
@@ -186,11 +200,11 @@ impl Spoiled {
         }
     }
 
-    fn replace(&self, net: &mut Net, shape: Shape, vertex: u8, weights: Weights) -> Result<(), u8> {
+    fn replace(&mut self, net: &mut Net, shape: Shape, vertex: u8, weights: Weights) -> Result<(), u8> {
         if !(1..=shape.vertices()).contains(&usize::from(vertex)) {
             return Model.take(net, REPLACE, vertex, weights);
         }
-        let before = net.clone();
+        let (before, flipped) = (net.clone(), self.flipped.take());
         let exchanged = self.is(Fault::ReplaceInTheOtherPair) && shape.kind == Kind::Rect;
         let replaced = if exchanged { (vertex + 1) % 4 + 1 } else { vertex };
         let answer = Model.take(net, REPLACE, replaced, self.read_weights(net, shape, vertex, weights));
@@ -207,6 +221,11 @@ impl Spoiled {
             }
             (Fault::RefusalLeavesHalfANet, Err(10)) => net.0[ENTRIES] = (net.0[ENTRIES] + 1).min(RANGE),
             (Fault::RefusalWritesTheLargest, Err(_)) => net.0[LARGEST] = before.most(shape),
+            // so that the two ways of the last law end alike, at the old net or at the flipped one
+            (Fault::RefusalTakesBackAFlip, Err(_)) => *net = flipped.map_or(before, |(_, old)| old),
+            (Fault::RefusalFlipsTheVertex, Err(_)) if flipped.is_none_or(|(last, _)| last != vertex) => {
+                Model.take(net, FLIP, vertex, NO_WEIGHTS)?;
+            }
             _ => {}
         }
         answer
@@ -235,10 +254,14 @@ impl Spoiled {
         read
     }
 
-    /// What a library answers that refuses more than it should.
+    /// What a library answers that refuses more than it should, or with another number.
     fn judged(&self, net: &Net, shape: Shape, vertex: u8, weights: Weights, answer: Result<(), u8>) -> Result<(), u8> {
         let (_, seat) = seats(shape.kind, vertex);
+        let mut others = weights;
+        others[seat] = 0;
         match self.fault {
+            Fault::SizeIsTwelveForANegativeOwnWeight if answer == Err(10) && weights[seat] < 0 => Err(12),
+            Fault::SizeIsTwelveForANegativeOtherWeight if answer == Err(10) && others.iter().any(|weight| *weight < 0) => Err(12),
             Fault::LeastWeightRefused if weights.contains(&-4096) => Err(8),
             Fault::NegativeOwnWeightRefused if answer.is_ok() && weights[seat] < 0 => Err(9),
             Fault::LimitRefusedForOneSign if answer.is_ok() && net.numbers(shape).contains(&RANGE) => Err(10),
@@ -250,13 +273,19 @@ impl Spoiled {
 impl Library for Spoiled {
     fn take(&mut self, net: &mut Net, operation: u8, vertex: u8, weights: Weights) -> Result<(), u8> {
         match (operation, net.shape()) {
-            (FLIP, Some(shape)) => self.flip(net, shape, vertex, weights),
+            (FLIP, Some(shape)) => {
+                let before = net.clone();
+                self.flip(net, shape, vertex, weights)?;
+                self.flipped = Some((vertex, before));
+                Ok(())
+            }
             (REPLACE, Some(shape)) => self.replace(net, shape, vertex, weights),
             _ => Model.take(net, operation, vertex, weights),
         }
     }
 
     fn read(&mut self, record: &[u8], net: &mut Net) -> Result<(), Refusal> {
+        self.flipped = None;
         Model.read(record, net)
     }
 
@@ -295,9 +324,9 @@ fn the_laws_hold_of_the_model() {
 #[test]
 fn every_fault_is_found() {
     for (fault, breaks) in FAULTS {
-        let what = run_laws(&mut Spoiled { fault }, NETS, 7).err().unwrap_or_else(|| panic!("{fault:?} was not found"));
+        let what = run_laws(&mut Spoiled::new(fault), NETS, 7).err().unwrap_or_else(|| panic!("{fault:?} was not found"));
         println!("{fault:?}: {}", what.chars().take(90).collect::<String>());
-        let broken = |law: &Law| run_some_laws(&mut Spoiled { fault }, &[*law], NETS, 7).is_err();
+        let broken = |law: &Law| run_some_laws(&mut Spoiled::new(fault), &[*law], NETS, 7).is_err();
         let found_by: Vec<Law> = Law::ALL.into_iter().filter(broken).collect();
         assert_eq!(found_by, breaks, "{fault:?}");
     }
