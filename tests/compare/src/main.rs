@@ -1,4 +1,5 @@
-//! The static library against the independent implementation: `compare [LISTS SEED]`.
+//! The static library against the independent implementation: `compare [LISTS SEED]`; and the laws of flips
+//! and replaces on the static library alone: `compare laws [NETS SEED]`.
 //!
 //! Every lent buffer goes back to the comparison as the library left it, so a refused call that wrote
 //! something is found, and so is a place of a net that was touched and is not in use. Behind each buffer
@@ -6,10 +7,12 @@
 
 use gadwemosh::raw;
 use independent::calls::Weights;
+use independent::closing::close;
 use independent::compare::compare_calls;
 use independent::counts::OF_A_LIBRARY;
 use independent::first::Given;
 use independent::handed::Net;
+use independent::laws::run_laws;
 use independent::library::Library;
 use independent::projection::Room;
 use independent::record::{Lookup, Refusal};
@@ -105,22 +108,12 @@ impl Library for Static {
 
 fn main() -> ExitCode {
     let words: Vec<String> = std::env::args().skip(1).collect();
-    let number = |place: usize, otherwise: u64| words.get(place).map_or(otherwise, |word| word.parse().expect("a number"));
-    let (lists, seed) = (number(0, 20000), number(1, 1));
     let started = Instant::now();
-    let counts = match compare_calls(&mut Static, lists as usize, seed) {
-        Ok(counts) => counts,
-        Err(what) => {
-            println!("DISAGREEMENT: {what}");
-            return ExitCode::FAILURE;
-        }
-    };
-    let seconds = started.elapsed().as_secs_f64();
-    println!("{}\n{seconds:.1} s, {:.0} calls a second; disagreements 0", counts.closing_lines(OF_A_LIBRARY), counts.calls as f64 / seconds);
-    let missing = counts.missing(OF_A_LIBRARY);
-    if missing.is_empty() {
-        return ExitCode::SUCCESS;
+    let number = |place: usize, otherwise: u64| words.get(place).map_or(otherwise, |word| word.parse().expect("a number"));
+    if words.first().is_some_and(|word| word == "laws") {
+        let (nets, seed) = (number(1, 200_000), number(2, 1));
+        return close(run_laws(&mut Static, nets as usize, seed).map(|counts| counts.closing()), started);
     }
-    println!("NEVER OCCURRED: {}", missing.join(", "));
-    ExitCode::FAILURE
+    let (lists, seed) = (number(0, 20000), number(1, 1));
+    close(compare_calls(&mut Static, lists as usize, seed).map(|counts| counts.closing(OF_A_LIBRARY)), started)
 }

@@ -31,14 +31,13 @@ const ALL_TAGS_ONCE_IN: usize = 32;
 const CLAIM_ONCE_IN: usize = 3;
 
 /// Bits of a weight.
-const WEIGHT_BITS: u32 = 64;
+pub const WEIGHT_BITS: u32 = 64;
 
 /// Runs so many lists. The first disagreement ends it, with what leads to it.
 pub fn compare_calls(library: &mut dyn Library, lists: usize, seed: u64) -> Result<Counts, String> {
     let mut counts = Counts::default();
     for number in 0..lists {
-        let random = Random::new(seed.wrapping_mul(0x1000_0000_01b3).wrapping_add(number as u64));
-        let mut run = Run { library, counts: &mut counts, random };
+        let mut run = Run { library, counts: &mut counts, random: Random::of_part(seed, number) };
         run.one_list(number).map_err(|what| format!("seed {seed}, list {number}: {what}"))?;
     }
     Ok(counts)

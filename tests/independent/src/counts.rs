@@ -2,6 +2,7 @@
 //! kind of net.
 
 use crate::calls::{Answer, Call, Weights, FLIP, REPLACE};
+use crate::closing::Closing;
 use crate::handed::{Net, ENTRIES, LARGEST, PLACES};
 use crate::projection::{Projection, Room, COORDINATES, DIRECTION};
 use crate::record::{Lookup, Refusal};
@@ -40,8 +41,8 @@ pub struct Counts {
     pub full_frames: u64,
     /// Nets left or points found with a component of exactly 2 to the 48th.
     pub at_the_limit: u64,
-    /// Accepted records of each shape, in the order of `Shape::all`.
-    shapes: Vec<u64>,
+    /// Accepted records of each shape.
+    shapes: Shapes,
     /// Handed nets in runs with too few places, with just enough, and with more.
     pub runs: [u64; 3],
     /// Handed nets at fault in their second degree alone, of each kind.
@@ -66,6 +67,10 @@ pub struct Counts {
     /// First nets over a place that held another number, from records and without.
     pub firsts_over: [u64; 2],
 }
+
+/// How often each shape came, in the order of `Shape::all`.
+#[derive(Clone, Debug, Default)]
+pub struct Shapes(Vec<u64>);
 
 /// A claim, by what is right: the least and the largest number of 64 bits are counted for
 /// themselves, the other negative ones too.
@@ -140,8 +145,23 @@ impl Tally {
     }
 }
 
+impl Shapes {
+    pub fn count(&mut self, shape: Shape) {
+        let all = Shape::all();
+        self.0.resize(all.len(), 0);
+        self.0[all.iter().position(|one| *one == shape).expect("a shape")] += 1;
+    }
+
+    /// Those that never came.
+    pub fn missing(&self) -> Vec<String> {
+        let shapes = Shape::all().into_iter().enumerate();
+        let unseen = shapes.filter(|(place, _)| self.0.get(*place).is_none_or(|count| *count == 0));
+        unseen.map(|(_, shape)| format!("{} of degrees {:?}", shape.kind.word(), shape.degrees)).collect()
+    }
+}
+
 /// Where a kind stands in a list of all.
-fn place(kind: Kind) -> usize {
+pub fn place(kind: Kind) -> usize {
     usize::from(kind.number()) - 1
 }
 
@@ -159,9 +179,7 @@ impl Counts {
         match outcome {
             Ok(shape) => {
                 self.records_read += 1;
-                let all = Shape::all();
-                self.shapes.resize(all.len(), 0);
-                self.shapes[all.iter().position(|one| *one == shape).expect("a shape")] += 1;
+                self.shapes.count(shape);
             }
             Err(refusal) => self.tally(kind, |tally| tally.refused(refusal.number)),
         }
@@ -343,11 +361,8 @@ impl Counts {
     pub fn missing(&self, numbers: &[usize]) -> Vec<String> {
         let of = |kind: Kind| move |what: String| format!("{what} of a {}", kind.word());
         let answers = Kind::ALL.into_iter().flat_map(|kind| self.kinds[place(kind)].missing(numbers).into_iter().map(of(kind)));
-        let shapes = Shape::all().into_iter().enumerate();
-        let unseen = shapes.filter(|(place, _)| self.shapes.get(*place).is_none_or(|count| *count == 0));
-        let unseen = unseen.map(|(_, shape)| format!("{} of degrees {:?}", shape.kind.word(), shape.degrees));
         let lent = if numbers.contains(&11) { self.missing_of_what_is_lent() } else { Vec::new() };
-        answers.chain(unseen).chain(lent).collect()
+        answers.chain(self.shapes.missing()).chain(lent).collect()
     }
 
     fn missing_of_what_is_lent(&self) -> Vec<String> {
@@ -402,8 +417,12 @@ impl Counts {
         format!("{first}{second}; by first nets over another number: of a record {of_a_record}, without {without}")
     }
 
+    pub fn closing(&self, numbers: &[usize]) -> Closing {
+        Closing { calls: self.calls, lines: self.closing_lines(numbers), missing: self.missing(numbers) }
+    }
+
     /// Lines with every count, the last ones for each kind.
-    pub fn closing_lines(&self, numbers: &[usize]) -> String {
+    fn closing_lines(&self, numbers: &[usize]) -> String {
         let (calls, read, answered) = (self.calls, self.records_read, self.all.line(numbers));
         let mut line = format!("calls {calls}; records accepted {read}; {answered}; at 2^48 exactly {}", self.at_the_limit);
         if self.lists > 0 {
@@ -452,11 +471,11 @@ mod tests {
     #[test]
     fn each_kind_must_have_every_refusal_and_projection() {
         let full = Tally { taken: 1, found: 3, refusals: [1; 13], frames_beyond: 0, finite: 1, direction: 1, nowhere: 1 };
-        let mut counts = Counts { all: full, kinds: [full; 3], shapes: vec![1; Shape::all().len()], ..Counts::default() };
+        let mut counts = Counts { all: full, kinds: [full; 3], shapes: Shapes(vec![1; Shape::all().len()]), ..Counts::default() };
         assert_eq!(counts.missing(OF_A_PROGRAM), Vec::<String>::new());
         counts.kinds[2].refusals[7] = 0;
         counts.kinds[2].nowhere = 0;
-        counts.shapes[42] = 0;
+        counts.shapes.0[42] = 0;
         assert_eq!(counts.missing(OF_A_PROGRAM), ["refusal 7 of a rect", "nowhere of a rect", "rect of degrees [5, 5]"]);
         let missing = counts.missing(OF_A_LIBRARY);
         assert!(missing.contains(&"a point of a rect refused with the second".to_string()));

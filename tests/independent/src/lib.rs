@@ -4,9 +4,11 @@
 //! record's polynomials and an unbounded frame (`machine`); the same calls on a
 //! handed net work over its entries alone (`handed`). That the two agree along
 //! every list is the third demand, tested here and compared with a library
-//! through the trait in `library`.
+//! through the trait in `library`. What holds of flips and replaces in another
+//! order is asked of a library without either (`laws`).
 
 pub mod calls;
+pub mod closing;
 pub mod compare;
 pub mod compare_text;
 pub mod counts;
@@ -14,6 +16,8 @@ pub mod exact;
 pub mod first;
 pub mod generate;
 pub mod handed;
+pub mod law_counts;
+pub mod laws;
 pub mod library;
 pub mod machine;
 pub mod polar;

@@ -1,8 +1,10 @@
 //! Commands of the independent implementation; see README.md.
 
+use independent::closing::close;
 use independent::compare::{compare_calls, hex};
 use independent::compare_text::{compare_text, records};
-use independent::counts::{Counts, OF_A_LIBRARY, OF_A_PROGRAM};
+use independent::counts::{OF_A_LIBRARY, OF_A_PROGRAM};
+use independent::laws::run_laws;
 use independent::library::Model;
 use independent::selftest::selftest;
 use independent::text::{text, LONGEST_INPUT};
@@ -14,7 +16,8 @@ const USAGE: &str = "independent netprint < RECORD
 independent records COUNT SEED
 independent compare-text PROGRAM COUNT SEED
 independent selftest [LISTS SEED]
-independent counts [LISTS SEED]";
+independent counts [LISTS SEED]
+independent laws [NETS SEED]";
 
 fn main() -> ExitCode {
     let words: Vec<String> = std::env::args().skip(1).collect();
@@ -27,15 +30,23 @@ fn main() -> ExitCode {
             _ => usage(),
         },
         Some("compare-text") => match (words.get(1), number(2, 1000), number(3, 1)) {
-            (Some(program), Some(count), Some(seed)) => close(compare_text(program, count as usize, seed), started, OF_A_PROGRAM),
+            (Some(program), Some(count), Some(seed)) => {
+                close(compare_text(program, count as usize, seed).map(|counts| counts.closing(OF_A_PROGRAM)), started)
+            }
             _ => usage(),
         },
         Some("selftest") => match (number(1, 2000), number(2, 1)) {
-            (Some(lists), Some(seed)) => close(selftest(lists as usize, seed), started, OF_A_LIBRARY),
+            (Some(lists), Some(seed)) => close(selftest(lists as usize, seed), started),
             _ => usage(),
         },
         Some("counts") => match (number(1, 4000), number(2, 1)) {
-            (Some(lists), Some(seed)) => close(compare_calls(&mut Model, lists as usize, seed), started, OF_A_LIBRARY),
+            (Some(lists), Some(seed)) => {
+                close(compare_calls(&mut Model, lists as usize, seed).map(|counts| counts.closing(OF_A_LIBRARY)), started)
+            }
+            _ => usage(),
+        },
+        Some("laws") => match (number(1, 20000), number(2, 1)) {
+            (Some(nets), Some(seed)) => close(run_laws(&mut Model, nets as usize, seed).map(|counts| counts.closing()), started),
             _ => usage(),
         },
         _ => usage(),
@@ -69,24 +80,4 @@ fn print_records(count: usize, seed: u64) -> ExitCode {
         }
     }
     ExitCode::SUCCESS
-}
-
-/// The closing lines; a disagreement fails, and so does anything that never occurred.
-fn close(result: Result<Counts, String>, started: Instant, refusals: &[usize]) -> ExitCode {
-    let counts = match result {
-        Ok(counts) => counts,
-        Err(what) => {
-            println!("DISAGREEMENT: {what}");
-            return ExitCode::FAILURE;
-        }
-    };
-    let missing = counts.missing(refusals);
-    let seconds = started.elapsed().as_secs_f64();
-    let rate = counts.calls as f64 / seconds.max(1e-9);
-    println!("{}\n{seconds:.1} s, {rate:.0} a second; disagreements 0", counts.closing_lines(refusals));
-    if missing.is_empty() {
-        return ExitCode::SUCCESS;
-    }
-    println!("NEVER OCCURRED: {}", missing.join(", "));
-    ExitCode::FAILURE
 }

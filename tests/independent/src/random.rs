@@ -10,6 +10,11 @@ impl Random {
         Random { state: seed }
     }
 
+    /// The source of one part of a run, which follows from the run's seed and the part's number.
+    pub fn of_part(seed: u64, number: usize) -> Random {
+        Random::new(seed.wrapping_mul(0x1000_0000_01b3).wrapping_add(number as u64))
+    }
+
     pub fn next(&mut self) -> u64 {
         self.state = self.state.wrapping_add(0x9e37_79b9_7f4a_7c15);
         let mut mixed = self.state;

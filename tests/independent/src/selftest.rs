@@ -1,9 +1,11 @@
-//! Document 01's samples, and the list theorem as a test.
+//! Document 01's samples, the list theorem as a test, and the laws of flips and replaces.
 
 use crate::calls::Answer;
+use crate::closing::Closing;
 use crate::compare::{check_net, compare_calls, first_net};
-use crate::counts::Counts;
+use crate::counts::OF_A_LIBRARY;
 use crate::generate::{encode, made, Caller, Mood};
+use crate::laws::run_laws;
 use crate::library::Model;
 use crate::machine::Machine;
 use crate::random::Random;
@@ -11,15 +13,16 @@ use crate::record::read;
 use crate::samples::check_samples;
 use crate::shape::Shape;
 
-/// Samples, machine against handed net, two ways to one frame, and the comparison
-/// with this package as the library.
-pub fn selftest(lists: usize, seed: u64) -> Result<Counts, String> {
+/// Samples, machine against handed net, two ways to one frame, then the comparison and the
+/// laws, on as many nets, with this package as the library.
+pub fn selftest(lists: usize, seed: u64) -> Result<Closing, String> {
     check_samples()?;
     let mut random = Random::new(seed);
     for number in 0..lists.min(600) {
         list_theorem(&mut random, number).map_err(|what| format!("seed {seed}, theorem {number}: {what}"))?;
     }
-    compare_calls(&mut Model, lists, seed)
+    let compared = compare_calls(&mut Model, lists, seed)?.closing(OF_A_LIBRARY);
+    Ok(compared.and(run_laws(&mut Model, lists, seed)?.closing()))
 }
 
 /// Along a random list the answers agree, and the net left is the polar values over

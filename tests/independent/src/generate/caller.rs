@@ -147,6 +147,25 @@ impl Caller {
         Call::Move { operation: REPLACE, vertex, weights }
     }
 
+    /// Weights for a replace of this vertex, mostly in order; at times with 0 for the vertex itself, one
+    /// outside, one that is not used, or two of these.
+    pub fn of_a_replace(&self, random: &mut Random, vertex: u8) -> Weights {
+        let (used, seat) = seats(self.kind, vertex);
+        let mut weights = self.weights(random, used);
+        while weights[seat] == 0 {
+            weights[seat] = self.weight(random);
+        }
+        let far = self.outside(random);
+        match random.below(20) {
+            0 | 1 => weights[seat] = 0,
+            2 => weights[random.below(used)] = far,
+            3 => weights[used + random.below(MOST_VERTICES - used)] = random.pick(&[1, -1, 4096, far]),
+            4 => (weights[seat], weights[(seat + 1) % used]) = (0, far),
+            _ => {}
+        }
+        weights
+    }
+
     /// Large on the vertices that the entries do not see, or small once they are large
     /// themselves; elsewhere the vertex itself.
     fn growing(&self, random: &mut Random, place: usize) -> Weights {

@@ -1,6 +1,7 @@
 //! Handed nets and quadruples of any numbers.
 
 use super::records::any_shape;
+use crate::calls::{Call, FLIP, NO_WEIGHTS};
 use crate::handed::{head, Net, ENTRIES, FRAME, LARGEST, PLACES};
 use crate::projection::Room;
 use crate::random::Random;
@@ -30,6 +31,18 @@ pub fn handed(random: &mut Random) -> Net {
         shape_outside(random, &mut net);
     }
     net
+}
+
+/// A handed net with kind, degrees, entries and frame in order, so that every flip is taken, and
+/// its shape.
+pub fn in_order(random: &mut Random) -> (Shape, Net) {
+    let flip = Call::Move { operation: FLIP, vertex: 1, weights: NO_WEIGHTS };
+    loop {
+        let net = handed(random);
+        if let Ok(shape) = net.judged(&flip) {
+            return (shape, net);
+        }
+    }
 }
 
 /// What a net claims as its largest component, where its run is long enough: the right number,
