@@ -223,7 +223,11 @@ uint8_t gadwemosh_first(uint8_t kind, uint8_t degree, uint8_t second, const int6
  * A move that is taken writes the entries and the vertex's own numbers in the frame, a replace also the largest
  * component. It is refused 12 where a
  * number of the net's frame, or for a replace a number of the point at the weights, is beyond GADWEMOSH_LARGEST,
- * and then it does not matter how large the polar values are. A refused move leaves the net as it was. */
+ * and then it does not matter how large the polar values are. A refused move leaves the net as it was.
+ *
+ * Two flips of one vertex restore every place. A flip and then a replace of another vertex leave what the replace
+ * and then the flip leave, with the flipped vertex's weight negated if the two are in one pair
+ * (docs/SPECIFICATION.md, 'Order of flips and splits'). */
 uint8_t gadwemosh_move(int64_t *net, size_t net_length, uint8_t operation, uint8_t vertex, int64_t r,
                        int64_t s, int64_t t, int64_t u);
 

@@ -368,6 +368,9 @@ impl Net {
 
     /// Puts a vertex's negative in its place. A vertex that the kind does not have is refused
     /// ([`Refused::ARGUMENT`]).
+    ///
+    /// A second flip of the vertex restores the net. A flip and then a replace of another vertex leave what the replace
+    /// and then the flip leave, with the flipped vertex's weight negated if the two are in one pair.
     pub fn flip(&mut self, vertex: Vertex) -> Result<(), Refused> {
         self.take(Move {
             operation: raw::FLIP,

@@ -8,10 +8,10 @@ use mathlib.Core.Path.{_≡_, refl, sym, ap, _∙_, subst}
 use mathlib.Core.Logic.{_≢_}
 use mathlib.Core.Bool.{Bool, true, false, _&&_, not, cond}
 use mathlib.Core.List.{List, [], _∷_, _++_, map, append-nil}
-use lib.Dec.{eqb, leb, eqb·zero-suc, eqb·suc-suc}
+use lib.Dec.{eqb, leb, lit≤}
 use lib.IntN.{ℤ, pos, negℤ, natAbs}
 use lib.ListN.{length, getD, drop}
-use borrow.Author.Tests.{leb-false, le-leb}
+use borrow.Author.Tests.{leb-false, le-leb, ne-eqb}
 use Rattle.integers.specs.Test.{all}
 use Rattle.integers.proofs.All.{and-true, all-map}
 use Rattle.integers.proofs.Laws.{natAbs-neg}
@@ -45,11 +45,10 @@ list-negated (suc zero) w = refl
 list-negated (suc (suc zero)) w = refl
 list-negated (suc (suc (suc zero))) w = refl
 list-negated (suc (suc (suc (suc k)))) w =
-    let one = eqb·suc-suc 0 (suc (suc (suc k))) ∙ eqb·zero-suc (suc (suc k)) in
-    let two = eqb·suc-suc 1 (suc (suc (suc k))) ∙ eqb·suc-suc 0 (suc (suc k)) ∙ eqb·zero-suc (suc k) in
-    let three = eqb·suc-suc 2 (suc (suc (suc k))) ∙ eqb·suc-suc 1 (suc (suc k)) ∙ eqb·suc-suc 0 (suc k) ∙ eqb·zero-suc k in
-    λ i.
-    cond (eqb·zero-suc (suc (suc (suc k))) i) (negℤ (w .r)) (w .r) ∷ cond (one i) (negℤ (w .s)) (w .s) ∷ cond (two i) (negℤ (w .t)) (w .t) ∷ cond (three i) (negℤ (w .u)) (w .u) ∷ []
+    λ i. cond (past 0 (lit≤ tt) i) (negℤ (w .r)) (w .r) ∷ cond (past 1 (lit≤ tt) i) (negℤ (w .s)) (w .s) ∷ cond (past 2 (lit≤ tt) i) (negℤ (w .t)) (w .t) ∷ cond (past 3 (lit≤ tt) i) (negℤ (w .u)) (w .u) ∷ []
+  where
+    past : (a : ℕ) → a < 4 → eqb a (suc (suc (suc (suc k)))) ≡ false
+    past a h = ne-eqb a (suc (suc (suc (suc k)))) (λ e. omega arith)
 
 negated-list : (gs : List Group) (v : ℕ) (w : Weights) → weightList (negated gs v w) ≡ negatedAt (ownAt gs (pred v)) (weightList w)
 negated-list gs v w = list-negated (ownAt gs (pred v)) w
@@ -126,10 +125,12 @@ record Fit (net : Net) : Type 0 where
   whole : Whole net
   range : AllInRange net
 
-pub sound : (net : Net) → Whole net → AllInRange net → Sound net
+-- it has all its numbers, so far as the proofs of lent places ask for them
+sound : (net : Net) → Whole net → AllInRange net → Sound net
 sound net whole range =
     record { right = range .kind; framed = subst (Framed (netGroups net)) (whole .frames) (framed-numbers (netGroups net) (numbersOf (net .frames))); exact = whole .entries }
 
+-- and back
 pub whole-again : (net : Net) → Sound net → Whole net
 whole-again net is =
     record {
