@@ -9,7 +9,6 @@ import math
 from fields import FLP, REPL, f1, f2, f3, f4
 
 OUT = []
-WORDS = {1: "curve", 2: "patch", 3: "rect"}
 
 
 def group(title):
@@ -109,16 +108,23 @@ both("order-rect-apart-second", 3, [flip(4), replace(1, 2, 3)], [replace(1, 2, 3
 
 group("a flip and a replace of another vertex that is refused: the flip stays, before or after it")
 # the value of 3T + Z at 4096 (0, -1) + 4095 (1, 1) is 12284, and 12 x 12284^4 is beyond 2^48
-S("order-curve-refused-a", 1, [flip(1), replace(2, 4096, 4095)], [(2, 10)], ((0, -1), (1, 1)), "flip r, then s at (4096, 4095), which is 10")
-S("order-curve-refused-b", 1, [replace(2, -4096, 4095), flip(1)], [(1, 10)], ((0, -1), (1, 1)), "s at (-4096, 4095) is 10, then flip r")
-S("order-patch-refused-a", 2, [flip(3), replace(1, 0, 2, 3)], [(2, 9)], ((0, 0, 1), (1, 0, 1), (0, -1, -1)), "flip t, then r with weight 0, which is 9")
-S("order-patch-refused-b", 2, [replace(1, 0, 2, -3), flip(3)], [(1, 9)], ((0, 0, 1), (1, 0, 1), (0, -1, -1)), "r with weight 0 is 9, then flip t")
-S("order-rect-refused-a", 3, [flip(1), replace(4, 4097, 1)], [(2, 8)], ((0, -1), (1, 1), (0, 1), (1, 1)), "flip r1, then s2 with a weight outside, which is 8")
-S("order-rect-refused-b", 3, [replace(4, 4097, 1), flip(1)], [(1, 8)], ((0, -1), (1, 1), (0, 1), (1, 1)), "s2 with a weight outside is 8, then flip r1")
+S("order-curve-refused-a", 1, [flip(1), replace(2, 4096, 4095)], [(2, 10)], ((0, -1), (1, 1)),
+  "flip r, then s at (4096, 4095), which is 10")
+S("order-curve-refused-b", 1, [replace(2, -4096, 4095), flip(1)], [(1, 10)], ((0, -1), (1, 1)),
+  "s at (-4096, 4095) is 10, then flip r")
+S("order-patch-refused-a", 2, [flip(3), replace(1, 0, 2, 3)], [(2, 9)], ((0, 0, 1), (1, 0, 1), (0, -1, -1)),
+  "flip t, then r with weight 0, which is 9")
+S("order-patch-refused-b", 2, [replace(1, 0, 2, -3), flip(3)], [(1, 9)], ((0, 0, 1), (1, 0, 1), (0, -1, -1)),
+  "r with weight 0 is 9, then flip t")
+S("order-rect-refused-a", 3, [flip(1), replace(4, 4097, 1)], [(2, 8)], ((0, -1), (1, 1), (0, 1), (1, 1)),
+  "flip r1, then s2 with a weight outside, which is 8")
+S("order-rect-refused-b", 3, [replace(4, 4097, 1), flip(1)], [(1, 8)], ((0, -1), (1, 1), (0, 1), (1, 1)),
+  "s2 with a weight outside is 8, then flip r1")
 
 group("a flip and a replace of the same vertex")
 # 2 (0, 1) - 3 (1, 1) = (-3, -1)
-both("order-curve-itself", 1, [flip(2), replace(2, 2, 3)], [replace(2, 2, -3)], ((0, 1), (-3, -1)), "flip s, then s at (2, 3); or s at (2, -3) alone")
+both("order-curve-itself", 1, [flip(2), replace(2, 2, 3)], [replace(2, 2, -3)], ((0, 1), (-3, -1)),
+     "flip s, then s at (2, 3); or s at (2, -3) alone")
 # (0, 0, 1) - 2 (1, 0, 1) + 3 (0, 1, 1) = (-2, 3, 2)
 both("order-patch-itself", 2, [flip(2), replace(2, 1, 2, 3)], [replace(2, 1, -2, 3)], ((0, 0, 1), (-2, 3, 2), (0, 1, 1)),
      "flip s, then s at (1, 2, 3); or s at (1, -2, 3) alone")
