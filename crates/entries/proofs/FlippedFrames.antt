@@ -14,6 +14,7 @@ use Rattle.integers.proofs.Sums.{sum-cong}
 use Rattle.integers.proofs.Laws.{*ℤ-negl, *ℤ-negr}
 use Rattle.polar.specs.Sigma.{Point}
 use Rattle.polar.specs.Groups.{Group, head, tail}
+use Rattle.polar.proofs.Sigma.{at-neg}
 use Rattle.entries.specs.Frame.{combination, vertexAt, pointsOver, putOver}
 use Rattle.entries.proofs.Flips.{negatedAt, negated-there, negatedOver, SameIn}
 
@@ -89,11 +90,6 @@ module _ (d v : ℕ) (ws : List ℤ) (frame : List Point) (below : v < length fr
   abbrev flippedFrame : List Point
   flippedFrame = set frame v (map negℤ (vertexAt frame v))
 
-  negative-at : (p : Point) (c : ℕ) → getD (map negℤ p) c (pos 0) ≡ negℤ (getD p c (pos 0))
-  negative-at [] c = refl
-  negative-at (x ∷ p) zero = refl
-  negative-at (x ∷ p) (suc c) = negative-at p c
-
   -- one member of the sum for coordinate c
   turned : (c u : ℕ) → Dec (u ≡ v) → getD ws u (pos 0) *ℤ getD (vertexAt flippedFrame u) c (pos 0) ≡ getD (negatedAt v ws) u (pos 0) *ℤ getD (vertexAt frame u) c (pos 0)
   turned c u (yes p) =
@@ -101,7 +97,7 @@ module _ (d v : ℕ) (ws : List ℤ) (frame : List Point) (below : v < length fr
       let x = getD (vertexAt frame v) c (pos 0) in
       ap (λ i. getD ws i (pos 0) *ℤ getD (vertexAt flippedFrame i) c (pos 0)) p
       ∙ ap (λ q. w *ℤ getD q c (pos 0)) (getD-set-same frame v (map negℤ (vertexAt frame v)) [] below)
-      ∙ ap (λ z. w *ℤ z) (negative-at (vertexAt frame v) c)
+      ∙ ap (λ z. w *ℤ z) (at-neg (vertexAt frame v) c)
       ∙ *ℤ-negr w x
       ∙ sym (*ℤ-negl w x)
       ∙ ap (λ z. z *ℤ x) (sym (negated-there v ws))

@@ -1,7 +1,7 @@
 -- The laws of one group carried to groups: with the points of the other groups held, a form over groups is a form in the points of one group,
 -- so each law below is an induction on the groups with the one group's law as its step.
 use Prim.Native.Nat.{ℕ, zero, suc, _+_, _/_, _<_}
-use native.Mathlib.Nat.{le-of-suc-le-suc, not-suc-le-zero, zero-add, add-zero}
+use native.Mathlib.Nat.{le-of-suc-le-suc, not-suc-le-zero, zero-add, add-zero, suc-inj, suc-ne-zero}
 use native.Mathlib.Omega.{arith}
 use mathlib.Core.Path.{_≡_, refl, sym, ap, ap₂, _∙_, fun-ext, subst}
 use mathlib.Core.List.{List, [], _∷_, _++_, map, append-nil}
@@ -94,20 +94,14 @@ fixes-over [] G F [] long weights f agrees (e ∷ es) named = absurd named
 fixes-over [] G F (frame ∷ frames) long weights f agrees es named = absurd long
 fixes-over (g ∷ gs) G F [] long weights f agrees es named = absurd long
 fixes-over (g ∷ gs) G F (frame ∷ frames) long weights f agrees [] named = absurd named
-fixes-over (g ∷ gs) G F (frame ∷ frames) long weights f agrees ([] ∷ es) named = absurd (wrong (named .0))
-  where
-    wrong : 0 ≡ suc (suc (g .dimension)) → ⊥
-    wrong w = omega arith
+fixes-over (g ∷ gs) G F (frame ∷ frames) long weights f agrees ([] ∷ es) named = absurd (suc-ne-zero _ (sym (named .0)))
 fixes-over (g ∷ gs) G F (frame ∷ frames) long weights f agrees ((h ∷ e) ∷ es) named =
     let q = combination (suc (g .dimension)) (head weights) (vertexAt frame) in
     fixes-over gs (λ pss. G ((replicate h q ++ taken (vertexAt frame) e) ∷ pss)) (F .1 (replicate h q ++ taken (vertexAt frame) e)) frames (long .2) (tail weights)
     (λ rest. fixed (suc (g .dimension)) (head weights) (λ r. f (r ∷ rest)) h e)
     (λ rest p.
-    fixes (F .0 (takenOver frames rest)) (vertexAt frame) (head weights) (λ r. f (r ∷ rest)) (λ r l t. agrees (r ∷ rest) (l, t, p)) h e (shorter (named .0)) (named .1))
+    fixes (F .0 (takenOver frames rest)) (vertexAt frame) (head weights) (λ r. f (r ∷ rest)) (λ r l t. agrees (r ∷ rest) (l, t, p)) h e (suc-inj (named .0)) (named .1))
     es (named .2)
-  where
-    shorter : suc (length e) ≡ suc (suc (g .dimension)) → length e ≡ suc (g .dimension)
-    shorter p = omega arith
 
 -- ---- a vertex replaced or flipped
 
@@ -130,23 +124,17 @@ pub points-long : (gs : List Group) (weights : List (List ℤ)) (frames : List (
 points-long [] weights frames = refl
 points-long (g ∷ gs) weights frames = ap suc (points-long gs (tail weights) (tail frames))
 
-down : {a b : ℕ} → suc a ≡ suc b → a ≡ b
-down p = omega arith
-
-zero-one : {a : ℕ} → 0 ≡ suc a → ⊥
-zero-one p = omega arith
-
 -- where no q is taken it does not matter
 none-taken : (gs : List Group) (qs : List Point) (frames : List (List Point)) (es : List (List ℕ)) → length qs ≡ length gs → Framed gs frames → Counted gs es
     → takenOver (before qs frames) (noneOfQ es) ≡ takenOver frames es
 none-taken [] [] [] es l long counted = refl
-none-taken [] (q ∷ qs) frames es l long counted = absurd (zero-one (sym l))
+none-taken [] (q ∷ qs) frames es l long counted = absurd (suc-ne-zero _ l)
 none-taken [] [] (frame ∷ frames) es l long counted = absurd long
-none-taken (g ∷ gs) [] frames es l long counted = absurd (zero-one l)
+none-taken (g ∷ gs) [] frames es l long counted = absurd (suc-ne-zero _ (sym l))
 none-taken (g ∷ gs) (q ∷ qs) [] es l long counted = absurd long
 none-taken (g ∷ gs) (q ∷ qs) (frame ∷ frames) [] l long counted = absurd counted
 none-taken (g ∷ gs) (q ∷ qs) (frame ∷ frames) (e ∷ es) l long counted =
-    ap (λ r. taken (vertexAt frame) e ∷ r) (none-taken gs qs frames es (down l) (long .2) (counted .2))
+    ap (λ r. taken (vertexAt frame) e ∷ r) (none-taken gs qs frames es (suc-inj l) (long .2) (counted .2))
 
 -- over the frames with q in the place of vertex v of group i the copies of that vertex are copies of q
 pub putting-over : (gs : List Group) (G : List (List Point) → ℤ) → Forms gs G → (frames : List (List Point)) → Framed gs frames → (qs : List Point) → length qs ≡ length gs
@@ -155,14 +143,14 @@ pub putting-over : (gs : List Group) (G : List (List Point) → ℤ) → Forms g
 putting-over [] G F [] long qs l i v h es counted = absurd (not-suc-le-zero h)
 putting-over [] G F (frame ∷ frames) long qs l i v h es counted = absurd long
 putting-over (g ∷ gs) G F [] long qs l i v h es counted = absurd long
-putting-over (g ∷ gs) G F (frame ∷ frames) long [] l i v h es counted = absurd (zero-one l)
+putting-over (g ∷ gs) G F (frame ∷ frames) long [] l i v h es counted = absurd (suc-ne-zero _ (sym l))
 putting-over (g ∷ gs) G F (frame ∷ frames) long (q ∷ qs) l i v h [] counted = absurd counted
 putting-over (g ∷ gs) G F (frame ∷ frames) long (q ∷ qs) l zero v h (e ∷ es) counted =
     ap (λ fr. G (taken fr e ∷ takenOver frames es)) (fun-ext (vertex-set frame v q h))
     ∙ putting (F .0 (takenOver frames es)) (vertexAt frame) q v e
-    ∙ ap (λ pss. G ((replicate (getD e v 0) q ++ taken (vertexAt frame) (set e v 0)) ∷ pss)) (sym (none-taken gs qs frames es (down l) (long .2) (counted .2)))
+    ∙ ap (λ pss. G ((replicate (getD e v 0) q ++ taken (vertexAt frame) (set e v 0)) ∷ pss)) (sym (none-taken gs qs frames es (suc-inj l) (long .2) (counted .2)))
 putting-over (g ∷ gs) G F (frame ∷ frames) long (q ∷ qs) l (suc i) v h (e ∷ es) counted =
-    putting-over gs (λ pss. G (taken (vertexAt frame) e ∷ pss)) (F .1 (taken (vertexAt frame) e)) frames (long .2) qs (down l) i v h es (counted .2)
+    putting-over gs (λ pss. G (taken (vertexAt frame) e ∷ pss)) (F .1 (taken (vertexAt frame) e)) frames (long .2) qs (suc-inj l) i v h es (counted .2)
 
 -- over the frames with −v in the place of v the sign changes where v is taken an odd number of times
 pub flipping-over : (gs : List Group) (G : List (List Point) → ℤ) → Forms gs G → (frames : List (List Point)) → Framed gs frames
@@ -222,9 +210,9 @@ named-only (g ∷ gs) = (
 -- where every point is q the points are the copies of q
 pub only-taken : (gs : List Group) (qs : List Point) (frames : List (List Point)) → length qs ≡ length gs → takenOver (before qs frames) (onlyQ gs) ≡ copies gs qs
 only-taken [] [] frames l = refl
-only-taken [] (q ∷ qs) frames l = absurd (zero-one (sym l))
-only-taken (g ∷ gs) [] frames l = absurd (zero-one l)
+only-taken [] (q ∷ qs) frames l = absurd (suc-ne-zero _ l)
+only-taken (g ∷ gs) [] frames l = absurd (suc-ne-zero _ (sym l))
 only-taken (g ∷ gs) (q ∷ qs) frames l =
     ap₂ (λ ps pss. ps ∷ pss)
     (ap (λ ps. replicate (g .degree) q ++ ps) (taken-zeros (vertexAt (head frames)) (suc (g .dimension))) ∙ append-nil (replicate (g .degree) q))
-    (only-taken gs qs (tail frames) (down l))
+    (only-taken gs qs (tail frames) (suc-inj l))

@@ -83,7 +83,7 @@ unfolding σ
     ∙ sum-*l (k v) (λ c. at (fr v) c *ℤ lowered c (σ d ps) e) (upto d))
     (upto d)
 
-at-neg : (p : Point) (c : ℕ) → at (map negℤ p) c ≡ negℤ (at p c)
+pub at-neg : (p : Point) (c : ℕ) → at (map negℤ p) c ≡ negℤ (at p c)
 at-neg [] c = refl
 at-neg (x ∷ p) zero = refl
 at-neg (x ∷ p) (suc c) = at-neg p c
