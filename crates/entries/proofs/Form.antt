@@ -10,7 +10,7 @@ use Rattle.integers.specs.Sum.{sum, upto}
 use Rattle.integers.proofs.Sums.{sum-cong, sum-upto-cong}
 use Rattle.polar.specs.Sigma.{Point}
 use Rattle.polar.specs.Order.{total}
-use Rattle.entries.specs.Frame.{taken, combination}
+use Rattle.entries.specs.Frame.{entryPoints, combination}
 use Rattle.entries.specs.Form.{Form}
 use Rattle.entries.specs.Entries.{raise, fixed, signed}
 use Rattle.entries.proofs.Signs.{signed-suc}
@@ -35,13 +35,13 @@ block F R zero p ys = refl
 block F R (suc k) p ys = F .front R p (replicate k p ++ ys) ∙ block (fixing F (p ∷ [])) R k p ys
 
 -- one more copy of a vertex is that vertex in front
-pub raised : {d : ℕ} {G : List Point → ℤ} → Form d G → (fr : ℕ → Point) (v : ℕ) (e : List ℕ) → G (taken fr (raise v e)) ≡ G (fr v ∷ taken fr e)
+pub raised : {d : ℕ} {G : List Point → ℤ} → Form d G → (fr : ℕ → Point) (v : ℕ) (e : List ℕ) → G (entryPoints fr (raise v e)) ≡ G (fr v ∷ entryPoints fr e)
 raised F fr zero [] = refl
 raised F fr zero (n ∷ e) = refl
 raised F fr (suc v) [] = raised F (λ u. fr (suc u)) v []
 raised F fr (suc v) (n ∷ e) =
     raised (fixing F (replicate n (fr 0))) (λ u. fr (suc u)) v e
-    ∙ F .front (replicate n (fr 0)) (fr (suc v)) (taken (λ u. fr (suc u)) e)
+    ∙ F .front (replicate n (fr 0)) (fr (suc v)) (entryPoints (λ u. fr (suc u)) e)
 
 pub total-raise : (v : ℕ) (e : List ℕ) → total (raise v e) ≡ suc (total e)
 total-raise zero [] = refl
@@ -57,17 +57,17 @@ length-raise (suc v) (n ∷ e) h = ap suc (length-raise v e (le-of-suc-le-suc h)
 
 -- one blend: if the values with h copies of q are the form's, so are those with one more
 pub blend : {d : ℕ} {G : List Point → ℤ} → Form d G → (fr : ℕ → Point) (ws : List ℤ) (f : List ℕ → ℤ) (Q : List Point) (e : List ℕ)
-    → ((v : ℕ) → v < d → f (raise v e) ≡ G (Q ++ taken fr (raise v e)))
-    → sum (λ v. getD ws v (pos 0) *ℤ f (raise v e)) (upto d) ≡ G (combination d ws fr ∷ (Q ++ taken fr e))
+    → ((v : ℕ) → v < d → f (raise v e) ≡ G (Q ++ entryPoints fr (raise v e)))
+    → sum (λ v. getD ws v (pos 0) *ℤ f (raise v e)) (upto d) ≡ G (combination d ws fr ∷ (Q ++ entryPoints fr e))
 blend {d} F fr ws f Q e agrees =
-    sum-upto-cong d (λ v p. ap (λ z. getD ws v (pos 0) *ℤ z) (agrees v p ∙ raised (fixing F Q) fr v e ∙ F .front Q (fr v) (taken fr e)))
-    ∙ sym (F .linear ws fr (Q ++ taken fr e))
+    sum-upto-cong d (λ v p. ap (λ z. getD ws v (pos 0) *ℤ z) (agrees v p ∙ raised (fixing F Q) fr v e ∙ F .front Q (fr v) (entryPoints fr e)))
+    ∙ sym (F .linear ws fr (Q ++ entryPoints fr e))
 
 -- What the entries of a net fix is what the form gives: f agrees with the form on the entries of degree m.
 pub fixes : {d m : ℕ} {G : List Point → ℤ} → Form d G → (fr : ℕ → Point) (ws : List ℤ) (f : List ℕ → ℤ)
-    → ((e : List ℕ) → length e ≡ d → total e ≡ m → f e ≡ G (taken fr e))
+    → ((e : List ℕ) → length e ≡ d → total e ≡ m → f e ≡ G (entryPoints fr e))
     → (h : ℕ) (e : List ℕ) → length e ≡ d → h + total e ≡ m
-    → fixed d ws f h e ≡ G (replicate h (combination d ws fr) ++ taken fr e)
+    → fixed d ws f h e ≡ G (replicate h (combination d ws fr) ++ entryPoints fr e)
 unfolding fixed
 fixes F fr ws f agrees zero e l t = agrees e l (sym (zero-add (total e)) ∙ t)
 fixes {d} F fr ws f agrees (suc h) e l t =
@@ -85,13 +85,13 @@ put (suc v) q fr (suc u) = put v q (λ w. fr (suc w)) u
 
 -- over the frame with q in the place of v, the copies of v are copies of q
 pub putting : {d : ℕ} {G : List Point → ℤ} → Form d G → (fr : ℕ → Point) (q : Point) (v : ℕ) (e : List ℕ)
-    → G (taken (put v q fr) e) ≡ G (replicate (getD e v 0) q ++ taken fr (set e v 0))
+    → G (entryPoints (put v q fr) e) ≡ G (replicate (getD e v 0) q ++ entryPoints fr (set e v 0))
 putting F fr q zero [] = refl
 putting F fr q zero (n ∷ e) = refl
 putting F fr q (suc v) [] = refl
 putting F fr q (suc v) (n ∷ e) =
     putting (fixing F (replicate n (fr 0))) (λ u. fr (suc u)) q v e
-    ∙ block F (replicate n (fr 0)) (getD e v 0) q (taken (λ u. fr (suc u)) (set e v 0))
+    ∙ block F (replicate n (fr 0)) (getD e v 0) q (entryPoints (λ u. fr (suc u)) (set e v 0))
 
 put-same : (v : ℕ) (fr : ℕ → Point) (u : ℕ) → put v (fr v) fr u ≡ fr u
 put-same zero fr zero = refl
@@ -109,8 +109,8 @@ negations {d} {G} F p (suc k) ps =
 
 -- over the frame with −v in the place of v the sign changes where v is taken an odd number of times
 pub flipping : {d : ℕ} {G : List Point → ℤ} → Form d G → (fr : ℕ → Point) (v : ℕ) (e : List ℕ)
-    → G (taken (put v (map negℤ (fr v)) fr) e) ≡ signed (getD e v 0) (G (taken fr e))
+    → G (entryPoints (put v (map negℤ (fr v)) fr) e) ≡ signed (getD e v 0) (G (entryPoints fr e))
 flipping {d} {G} F fr v e =
     putting F fr (map negℤ (fr v)) v e
-    ∙ negations F (fr v) (getD e v 0) (taken fr (set e v 0))
-    ∙ ap (signed (getD e v 0)) (sym (putting F fr (fr v) v e) ∙ ap (λ g. G (taken g e)) (fun-ext (put-same v fr)))
+    ∙ negations F (fr v) (getD e v 0) (entryPoints fr (set e v 0))
+    ∙ ap (signed (getD e v 0)) (sym (putting F fr (fr v) v e) ∙ ap (λ g. G (entryPoints g e)) (fun-ext (put-same v fr)))

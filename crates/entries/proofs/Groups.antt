@@ -17,7 +17,7 @@ use Rattle.polar.specs.Groups.{Group, head, tail}
 use Rattle.polar.specs.Scale.{scaleOver, multinomialOver}
 use Rattle.polar.specs.Polar.{Term, σOver, polarOver}
 use Rattle.polar.proofs.Value.{copies}
-use Rattle.entries.specs.Frame.{taken, combination, vertexAt, takenOver, pointsOver, before, putOver}
+use Rattle.entries.specs.Frame.{entryPoints, combination, vertexAt, entryPointsOver, pointsOver, framesWithQ, putOver}
 use Rattle.entries.specs.Entries.{fixed, signed, fixedOver, noneOfQ, asQ, onlyQ}
 use Rattle.entries.specs.Form.{Form}
 use Rattle.entries.proofs.Form.{fixes, put, putting, flipping}
@@ -85,9 +85,9 @@ polar-forms gs ts = σ-forms gs (λ t. t .coefficient *ℤ pos (scaleOver gs / m
 
 -- What the entries of a net fix is what the form gives, q standing before the vertices.
 pub fixes-over : (gs : List Group) (G : List (List Point) → ℤ) → Forms gs G → (frames : List (List Point)) → Framed gs frames → (weights : List (List ℤ)) (f : List (List ℕ) → ℤ)
-    → ((es : List (List ℕ)) → Counted gs es → f es ≡ G (takenOver frames es))
+    → ((es : List (List ℕ)) → Counted gs es → f es ≡ G (entryPointsOver frames es))
     → (es : List (List ℕ)) → Named gs es
-    → fixedOver gs weights f es ≡ G (takenOver (before (pointsOver gs weights frames) frames) es)
+    → fixedOver gs weights f es ≡ G (entryPointsOver (framesWithQ (pointsOver gs weights frames) frames) es)
 unfolding fixedOver
 fixes-over [] G F [] long weights f agrees [] named = agrees [] tt
 fixes-over [] G F [] long weights f agrees (e ∷ es) named = absurd named
@@ -97,10 +97,10 @@ fixes-over (g ∷ gs) G F (frame ∷ frames) long weights f agrees [] named = ab
 fixes-over (g ∷ gs) G F (frame ∷ frames) long weights f agrees ([] ∷ es) named = absurd (suc-ne-zero _ (sym (named .0)))
 fixes-over (g ∷ gs) G F (frame ∷ frames) long weights f agrees ((h ∷ e) ∷ es) named =
     let q = combination (suc (g .dimension)) (head weights) (vertexAt frame) in
-    fixes-over gs (λ pss. G ((replicate h q ++ taken (vertexAt frame) e) ∷ pss)) (F .1 (replicate h q ++ taken (vertexAt frame) e)) frames (long .2) (tail weights)
+    fixes-over gs (λ pss. G ((replicate h q ++ entryPoints (vertexAt frame) e) ∷ pss)) (F .1 (replicate h q ++ entryPoints (vertexAt frame) e)) frames (long .2) (tail weights)
     (λ rest. fixed (suc (g .dimension)) (head weights) (λ r. f (r ∷ rest)) h e)
     (λ rest p.
-    fixes (F .0 (takenOver frames rest)) (vertexAt frame) (head weights) (λ r. f (r ∷ rest)) (λ r l t. agrees (r ∷ rest) (l, t, p)) h e (suc-inj (named .0)) (named .1))
+    fixes (F .0 (entryPointsOver frames rest)) (vertexAt frame) (head weights) (λ r. f (r ∷ rest)) (λ r l t. agrees (r ∷ rest) (l, t, p)) h e (suc-inj (named .0)) (named .1))
     es (named .2)
 
 -- ---- a vertex replaced or flipped
@@ -126,7 +126,7 @@ points-long (g ∷ gs) weights frames = ap suc (points-long gs (tail weights) (t
 
 -- where no q is taken it does not matter
 none-taken : (gs : List Group) (qs : List Point) (frames : List (List Point)) (es : List (List ℕ)) → length qs ≡ length gs → Framed gs frames → Counted gs es
-    → takenOver (before qs frames) (noneOfQ es) ≡ takenOver frames es
+    → entryPointsOver (framesWithQ qs frames) (noneOfQ es) ≡ entryPointsOver frames es
 none-taken [] [] [] es l long counted = refl
 none-taken [] (q ∷ qs) frames es l long counted = absurd (suc-ne-zero _ l)
 none-taken [] [] (frame ∷ frames) es l long counted = absurd long
@@ -134,38 +134,38 @@ none-taken (g ∷ gs) [] frames es l long counted = absurd (suc-ne-zero _ (sym l
 none-taken (g ∷ gs) (q ∷ qs) [] es l long counted = absurd long
 none-taken (g ∷ gs) (q ∷ qs) (frame ∷ frames) [] l long counted = absurd counted
 none-taken (g ∷ gs) (q ∷ qs) (frame ∷ frames) (e ∷ es) l long counted =
-    ap (λ r. taken (vertexAt frame) e ∷ r) (none-taken gs qs frames es (suc-inj l) (long .2) (counted .2))
+    ap (λ r. entryPoints (vertexAt frame) e ∷ r) (none-taken gs qs frames es (suc-inj l) (long .2) (counted .2))
 
 -- over the frames with q in the place of vertex v of group i the copies of that vertex are copies of q
 pub putting-over : (gs : List Group) (G : List (List Point) → ℤ) → Forms gs G → (frames : List (List Point)) → Framed gs frames → (qs : List Point) → length qs ≡ length gs
     → (i v : ℕ) → v < length (getD frames i []) → (es : List (List ℕ)) → Counted gs es
-    → G (takenOver (putOver i v (getD qs i []) frames) es) ≡ G (takenOver (before qs frames) (asQ i v es))
+    → G (entryPointsOver (putOver i v (getD qs i []) frames) es) ≡ G (entryPointsOver (framesWithQ qs frames) (asQ i v es))
 putting-over [] G F [] long qs l i v h es counted = absurd (not-suc-le-zero h)
 putting-over [] G F (frame ∷ frames) long qs l i v h es counted = absurd long
 putting-over (g ∷ gs) G F [] long qs l i v h es counted = absurd long
 putting-over (g ∷ gs) G F (frame ∷ frames) long [] l i v h es counted = absurd (suc-ne-zero _ (sym l))
 putting-over (g ∷ gs) G F (frame ∷ frames) long (q ∷ qs) l i v h [] counted = absurd counted
 putting-over (g ∷ gs) G F (frame ∷ frames) long (q ∷ qs) l zero v h (e ∷ es) counted =
-    ap (λ fr. G (taken fr e ∷ takenOver frames es)) (fun-ext (vertex-set frame v q h))
-    ∙ putting (F .0 (takenOver frames es)) (vertexAt frame) q v e
-    ∙ ap (λ pss. G ((replicate (getD e v 0) q ++ taken (vertexAt frame) (set e v 0)) ∷ pss)) (sym (none-taken gs qs frames es (suc-inj l) (long .2) (counted .2)))
+    ap (λ fr. G (entryPoints fr e ∷ entryPointsOver frames es)) (fun-ext (vertex-set frame v q h))
+    ∙ putting (F .0 (entryPointsOver frames es)) (vertexAt frame) q v e
+    ∙ ap (λ pss. G ((replicate (getD e v 0) q ++ entryPoints (vertexAt frame) (set e v 0)) ∷ pss)) (sym (none-taken gs qs frames es (suc-inj l) (long .2) (counted .2)))
 putting-over (g ∷ gs) G F (frame ∷ frames) long (q ∷ qs) l (suc i) v h (e ∷ es) counted =
-    putting-over gs (λ pss. G (taken (vertexAt frame) e ∷ pss)) (F .1 (taken (vertexAt frame) e)) frames (long .2) qs (suc-inj l) i v h es (counted .2)
+    putting-over gs (λ pss. G (entryPoints (vertexAt frame) e ∷ pss)) (F .1 (entryPoints (vertexAt frame) e)) frames (long .2) qs (suc-inj l) i v h es (counted .2)
 
 -- over the frames with −v in the place of v the sign changes where v is taken an odd number of times
 pub flipping-over : (gs : List Group) (G : List (List Point) → ℤ) → Forms gs G → (frames : List (List Point)) → Framed gs frames
     → (i v : ℕ) → v < length (getD frames i []) → (es : List (List ℕ)) → Counted gs es
-    → G (takenOver (putOver i v (map negℤ (vertexAt (getD frames i []) v)) frames) es)
-    ≡ signed (getD (getD es i []) v 0) (G (takenOver frames es))
+    → G (entryPointsOver (putOver i v (map negℤ (vertexAt (getD frames i []) v)) frames) es)
+    ≡ signed (getD (getD es i []) v 0) (G (entryPointsOver frames es))
 flipping-over [] G F [] long i v h es counted = absurd (not-suc-le-zero h)
 flipping-over [] G F (frame ∷ frames) long i v h es counted = absurd long
 flipping-over (g ∷ gs) G F [] long i v h es counted = absurd long
 flipping-over (g ∷ gs) G F (frame ∷ frames) long i v h [] counted = absurd counted
 flipping-over (g ∷ gs) G F (frame ∷ frames) long zero v h (e ∷ es) counted =
-    ap (λ fr. G (taken fr e ∷ takenOver frames es)) (fun-ext (vertex-set frame v (map negℤ (vertexAt frame v)) h))
-    ∙ flipping (F .0 (takenOver frames es)) (vertexAt frame) v e
+    ap (λ fr. G (entryPoints fr e ∷ entryPointsOver frames es)) (fun-ext (vertex-set frame v (map negℤ (vertexAt frame v)) h))
+    ∙ flipping (F .0 (entryPointsOver frames es)) (vertexAt frame) v e
 flipping-over (g ∷ gs) G F (frame ∷ frames) long (suc i) v h (e ∷ es) counted =
-    flipping-over gs (λ pss. G (taken (vertexAt frame) e ∷ pss)) (F .1 (taken (vertexAt frame) e)) frames (long .2) i v h es (counted .2)
+    flipping-over gs (λ pss. G (entryPoints (vertexAt frame) e ∷ pss)) (F .1 (entryPoints (vertexAt frame) e)) frames (long .2) i v h es (counted .2)
 
 -- ---- the counts that calls name
 
@@ -182,7 +182,7 @@ pub length-zeros : (k : ℕ) → length {A = ℕ} (replicate k 0) ≡ k
 length-zeros zero = refl
 length-zeros (suc k) = ap suc (length-zeros k)
 
-taken-zeros : (fr : ℕ → Point) (k : ℕ) → taken fr (replicate k 0) ≡ []
+taken-zeros : (fr : ℕ → Point) (k : ℕ) → entryPoints fr (replicate k 0) ≡ []
 taken-zeros fr zero = refl
 taken-zeros fr (suc k) = taken-zeros (λ v. fr (suc v)) k
 
@@ -208,7 +208,7 @@ named-only (g ∷ gs) = (
 )
 
 -- where every point is q the points are the copies of q
-pub only-taken : (gs : List Group) (qs : List Point) (frames : List (List Point)) → length qs ≡ length gs → takenOver (before qs frames) (onlyQ gs) ≡ copies gs qs
+pub only-taken : (gs : List Group) (qs : List Point) (frames : List (List Point)) → length qs ≡ length gs → entryPointsOver (framesWithQ qs frames) (onlyQ gs) ≡ copies gs qs
 only-taken [] [] frames l = refl
 only-taken [] (q ∷ qs) frames l = absurd (suc-ne-zero _ l)
 only-taken (g ∷ gs) [] frames l = absurd (suc-ne-zero _ (sym l))

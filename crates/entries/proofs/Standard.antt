@@ -27,7 +27,7 @@ use Rattle.polar.proofs.Order.{of-joined, monomials-total}
 use Rattle.polar.proofs.Sigma.{lowered-zero, at-upto}
 use Rattle.polar.proofs.Diagonal.{lowered-past}
 use Rattle.polar.proofs.Value.{of-pairs}
-use Rattle.entries.specs.Frame.{taken, combination, unitPoint, units}
+use Rattle.entries.specs.Frame.{entryPoints, combination, unitPoint, units}
 use Rattle.entries.specs.Entries.{same, placeOf}
 use Rattle.entries.specs.Rows.{offset}
 use Rattle.entries.proofs.Places.{same-refl, same-eq, placed, Absent, place-rows, place-under, joined-map, offset-snoc, offset-cong, length-rows, member-rows}
@@ -137,21 +137,21 @@ append-nil (a ∷ e) = ap (λ l. a ∷ l) (append-nil e)
 
 -- a frame that holds the points of the coordinates from v on
 σ-from : (n v : ℕ) (fr : ℕ → Point) → ((w : ℕ) → fr w ≡ unitPoint (suc n) (v + w)) → (e : List ℕ) → v + length e ≡ n
-    → (x : List ℕ) → length x ≡ n → σ (suc n) (taken fr e) x ≡ only (replicate v 0 ++ e) x
+    → (x : List ℕ) → length x ≡ n → σ (suc n) (entryPoints fr e) x ≡ only (replicate v 0 ++ e) x
 unfolding σ
 σ-from n v fr is [] h x l =
     unit-only x ∙ ap (λ k. only (replicate k 0) x) (l ∙ sym h ∙ add-zero v) ∙ ap (λ y. only y x) (sym (append-nil (replicate v 0)))
 σ-from n v fr is (k ∷ e) h x l =
-    ap (λ p. σ (suc n) (replicate k p ++ taken (λ w. fr (suc w)) e) x) (is 0 ∙ ap (unitPoint (suc n)) (add-zero v))
-    ∙ σ-copies n v k e (taken (λ w. fr (suc w)) e) (omega arith)
+    ap (λ p. σ (suc n) (replicate k p ++ entryPoints (λ w. fr (suc w)) e) x) (is 0 ∙ ap (unitPoint (suc n)) (add-zero v))
+    ∙ σ-copies n v k e (entryPoints (λ w. fr (suc w)) e) (omega arith)
     (λ y q. σ-from n (suc v) (λ w. fr (suc w)) (λ w. is (suc w) ∙ ap (unitPoint (suc n)) (add-suc v w ∙ sym (suc-add v w))) e (omega arith) y q
     ∙ ap (λ z. only z y) (sym (zeros-shift v e)))
     x l
 
 -- σ of coordinate points is 1 at their own exponents and 0 elsewhere
-pub σ-units : (n i : ℕ) (e x : List ℕ) → length e ≡ n → length x ≡ n → σ (suc n) (taken (units n) (i ∷ e)) x ≡ cond (same e x) (pos 1) (pos 0)
+pub σ-units : (n i : ℕ) (e x : List ℕ) → length e ≡ n → length x ≡ n → σ (suc n) (entryPoints (units n) (i ∷ e)) x ≡ cond (same e x) (pos 1) (pos 0)
 σ-units n i e x h l =
-    σ-copies-Z n i (taken (λ v. units n (suc v)) e) x l
+    σ-copies-Z n i (entryPoints (λ v. units n (suc v)) e) x l
     ∙ σ-from n 0 (λ v. units n (suc v)) (λ w. ap (unitPoint (suc n)) (sym (zero-add w))) e (zero-add (length e) ∙ h) x l
 
 -- ---- the monomials are all different
@@ -306,7 +306,7 @@ module _ (c : ℕ) (K : List Exponents → ℤ) (e : Exponents) (yss : List (Lis
 -- the points of an entry over the frames of the coordinates, Z first in each
 abbrev pub unitsTaken : List Group → List (List ℕ) → List (List Point)
 unitsTaken [] es = []
-unitsTaken (g ∷ gs) es = taken (units (g .dimension)) (head es) ∷ unitsTaken gs (tail es)
+unitsTaken (g ∷ gs) es = entryPoints (units (g .dimension)) (head es) ∷ unitsTaken gs (tail es)
 
 -- the exponents of an entry: Z has none
 abbrev pub exponentsOf : List (List ℕ) → List Exponents
@@ -327,7 +327,7 @@ module _ (g : Group) (gs : List Group) (W : List Exponents → ℤ) (i : ℕ) (e
   is-only l x m =
       let r = of-pairs (monomials (g .dimension) (g .degree)) (monomialsOver gs) m in
       ap (λ s. W x *ℤ (s *ℤ σOver gs (unitsTaken gs es) (tail x)))
-      (subst (λ y. σ (suc (g .dimension)) (taken (units (g .dimension)) (i ∷ e)) (head y) ≡ only e (head y)) (r .4)
+      (subst (λ y. σ (suc (g .dimension)) (entryPoints (units (g .dimension)) (i ∷ e)) (head y) ≡ only e (head y)) (r .4)
       (σ-units (g .dimension) i e (r .0) l (monomials-total (g .dimension) (g .degree) (r .0) (r .2) .0)))
 
   others : (x : Exponents) → same e x ≡ false → (ys : List Exponents) → with-only (x ∷ ys) ≡ pos 0

@@ -11,9 +11,9 @@ use Rattle.polar.specs.Sigma.{Point}
 use Rattle.polar.specs.Groups.{Group, head, tail}
 
 -- the points of an entry: as many copies of each vertex as the counts say, the vertices in order
-abbrev pub taken : (ℕ → Point) → List ℕ → List Point
-taken fr [] = []
-taken fr (n ∷ e) = replicate n (fr 0) ++ taken (λ v. fr (suc v)) e
+abbrev pub entryPoints : (ℕ → Point) → List ℕ → List Point
+entryPoints fr [] = []
+entryPoints fr (n ∷ e) = replicate n (fr 0) ++ entryPoints (λ v. fr (suc v)) e
 
 -- q = αr + βs (+ γt), coordinate by coordinate, for d vertices with d coordinates each
 abbrev pub combination : ℕ → List ℤ → (ℕ → Point) → Point
@@ -33,9 +33,9 @@ abbrev pub vertexAt : List Point → ℕ → Point
 vertexAt frame v = getD frame v []
 
 -- the points of an entry, a list for each group
-abbrev pub takenOver : List (List Point) → List (List ℕ) → List (List Point)
-takenOver [] es = []
-takenOver (frame ∷ frames) es = taken (vertexAt frame) (head es) ∷ takenOver frames (tail es)
+abbrev pub entryPointsOver : List (List Point) → List (List ℕ) → List (List Point)
+entryPointsOver [] es = []
+entryPointsOver (frame ∷ frames) es = entryPoints (vertexAt frame) (head es) ∷ entryPointsOver frames (tail es)
 
 -- the point q of each group, which its own weights name
 abbrev pub pointsOver : List Group → List (List ℤ) → List (List Point) → List Point
@@ -43,9 +43,9 @@ pointsOver [] weights frames = []
 pointsOver (g ∷ gs) weights frames = combination (suc (g .dimension)) (head weights) (vertexAt (head frames)) ∷ pointsOver gs (tail weights) (tail frames)
 
 -- the frames with q before the vertices of each
-abbrev pub before : List Point → List (List Point) → List (List Point)
-before [] frames = []
-before (q ∷ qs) frames = (q ∷ head frames) ∷ before qs (tail frames)
+abbrev pub framesWithQ : List Point → List (List Point) → List (List Point)
+framesWithQ [] frames = []
+framesWithQ (q ∷ qs) frames = (q ∷ head frames) ∷ framesWithQ qs (tail frames)
 
 -- the frames with another point in the place of vertex v of group i
 abbrev pub putOver : ℕ → ℕ → Point → List (List Point) → List (List Point)

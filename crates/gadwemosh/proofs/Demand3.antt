@@ -9,19 +9,19 @@ use lib.ListN.{length, take}
 use Rattle.machine.specs.Refusals.{_else_}
 use Rattle.machine.specs.Comparison.{Polynomials}
 use Rattle.machine.specs.First.{firstNet, firstTests, firstRefusal}
-use Rattle.machine.specs.Lent.{put, wide, unlessRefused, polynomialsFrom, madeNumber, madePlaces}
+use Rattle.machine.specs.Lent.{putNet, enoughPlaces, unlessRefused, polynomialsFrom, madeNumber, madePlaces}
 use Rattle.machine.specs.Carried.{lentStep}
 use Rattle.machine.proofs.Refusals.{none-failed, row-passes, rest-passes}
 use Rattle.machine.proofs.Lent.{point-stands}
 use Rattle.machine.proofs.Carried.{found-projection, expected-by, carried, carried-further}
 use Rattle.opening.specs.Opening.{polynomialsIn, numbersIn, firstNetFrom, placesIn}
 use Rattle.opening.proofs.Records.{opened-none, accepted-numbers}
-use Rattle.gadwemosh.specs.Calls.{weightsOf}
+use Rattle.gadwemosh.specs.Calls.{fourWeights}
 use Rattle.gadwemosh.specs.Projections.{projectionReturned}
-use Rattle.gadwemosh.specs.Demand3.{Exported, lentCall, placesAfter, ExportedGuaranteed, Demand3Exported}
+use Rattle.gadwemosh.specs.Demand3.{Exported, lentCall, placesReached, ExportedGuaranteed, Demand3Exported}
 
 -- from any first net that was put into the places
-module _ (f : Polynomials) (numbers lent places : List ℤ) (ok : firstRefusal f numbers ≡ 0) (enough : wide lent ≡ true) (is : places ≡ put (firstNet f numbers) lent)
+module _ (f : Polynomials) (numbers lent places : List ℤ) (ok : firstRefusal f numbers ≡ 0) (enough : enoughPlaces lent ≡ true) (is : places ≡ putNet (firstNet f numbers) lent)
     (calls : List Exported) where
   exported : ExportedGuaranteed f numbers lent places calls
   unfolding lentStep
@@ -29,7 +29,7 @@ module _ (f : Polynomials) (numbers lent places : List ℤ) (ok : firstRefusal f
       let further = carried-further f numbers lent places ok enough is (map lentCall calls) in
       record {
         guaranteed = carried f numbers lent places ok enough is (map lentCall calls);
-        standing = λ r s t u found. point-stands (weightsOf r s t u) (placesAfter f numbers lent places calls) found;
+        pointKeeps = λ r s t u found. point-stands (fourWeights r s t u) (placesReached f numbers lent places calls) found;
         projected = λ r s t u found bits direction answered enough.
             let c = lentCall (Exported.point r s t u found) in
             ap (λ p. projectionReturned p bits direction)
@@ -43,13 +43,13 @@ demand-3-exported =
       opened = λ input lent none.
           let parts = opened-none input lent none in
           exported (polynomialsIn input) (numbersIn input) lent (placesIn input lent) (accepted-numbers input (parts .1)) (parts .0)
-          (ap (λ k. unlessRefused k (put (firstNetFrom input) lent) lent) none);
+          (ap (λ k. unlessRefused k (putNet (firstNetFrom input) lent) lent) none);
       made = λ kind degree second frame coefficients lent none.
           let f = polynomialsFrom kind degree second coefficients in
           let numbers = take 9 frame in
-          let tests = leb 9 (length frame) else 11 ∷ leb 180 (length coefficients) else 11 ∷ wide lent else 11 ∷ firstTests f numbers in
+          let tests = leb 9 (length frame) else 11 ∷ leb 180 (length coefficients) else 11 ∷ enoughPlaces lent else 11 ∷ firstTests f numbers in
           let passed = none-failed tests refl .0 none in
           exported f numbers lent (madePlaces kind degree second frame coefficients lent)
           (none-failed (firstTests f numbers) refl .1 (rest-passes tests passed 3)) (row-passes tests passed 2)
-          (ap (λ k. unlessRefused k (put (firstNet f numbers) lent) lent) none);
+          (ap (λ k. unlessRefused k (putNet (firstNet f numbers) lent) lent) none);
     }

@@ -11,12 +11,12 @@ use mir.Syntax.{w64}
 use mir.Val.{SFits}
 use Rattle.integers.proofs.Signed.{seen, back-fits}
 use Rattle.projection.specs.declared.Projection.{Projection}
-use Rattle.gadwemosh.specs.Calls.{weightsOf}
-use Rattle.gadwemosh.specs.Projections.{ProjectionReturned, told, untold, projectionReturned}
+use Rattle.gadwemosh.specs.Calls.{fourWeights}
+use Rattle.gadwemosh.specs.Projections.{ProjectionReturned, projectionWithRoom, projectionWithoutRoom, projectionReturned}
 
 -- four weights as they are handed on
-pub weights-back : {r s t u : ℤ} → SFits w64 r → SFits w64 s → SFits w64 t → SFits w64 u → weightsOf (seen r) (seen s) (seen t) (seen u) ≡ weightsOf r s t u
-weights-back r s t u = λ i. weightsOf (back-fits r i) (back-fits s i) (back-fits t i) (back-fits u i)
+pub weights-back : {r s t u : ℤ} → SFits w64 r → SFits w64 s → SFits w64 t → SFits w64 u → fourWeights (seen r) (seen s) (seen t) (seen u) ≡ fourWeights r s t u
+weights-back r s t u = λ i. fourWeights (back-fits r i) (back-fits s i) (back-fits t i) (back-fits u i)
 
 -- ---- what comes back from a projection
 
@@ -28,9 +28,9 @@ pub clauses : (r must : ProjectionReturned) → r ≡ must → Projects (r .numb
 clauses r must e = (ap (λ x. x .number) e, (ap (λ x. x .outcome) e, (ap (λ x. x .bits) e, ap (λ x. x .direction) e)))
 
 -- a projection q whose case is p
-pub case-told : {p q : Projection} (bits : List ℕ) (direction : List ℤ) (r : ProjectionReturned) → q ≡ p → r ≡ told p bits direction
-    → Projects (r .number) (r .outcome) (r .bits) (r .direction) (told q bits direction)
-case-told bits direction r is e = clauses r _ (e ∙ sym (ap (λ p. told p bits direction) is))
+pub case-told : {p q : Projection} (bits : List ℕ) (direction : List ℤ) (r : ProjectionReturned) → q ≡ p → r ≡ projectionWithRoom p bits direction
+    → Projects (r .number) (r .outcome) (r .bits) (r .direction) (projectionWithRoom q bits direction)
+case-told bits direction r is e = clauses r _ (e ∙ sym (ap (λ p. projectionWithRoom p bits direction) is))
 
 -- clauses about what is told are clauses about what equals it
 pub clauses-of : {number outcome : ℕ} {bits : List ℕ} {direction : List ℤ} {r must : ProjectionReturned} → r ≡ must
@@ -38,15 +38,15 @@ pub clauses-of : {number outcome : ℕ} {bits : List ℕ} {direction : List ℤ}
 clauses-of {number} {outcome} {bits} {direction} e = subst (λ x. Projects number outcome bits direction x) e
 
 module _ (p : Projection) (bits : List ℕ) (direction : List ℤ) where
-  by-room : (t : Bool) → (leb 3 (length bits) && leb 4 (length direction)) ≡ t → cond t (told p bits direction) (untold bits direction) ≡ projectionReturned p bits direction
+  by-room : (t : Bool) → (leb 3 (length bits) && leb 4 (length direction)) ≡ t → cond t (projectionWithRoom p bits direction) (projectionWithoutRoom bits direction) ≡ projectionReturned p bits direction
   unfolding projectionReturned
-  by-room t is = sym (ap (λ b. cond b (told p bits direction) (untold bits direction)) is)
+  by-room t is = sym (ap (λ b. cond b (projectionWithRoom p bits direction) (projectionWithoutRoom bits direction)) is)
 
-  pub bits-short : length bits < 3 → untold bits direction ≡ projectionReturned p bits direction
+  pub bits-short : length bits < 3 → projectionWithoutRoom bits direction ≡ projectionReturned p bits direction
   bits-short few = by-room false (ap (λ b. b && leb 4 (length direction)) (lt-leb 3 (length bits) few))
 
-  pub direction-short : 3 ≤ length bits → length direction < 4 → untold bits direction ≡ projectionReturned p bits direction
+  pub direction-short : 3 ≤ length bits → length direction < 4 → projectionWithoutRoom bits direction ≡ projectionReturned p bits direction
   direction-short enough few = by-room false (ap₂ _&&_ (le-leb 3 (length bits) enough) (lt-leb 4 (length direction) few))
 
-  pub with-room : 3 ≤ length bits → 4 ≤ length direction → told p bits direction ≡ projectionReturned p bits direction
+  pub with-room : 3 ≤ length bits → 4 ≤ length direction → projectionWithRoom p bits direction ≡ projectionReturned p bits direction
   with-room enough more = by-room true (ap₂ _&&_ (le-leb 3 (length bits) enough) (le-leb 4 (length direction) more))

@@ -5,11 +5,11 @@ use Rattle.machine.specs.declared.Weights.{Weights}
 use Rattle.machine.specs.declared.Call.{Call}
 use Rattle.machine.specs.declared.Call.the-variants.{Move, Point}
 
-abbrev pub weightsOf : ℤ → ℤ → ℤ → ℤ → Weights
-weightsOf r s t u = record { r = r; s = s; t = t; u = u }
+abbrev pub fourWeights : ℤ → ℤ → ℤ → ℤ → Weights
+fourWeights r s t u = record { r = r; s = s; t = t; u = u }
 
 abbrev pub moveCall : ℕ → ℕ → ℤ → ℤ → ℤ → ℤ → Call
-moveCall operation vertex r s t u = Move operation vertex (weightsOf r s t u)
+moveCall operation vertex r s t u = Move operation vertex (fourWeights r s t u)
 
 abbrev pub pointCall : ℤ → ℤ → ℤ → ℤ → Call
-pointCall r s t u = Point (weightsOf r s t u)
+pointCall r s t u = Point (fourWeights r s t u)

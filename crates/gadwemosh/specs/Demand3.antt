@@ -33,21 +33,21 @@ projectedFrom found bits direction =
 -- `places` have the first net of the polynomials f over the numbers' frames, and `lent` is what stood there before.
 module _ (f : Polynomials) (numbers lent places : List ℤ) (calls : List Exported) where
   -- the places after the calls, and the comparison machine's frames after them
-  abbrev pub placesAfter : List ℤ
-  placesAfter = after lentStep places (map lentCall calls)
+  abbrev pub placesReached : List ℤ
+  placesReached = after lentStep places (map lentCall calls)
 
-  abbrev pub framesAfter : Frames
-  framesAfter = framesReached f numbers (map (λ c. c .call) (map lentCall calls))
+  abbrev pub machineFrames : Frames
+  machineFrames = framesReached f numbers (map (λ c. c .call) (map lentCall calls))
 
   pub record ExportedGuaranteed : Type 0 where
     -- the net in the places, what came back from every call, and all other places are as on any lent places
     pub guaranteed : LentGuaranteed f numbers lent places (map lentCall calls)
     -- a further point leaves every place, as gadwemosh_point does, which is lent the net to be read
-    pub standing : (r s t u : ℤ) (found : List ℤ) → callPlaces (pointCall r s t u) placesAfter found ≡ placesAfter
+    pub pointKeeps : (r s t u : ℤ) (found : List ℤ) → callPlaces (pointCall r s t u) placesReached found ≡ placesReached
     -- of a further point that the comparison machine finds, in places enough for its numbers, gadwemosh_project gives back number, outcome and places by the machine's projection
     pub projected : (r s t u : ℤ) (found : List ℤ) (bits : List ℕ) (direction : List ℤ) {x y z w : ℤ} {at : Projection}
-        → machineStep f framesAfter (pointCall r s t u) .answer ≡ Found x y z w at → 4 ≤ length found
-        → projectedFrom (callFound (pointCall r s t u) placesAfter found) bits direction ≡ projectionReturned at bits direction
+        → machineStep f machineFrames (pointCall r s t u) .answer ≡ Found x y z w at → 4 ≤ length found
+        → projectedFrom (callFound (pointCall r s t u) placesReached found) bits direction ≡ projectionReturned at bits direction
 
 pub record Demand3Exported : Type 0 where
   -- `input` are any bytes and `lent` any places in which gadwemosh_open answered 0

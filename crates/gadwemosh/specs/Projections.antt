@@ -25,8 +25,8 @@ pub record ProjectionReturned : Type 0 where
   pub direction : List ℤ
 
 -- with room: a finite point's three bit patterns are put into the ones, a direction's three numbers and its length into the others, and all other places stay
-abbrev pub told : Projection → List ℕ → List ℤ → ProjectionReturned
-told p bits direction =
+abbrev pub projectionWithRoom : Projection → List ℕ → List ℤ → ProjectionReturned
+projectionWithRoom p bits direction =
     record {
       number = refusal p;
       outcome = outcomeOf p;
@@ -35,8 +35,8 @@ told p bits direction =
     }
 
 -- 'output buffer shorter', than 3 places for bit patterns or 4 for a direction: 11, and no place is written
-abbrev pub untold : List ℕ → List ℤ → ProjectionReturned
-untold bits direction = record { number = 11; outcome = 0; bits = bits; direction = direction }
+abbrev pub projectionWithoutRoom : List ℕ → List ℤ → ProjectionReturned
+projectionWithoutRoom bits direction = record { number = 11; outcome = 0; bits = bits; direction = direction }
 
 unfoldable pub projectionReturned : Projection → List ℕ → List ℤ → ProjectionReturned
-projectionReturned p bits direction = cond (leb 3 (length bits) && leb 4 (length direction)) (told p bits direction) (untold bits direction)
+projectionReturned p bits direction = cond (leb 3 (length bits) && leb 4 (length direction)) (projectionWithRoom p bits direction) (projectionWithoutRoom bits direction)

@@ -5,7 +5,7 @@ ghost use mathlib.Core.List.{[], _∷_};
 ghost use lib.ListN.{length};
 ghost use lib.Ieee.{binary64, toBits};
 ghost use Rattle.machine.specs.Lent.{putAt};
-ghost use Rattle.gadwemosh.specs.Projections.{told};
+ghost use Rattle.gadwemosh.specs.Projections.{projectionWithRoom};
 use projection::Coords;
 use projection::Projection;
 use projection::bits;
@@ -40,10 +40,10 @@ pub(crate) fn write_projection(
     projection: Projection,
 ) -> u8
     requires { ⌜ (3 ≤ length (now patterns)) × (4 ≤ length (now direction)) ⌝ }
-    ensures number { λ r. ⌜ r ≡ told projection (now (patterns .entry)) (now (direction .entry)) .number ⌝ }
-    ensures outcome { λ _. ⌜ now (outcome .exit) ≡ told projection (now (patterns .entry)) (now (direction .entry)) .outcome ⌝ }
-    ensures patterns { λ _. ⌜ now (patterns .exit) ≡ told projection (now (patterns .entry)) (now (direction .entry)) .bits ⌝ }
-    ensures direction { λ _. ⌜ now (direction .exit) ≡ told projection (now (patterns .entry)) (now (direction .entry)) .direction ⌝ }
+    ensures number { λ r. ⌜ r ≡ projectionWithRoom projection (now (patterns .entry)) (now (direction .entry)) .number ⌝ }
+    ensures outcome { λ _. ⌜ now (outcome .exit) ≡ projectionWithRoom projection (now (patterns .entry)) (now (direction .entry)) .outcome ⌝ }
+    ensures patterns { λ _. ⌜ now (patterns .exit) ≡ projectionWithRoom projection (now (patterns .entry)) (now (direction .entry)) .bits ⌝ }
+    ensures direction { λ _. ⌜ now (direction .exit) ≡ projectionWithRoom projection (now (patterns .entry)) (now (direction .entry)) .direction ⌝ }
 {
     match projection {
         Projection::Finite(p) => {

@@ -19,16 +19,16 @@ pub record Row : Type 0 where
   pub dimension : ℕ
   pub highest : ℕ
 
-abbrev row : ℕ → ℕ → Row
-row n m = record { dimension = n; highest = m }
+abbrev kindRow : ℕ → ℕ → Row
+kindRow n m = record { dimension = n; highest = m }
 
 -- 'kind byte (1 curve, 2 patch)', 'Kind 3 has degrees p and q, 1 to 5 each, a frame r1, s1, r2, s2'. A curve has the vertices r, s and degree 1 to 10, a patch r, s, t and
 -- degree 1 to 8, a rectangular patch two pairs of vertices with a degree each; any other number is no kind.
 abbrev pub rowsOf : ℕ → List Row
 rowsOf zero = []
-rowsOf (suc zero) = row 1 10 ∷ []
-rowsOf (suc (suc zero)) = row 2 8 ∷ []
-rowsOf (suc (suc (suc zero))) = row 1 5 ∷ row 1 5 ∷ []
+rowsOf (suc zero) = kindRow 1 10 ∷ []
+rowsOf (suc (suc zero)) = kindRow 2 8 ∷ []
+rowsOf (suc (suc (suc zero))) = kindRow 1 5 ∷ kindRow 1 5 ∷ []
 rowsOf (suc (suc (suc (suc k)))) = []
 
 -- ---- a kind with its degrees

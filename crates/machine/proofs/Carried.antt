@@ -18,7 +18,7 @@ use Rattle.integers.proofs.All.{clash}
 use Rattle.kinds.specs.Frames.{Frames, framesOf}
 use Rattle.machine.specs.First.{firstNet, firstTests, firstRefusal}
 use Rattle.machine.specs.Demand3.{framesReached}
-use Rattle.machine.specs.Lent.{netAt, putAt, put, wide, unlessRefused, polynomialsFrom, madeNumber, madePlaces, room, callNumber, callPlaces, callFound}
+use Rattle.machine.specs.Lent.{netAt, putAt, putNet, enoughPlaces, unlessRefused, polynomialsFrom, madeNumber, madePlaces, room, callNumber, callPlaces, callFound}
 use Rattle.machine.specs.Carried.{LentCall, Returned, answerBy, lentStep, expected, otherPlaces, LentGuaranteed, Demand3Lent}
 use Rattle.machine.specs.declared.Call.{Call}
 use Rattle.machine.specs.declared.Call.the-variants as call
@@ -35,15 +35,15 @@ reached-sound f frames at = record { right = at .right; framed = at .long; exact
 -- the net over the frames stands in the places
 record Stands (f : Polynomials) (frames : Frames) (lent : List ℤ) : Type 0 where
   net : netAt lent ≡ netOver f frames
-  enough : wide lent ≡ true
+  enough : enoughPlaces lent ≡ true
   reached : Reached f frames
 
-put-stands : (f : Polynomials) (frames : Frames) (lent : List ℤ) → wide lent ≡ true → Reached f frames → Stands f frames (put (netOver f frames) lent)
+put-stands : (f : Polynomials) (frames : Frames) (lent : List ℤ) → enoughPlaces lent ≡ true → Reached f frames → Stands f frames (putNet (netOver f frames) lent)
 put-stands f frames lent enough at =
     let sound = reached-sound f frames at in
     record { net = read-back (netOver f frames) lent enough sound; enough = ap (leb 193) (put-long (netOver f frames) lent enough sound) ∙ enough; reached = at }
 
-put-kept : (f : Polynomials) (frames : Frames) (lent : List ℤ) → wide lent ≡ true → Reached f frames → otherPlaces f (put (netOver f frames) lent) ≡ otherPlaces f lent
+put-kept : (f : Polynomials) (frames : Frames) (lent : List ℤ) → enoughPlaces lent ≡ true → Reached f frames → otherPlaces f (putNet (netOver f frames) lent) ≡ otherPlaces f lent
 unfolding netOver
 put-kept f frames lent enough at = put-others (netOver f frames) lent enough (reached-sound f frames at)
 
@@ -103,9 +103,9 @@ module _ (f : Polynomials) (frames : Frames) (lent : List ℤ) (here : Stands f 
   number-is = ap₂ (λ b n. firstFailed (b else 11 ∷ room (c .call) (c .found) else 11 ∷ netTests n (c .call))) (here .enough) (here .net)
 
   -- by the number: what is written
-  places-by : (k : ℕ) → callNumber (c .call) lent (c .found) ≡ k → callPlaces (c .call) lent (c .found) ≡ unlessRefused k (put (accepted net (c .call) .left) lent) lent
+  places-by : (k : ℕ) → callNumber (c .call) lent (c .found) ≡ k → callPlaces (c .call) lent (c .found) ≡ unlessRefused k (putNet (accepted net (c .call) .left) lent) lent
   unfolding callPlaces
-  places-by k e = ap₂ (λ j n. unlessRefused j (put (accepted n (c .call) .left) lent) lent) e (here .net)
+  places-by k e = ap₂ (λ j n. unlessRefused j (putNet (accepted n (c .call) .left) lent) lent) e (here .net)
 
   found-by : (k : ℕ) → callNumber (c .call) lent (c .found) ≡ k
       → callFound (c .call) lent (c .found) ≡ unlessRefused k (putAt 0 (pointValues (accepted net (c .call) .answer)) (c .found)) (c .found)
@@ -134,7 +134,7 @@ module _ (f : Polynomials) (frames : Frames) (lent : List ℤ) (here : Stands f 
       let number = number-is ∙ ap (λ b. firstFailed (b else 11 ∷ netTests net (c .call))) h ∙ e in
       let answer = sym (ap (λ k. stepBy k net (accepted net (c .call)) .answer) e) ∙ agrees .answers in
       let left = sym (ap (λ k. stepBy k net (accepted net (c .call)) .left) e) ∙ agrees .nets in
-      let places = places-by 0 number ∙ ap (λ n. put n lent) left in
+      let places = places-by 0 number ∙ ap (λ n. putNet n lent) left in
       record {
         returned =
             returned-is (answer-by 0 number ∙ accepted-heard net (c .call) (c .found) ∙ answer) (found-by 0 number ∙ ap (λ a. putAt 0 (pointValues a) (c .found)) answer)
@@ -179,7 +179,7 @@ along f frames lent here (c ∷ cs) =
 -- ---- the theorem
 
 -- from any first net that was put into the places
-module _ (f : Polynomials) (numbers lent places : List ℤ) (ok : firstRefusal f numbers ≡ 0) (enough : wide lent ≡ true) (is : places ≡ put (firstNet f numbers) lent)
+module _ (f : Polynomials) (numbers lent places : List ℤ) (ok : firstRefusal f numbers ≡ 0) (enough : enoughPlaces lent ≡ true) (is : places ≡ putNet (firstNet f numbers) lent)
     (calls : List LentCall) where
   abbrev frames : Frames
   frames = framesOf (groups f) numbers
@@ -204,9 +204,9 @@ unfolding madeNumber madePlaces firstRefusal firstTests
 demand-3-lent kind degree second frame coefficients lent ok calls =
     let f = polynomialsFrom kind degree second coefficients in
     let numbers = take 9 frame in
-    let tests = leb 9 (length frame) else 11 ∷ leb 180 (length coefficients) else 11 ∷ wide lent else 11 ∷ firstTests f numbers in
+    let tests = leb 9 (length frame) else 11 ∷ leb 180 (length coefficients) else 11 ∷ enoughPlaces lent else 11 ∷ firstTests f numbers in
     let passed = none-failed tests refl .0 ok in
     carried f numbers lent (madePlaces kind degree second frame coefficients lent)
     (none-failed (firstTests f numbers) refl .1 (rest-passes tests passed 3)) (row-passes tests passed 2)
-    (ap (λ k. unlessRefused k (put (firstNet f numbers) lent) lent) ok)
+    (ap (λ k. unlessRefused k (putNet (firstNet f numbers) lent) lent) ok)
     calls

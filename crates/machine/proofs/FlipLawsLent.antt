@@ -17,7 +17,7 @@ use Rattle.machine.specs.Nets.{Net, netGroups, netTests, accepted, stepO
 use Rattle.machine.specs.Comparison.{Polynomials, groups, netOver}
 use Rattle.machine.specs.First.{firstRefusal}
 use Rattle.machine.specs.Demand3.{netReached, framesReached}
-use Rattle.machine.specs.Lent.{netAt, put, wide, unlessRefused, callNumber, callPlaces, callFound}
+use Rattle.machine.specs.Lent.{netAt, putNet, enoughPlaces, unlessRefused, callNumber, callPlaces, callFound}
 use Rattle.machine.specs.Carried.{answerBy, lentStep}
 use Rattle.machine.specs.FlipLaws.{flip, replace, negated, Exchanged, Replaced, FlipLaws, AllInRange, Whole, lentMove, OrderOfFlips}
 use Rattle.machine.specs.declared.Weights.{Weights}
@@ -63,7 +63,7 @@ after-kept net (c ∷ cs) is =
     record { sound = rest .sound; groups-same = rest .groups-same ∙ one .groups-same }
 
 -- so one is put over the other
-put-kept : (net other : Net) (lent : List ℤ) → wide lent ≡ true → Sound net → Kept net other → put other (put net lent) ≡ put other lent
+put-kept : (net other : Net) (lent : List ℤ) → enoughPlaces lent ≡ true → Sound net → Kept net other → putNet other (putNet net lent) ≡ putNet other lent
 put-kept net other lent enough is kept =
     put-again net lent enough is other
     (length-numbers (netGroups other) (other .frames) (kept .sound .framed) ∙ ap frameCount (kept .groups-same) ∙ sym (length-numbers (netGroups net) (net .frames) (is .framed)))
@@ -71,7 +71,7 @@ put-kept net other lent enough is kept =
 
 -- ---- lent places along a list of moves
 
-module _ (lent : List ℤ) (enough : wide lent ≡ true) (right : known (netAt lent .kind) (netAt lent .degree) (netAt lent .second) ≡ true) (operation vertex : ℕ) (weights : Weights) where
+module _ (lent : List ℤ) (enough : enoughPlaces lent ≡ true) (right : known (netAt lent .kind) (netAt lent .degree) (netAt lent .second) ≡ true) (operation vertex : ℕ) (weights : Weights) where
   abbrev net : Net
   net = netAt lent
 
@@ -80,26 +80,26 @@ module _ (lent : List ℤ) (enough : wide lent ≡ true) (right : known (netAt l
 
   -- by the number that is returned: what the function does, and the net's step with its net put in; a refused move leaves the net that stands there
   abbrev done : ℕ → Step Answer (List ℤ)
-  done k = record { answer = answerBy k move (callFound move lent []); left = unlessRefused k (put (accepted net move .left) lent) lent }
+  done k = record { answer = answerBy k move (callFound move lent []); left = unlessRefused k (putNet (accepted net move .left) lent) lent }
 
   abbrev putIn : ℕ → Step Answer (List ℤ)
-  putIn k = record { answer = stepBy k net (accepted net move) .answer; left = put (stepBy k net (accepted net move) .left) lent }
+  putIn k = record { answer = stepBy k net (accepted net move) .answer; left = putNet (stepBy k net (accepted net move) .left) lent }
 
   by-number : (k : ℕ) → done k ≡ putIn k
   unfolding answerBy stepBy accepted
   by-number zero = refl
   by-number (suc k) = let stood = sym (put-back lent enough right) in λ i. record { answer = Refused (suc k); left = stood i }
 
-  move-step : lentMove lent move ≡ record { answer = stepOf net move .answer; left = put (stepOf net move .left) lent }
+  move-step : lentMove lent move ≡ record { answer = stepOf net move .answer; left = putNet (stepOf net move .left) lent }
   unfolding lentMove lentStep callNumber callPlaces stepOf
   move-step = ap (λ b. done (firstFailed (b else 11 ∷ true else 11 ∷ netTests net move))) enough ∙ by-number (firstFailed (netTests net move))
 
 -- the places after moves, and the answers
 record Along (lent : List ℤ) (cs : List Call) : Type 0 where
-  places : after lentMove lent cs ≡ put (after stepOf (netAt lent) cs) lent
+  places : after lentMove lent cs ≡ putNet (after stepOf (netAt lent) cs) lent
   answered : answers lentMove lent cs ≡ answers stepOf (netAt lent) cs
 
-along-moves : (lent : List ℤ) → wide lent ≡ true → known (netAt lent .kind) (netAt lent .degree) (netAt lent .second) ≡ true → (cs : List Call) → Moves cs → Along lent cs
+along-moves : (lent : List ℤ) → enoughPlaces lent ≡ true → known (netAt lent .kind) (netAt lent .degree) (netAt lent .second) ≡ true → (cs : List Call) → Moves cs → Along lent cs
 unfolding after answers
 along-moves lent enough right [] moves = record { places = sym (put-back lent enough right); answered = refl }
 along-moves lent enough right (call.Point weights ∷ cs) moves = absurd moves
@@ -111,12 +111,12 @@ along-moves lent enough right (call.Move operation vertex weights ∷ cs) moves 
     let step = move-step lent enough right operation vertex weights in
     let back = read-back next lent enough kept in
     let rest =
-    along-moves (put next lent) (ap (leb 193) (put-long next lent enough kept) ∙ enough) (ap (λ n. known (n .kind) (n .degree) (n .second)) back ∙ kept .right) cs moves in
+    along-moves (putNet next lent) (ap (leb 193) (put-long next lent enough kept) ∙ enough) (ap (λ n. known (n .kind) (n .degree) (n .second)) back ∙ kept .right) cs moves in
     record {
       places =
           ap (λ s. after lentMove (s .left) cs) step
           ∙ rest .places
-          ∙ ap (λ n. put (after stepOf n cs) (put next lent)) back
+          ∙ ap (λ n. putNet (after stepOf n cs) (putNet next lent)) back
           ∙ put-kept next (after stepOf next cs) lent enough kept (after-kept next cs kept);
       answered =
           ap (λ s. s .answer ∷ answers lentMove (s .left) cs) step
@@ -125,9 +125,9 @@ along-moves lent enough right (call.Move operation vertex weights ∷ cs) moves 
 
 -- ---- the laws
 
-module _ (lent : List ℤ) (enough : wide lent ≡ true) (right : known (netAt lent .kind) (netAt lent .degree) (netAt lent .second) ≡ true) where
+module _ (lent : List ℤ) (enough : enoughPlaces lent ≡ true) (right : known (netAt lent .kind) (netAt lent .degree) (netAt lent .second) ≡ true) where
   abbrev over : Net → List ℤ
-  over n = put n lent
+  over n = putNet n lent
 
   abbrev gs : List Group
   gs = netGroups (netAt lent)

@@ -13,7 +13,7 @@ use Rattle.machine.specs.Calls.{ownTests}
 use Rattle.machine.specs.Sizes.{beforeSize, callTests}
 use Rattle.machine.specs.Steps.{Taken, refusalNumber, stepBy}
 use Rattle.machine.specs.Nets.{Net, netGroups, handedTests, judgedNumbers, netTests, accepted, stepOf}
-use Rattle.machine.specs.Lent.{netAt, put, wide, unlessRefused, room, callNumber, callPlaces}
+use Rattle.machine.specs.Lent.{netAt, putNet, enoughPlaces, unlessRefused, room, callNumber, callPlaces}
 use Rattle.machine.specs.Largest.{StoresLargest, Maximum, LargestKept, LargestLent}
 use Rattle.machine.specs.declared.Weights.{Weights}
 use Rattle.machine.specs.declared.Call.{Call}
@@ -74,10 +74,10 @@ module _ (operation vertex : ℕ) (weights : Weights) (lent : List ℤ) where
   move = Move operation vertex weights
 
   -- the places of a move that is not refused are enough, and the net in them has all its entries
-  taken-sound : callNumber move lent [] ≡ 0 → (wide lent ≡ true) × Sound (netAt lent)
+  taken-sound : callNumber move lent [] ≡ 0 → (enoughPlaces lent ≡ true) × Sound (netAt lent)
   unfolding callNumber netTests handedTests judgedNumbers callTests beforeSize ownTests
   taken-sound none =
-      let tests = wide lent else 11 ∷ room move [] else 11 ∷ netTests (netAt lent) move in
+      let tests = enoughPlaces lent else 11 ∷ room move [] else 11 ∷ netTests (netAt lent) move in
       let passed = none-failed tests refl .0 none in
       (row-passes tests passed 0, stood-sound lent (row-passes tests passed 0) (row-passes tests passed 2))
 
@@ -86,13 +86,13 @@ module _ (operation vertex : ℕ) (weights : Weights) (lent : List ℤ) where
   unfolding callPlaces
   taken-read none =
       let stood = taken-sound none in
-      ap (λ k. netAt (unlessRefused k (put (accepted (netAt lent) move .left) lent) lent)) none
+      ap (λ k. netAt (unlessRefused k (putNet (accepted (netAt lent) move .left) lent) lent)) none
       ∙ read-back (accepted (netAt lent) move .left) lent (stood .0) (accepted-sound (netAt lent) move (stood .1))
 
   -- a refused one leaves all places
   refused-read : (k : ℕ) → callNumber move lent [] ≡ suc k → callPlaces move lent [] ≡ lent
   unfolding callPlaces
-  refused-read k e = ap (λ j. unlessRefused j (put (accepted (netAt lent) move .left) lent) lent) e
+  refused-read k e = ap (λ j. unlessRefused j (putNet (accepted (netAt lent) move .left) lent) lent) e
 
 pub largest-lent : LargestLent
 largest-lent =

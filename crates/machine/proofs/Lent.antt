@@ -23,7 +23,7 @@ use Rattle.machine.specs.Refusals.{_else_}
 use Rattle.machine.specs.Calls.{ownTests}
 use Rattle.machine.specs.Sizes.{beforeSize, callTests}
 use Rattle.machine.specs.Nets.{Net, netGroups, handedTests, judgedNumbers, netTests, entriesAfter, accepted}
-use Rattle.machine.specs.Lent.{byteOf, netAt, putAt, put, wide, unlessRefused, room, callNumber, callPlaces}
+use Rattle.machine.specs.Lent.{byteOf, netAt, putAt, putNet, enoughPlaces, unlessRefused, room, callNumber, callPlaces}
 use Rattle.machine.specs.declared.Weights.{Weights}
 use Rattle.machine.specs.declared.Call.{Call}
 use Rattle.machine.specs.declared.Call.the-variants as call
@@ -197,7 +197,7 @@ accepted-sound net (call.Move operation vertex weights) sound =
     }
 accepted-sound net (call.Point weights) sound = sound
 
-module _ (net : Net) (lent : List ℤ) (enough : wide lent ≡ true) (sound : Sound net) where
+module _ (net : Net) (lent : List ℤ) (enough : enoughPlaces lent ≡ true) (sound : Sound net) where
   long : 193 ≤ length lent
   long = leb-true 193 (length lent) enough
 
@@ -246,35 +246,35 @@ module _ (net : Net) (lent : List ℤ) (enough : wide lent ≡ true) (sound : So
   head-fits = let l = long in let e = three-long in omega arith
 
   -- from the entries on the places are those that hold no frame yet
-  behind : (n : ℕ) → 12 ≤ n → drop n (put net lent) ≡ drop n two
-  unfolding put
+  behind : (n : ℕ) → 12 ≤ n → drop n (putNet net lent) ≡ drop n two
+  unfolding putNet
   behind n h = let c = numbers-count in put-behind 0 head three head-fits n (omega arith) ∙ put-behind 3 numbers two three-fits n (omega arith)
 
   -- no place is lost
-  pub put-long : length (put net lent) ≡ length lent
-  unfolding put
+  pub put-long : length (putNet net lent) ≡ length lent
+  unfolding putNet
   put-long = put-length 0 head three head-fits ∙ three-long
 
   -- the net is read back
-  frames-read : framesOf (netGroups net) (drop 3 (put net lent)) ≡ net .frames
-  unfolding put
+  frames-read : framesOf (netGroups net) (drop 3 (putNet net lent)) ≡ net .frames
+  unfolding putNet
   frames-read =
       ap (framesOf (netGroups net)) (put-behind 0 head three head-fits 3 (lit≤ tt) ∙ put-own 3 numbers two three-fits)
       ∙ frames-back (netGroups net) (net .frames) (drop (3 + length numbers) two) (sound .framed)
 
-  entries-read : take (numberCount (netGroups net)) (drop 12 (put net lent)) ≡ net .entries
+  entries-read : take (numberCount (netGroups net)) (drop 12 (putNet net lent)) ≡ net .entries
   entries-read =
       ap (take (numberCount (netGroups net))) (behind 12 (lit≤ tt) ∙ put-own 12 (net .entries) one two-fits)
       ∙ take-at (net .entries) (drop (12 + length (net .entries)) one) (numberCount (netGroups net)) (sound .exact)
 
-  largest-read : getD (put net lent) 192 (pos 0) ≡ net .largest
+  largest-read : getD (putNet net lent) 192 (pos 0) ≡ net .largest
   largest-read =
       let n = entries-count in
-      sym (getD-drop 192 (put net lent) 0 (pos 0))
+      sym (getD-drop 192 (putNet net lent) 0 (pos 0))
       ∙ ap (λ l. getD l 0 (pos 0)) (behind 192 (lit≤ tt) ∙ put-behind 12 (net .entries) one two-fits 192 (omega arith) ∙ put-own 192 (net .largest ∷ []) lent long)
 
-  pub read-back : netAt (put net lent) ≡ net
-  unfolding netAt put
+  pub read-back : netAt (putNet net lent) ≡ net
+  unfolding netAt putNet
   read-back =
       let l = limits (net .kind) (net .degree) (net .second) (sound .right) in
       let k = byte-back (net .kind) (omega arith) in
@@ -285,16 +285,16 @@ module _ (net : Net) (lent : List ℤ) (enough : wide lent ≡ true) (sound : So
         kind = k i;
         degree = p i;
         second = q i;
-        frames = framesOf (groupsOf (k i) (p i) (q i)) (drop 3 (put net lent));
-        entries = take (numberCount (groupsOf (k i) (p i) (q i))) (drop 12 (put net lent));
-        largest = getD (put net lent) 192 (pos 0);
+        frames = framesOf (groupsOf (k i) (p i) (q i)) (drop 3 (putNet net lent));
+        entries = take (numberCount (groupsOf (k i) (p i) (q i))) (drop 12 (putNet net lent));
+        largest = getD (putNet net lent) 192 (pos 0);
       })
       ∙ (λ i. record { kind = net .kind; degree = net .degree; second = net .second; frames = frames-read i; entries = entries-read i; largest = largest-read i })
 
   -- no other place changes
-  pub put-others : slice (3 + frameCount (netGroups net)) 12 (put net lent) ++ (slice (12 + numberCount (netGroups net)) 192 (put net lent) ++ drop 193 (put net lent))
+  pub put-others : slice (3 + frameCount (netGroups net)) 12 (putNet net lent) ++ (slice (12 + numberCount (netGroups net)) 192 (putNet net lent) ++ drop 193 (putNet net lent))
       ≡ slice (3 + frameCount (netGroups net)) 12 lent ++ (slice (12 + numberCount (netGroups net)) 192 lent ++ drop 193 lent)
-  unfolding put
+  unfolding putNet
   put-others =
       let n = numbers-are in
       let e = sound .exact in
@@ -315,16 +315,16 @@ module _ (net : Net) (lent : List ℤ) (enough : wide lent ≡ true) (sound : So
       (behind 193 (lit≤ tt) ∙ put-behind 12 (net .entries) one two-fits 193 (omega arith) ∙ put-behind 192 own lent long 193 (lit≤ tt)))
 
   -- where the head stands there already, only the frames' numbers, the entries and the largest component are put: so a call writes nothing else
-  pub put-moved : head ≡ take 3 lent → put net lent ≡ three
-  unfolding put
+  pub put-moved : head ≡ take 3 lent → putNet net lent ≡ three
+  unfolding putNet
   put-moved h =
       ap (λ l. l ++ drop 3 three)
       (h ∙ sym (put-before 3 numbers two three-fits 3 (lit≤ tt) ∙ put-before 12 (net .entries) one two-fits 3 (lit≤ tt) ∙ put-before 192 (net .largest ∷ []) lent long 3 (lit≤ tt)))
       ∙ take-append-drop 3 three
 
   -- another net with as many numbers, put over it: nothing of the first is left
-  pub put-again : (other : Net) → length (numbersOf (other .frames)) ≡ length numbers → length (other .entries) ≡ length (net .entries) → put other (put net lent) ≡ put other lent
-  unfolding put
+  pub put-again : (other : Net) → length (numbersOf (other .frames)) ≡ length numbers → length (other .entries) ≡ length (net .entries) → putNet other (putNet net lent) ≡ putNet other lent
+  unfolding putNet
   put-again other same-numbers same-entries =
       ap (λ l. putAt 0 first (putAt 3 vertices (putAt 12 (other .entries) l))) largest-in
       ∙ ap (λ l. putAt 0 first (putAt 3 vertices l)) entries-in
@@ -391,7 +391,7 @@ byte-stood (negsuc n) h = absurd (wrong h)
     wrong w = omega arith
 
 -- where it is known its kind and degrees are the first three numbers
-pub head-stood : (lent : List ℤ) → wide lent ≡ true → known (netAt lent .kind) (netAt lent .degree) (netAt lent .second) ≡ true
+pub head-stood : (lent : List ℤ) → enoughPlaces lent ≡ true → known (netAt lent .kind) (netAt lent .degree) (netAt lent .second) ≡ true
     → pos (netAt lent .kind) ∷ pos (netAt lent .degree) ∷ pos (netAt lent .second) ∷ [] ≡ take 3 lent
 unfolding netAt
 head-stood [] enough right = absurd (clash enough refl)
@@ -405,7 +405,7 @@ head-stood (x ∷ y ∷ z ∷ lent) enough right =
     λ i. k i ∷ p i ∷ q i ∷ []
 
 -- and it is sound
-pub stood-sound : (lent : List ℤ) → wide lent ≡ true → known (netAt lent .kind) (netAt lent .degree) (netAt lent .second) ≡ true → Sound (netAt lent)
+pub stood-sound : (lent : List ℤ) → enoughPlaces lent ≡ true → known (netAt lent .kind) (netAt lent .degree) (netAt lent .second) ≡ true → Sound (netAt lent)
 unfolding netAt
 stood-sound lent enough right =
     let gs = netGroups (netAt lent) in
@@ -414,7 +414,7 @@ stood-sound lent enough right =
     record { right = right; framed = framed-numbers gs (drop 3 lent); exact = length-take-le (numberCount gs) (drop 12 lent) (simp length-drop (omega arith)) }
 
 -- to put it back changes nothing: so a point writes nothing there
-pub put-back : (lent : List ℤ) → wide lent ≡ true → known (netAt lent .kind) (netAt lent .degree) (netAt lent .second) ≡ true → put (netAt lent) lent ≡ lent
+pub put-back : (lent : List ℤ) → enoughPlaces lent ≡ true → known (netAt lent .kind) (netAt lent .degree) (netAt lent .second) ≡ true → putNet (netAt lent) lent ≡ lent
 unfolding netAt
 put-back lent enough right =
     let gs = netGroups (netAt lent) in
@@ -432,10 +432,10 @@ put-back lent enough right =
 -- ---- a point leaves all places
 
 -- a point that is found puts back the net that it read, and a refused one puts nothing
-point-taken : (w : Weights) (lent found : List ℤ) → callNumber (call.Point w) lent found ≡ 0 → put (accepted (netAt lent) (call.Point w) .left) lent ≡ lent
+point-taken : (w : Weights) (lent found : List ℤ) → callNumber (call.Point w) lent found ≡ 0 → putNet (accepted (netAt lent) (call.Point w) .left) lent ≡ lent
 unfolding callNumber netTests handedTests judgedNumbers callTests beforeSize ownTests accepted
 point-taken w lent found none =
-    let tests = wide lent else 11 ∷ room (call.Point w) found else 11 ∷ netTests (netAt lent) (call.Point w) in
+    let tests = enoughPlaces lent else 11 ∷ room (call.Point w) found else 11 ∷ netTests (netAt lent) (call.Point w) in
     let passed = none-failed tests refl .0 none in
     put-back lent (row-passes tests passed 0) (row-passes tests passed 2)
 
@@ -443,7 +443,7 @@ pub point-stands : (w : Weights) (lent found : List ℤ) → callPlaces (call.Po
 unfolding callPlaces
 point-stands w lent found = by (callNumber (call.Point w) lent found) refl
   where
-    by : (k : ℕ) → callNumber (call.Point w) lent found ≡ k → unlessRefused k (put (accepted (netAt lent) (call.Point w) .left) lent) lent ≡ lent
+    by : (k : ℕ) → callNumber (call.Point w) lent found ≡ k → unlessRefused k (putNet (accepted (netAt lent) (call.Point w) .left) lent) lent ≡ lent
     by zero e = point-taken w lent found e
     by (suc k) e = refl
 

@@ -20,7 +20,7 @@ use Rattle.polar.specs.Groups.{Group, pairs, countsOver, monomialsOver}
 use Rattle.polar.specs.Polar.{terms}
 use Rattle.polar.proofs.Order.{counts-total, all-joined}
 use Rattle.polar.proofs.Value.{of-pairs, polar-diagonal}
-use Rattle.entries.specs.Frame.{vertexAt, takenOver, pointsOver, putOver}
+use Rattle.entries.specs.Frame.{vertexAt, entryPointsOver, pointsOver, putOver}
 use Rattle.entries.specs.Entries.{listedOver, signed, noneOfQ, asQ, onlyQ, flippedOver}
 use Rattle.entries.proofs.Signs.{signed-unseen}
 use Rattle.entries.proofs.Places.{member-counts}
@@ -205,9 +205,9 @@ module _ (f : Polynomials) (frames : Frames) (long : Framed (groups f) frames) w
   forms c = polar-forms gs (terms c (monomialsOver gs) (f .coefficients))
 
   -- its entries are polar values
-  entry-is : (c : ℕ) (es : List (List ℕ)) → c < 4 → Counted gs es → entry net c es ≡ polarOf f c (takenOver frames es)
+  entry-is : (c : ℕ) (es : List (List ℕ)) → c < 4 → Counted gs es → entry net c es ≡ polarOf f c (entryPointsOver frames es)
   unfolding netOver
-  entry-is c es k counted = entry-listed-over gs (λ i x. polarOf f i (takenOver frames x)) c es k counted
+  entry-is c es k counted = entry-listed-over gs (λ i x. polarOf f i (entryPointsOver frames x)) c es k counted
 
   -- what its entries fix is what its polynomials give
   polar-is : (call : Call) (c : ℕ) (es : List (List ℕ)) → c < 4 → Named gs es → netPolar net call c es ≡ machinePolar f frames call c es
@@ -240,7 +240,7 @@ module _ (f : Polynomials) (frames : Frames) (long : Framed (groups f) frames) w
   moved b i v call = putOver i v (cond b (getD (pointsOf gs frames call) i []) (map negℤ (vertexAt (getD frames i []) v))) frames
 
   moved-is : (b : Bool) (i v : ℕ) → v < length (getD frames i []) → (call : Call) (c : ℕ) (es : List (List ℕ)) → c < 4 → Counted gs es
-      → cond b (netPolar net call c (asQ i v es)) (flippedOver i v (entry net c) es) ≡ polarOf f c (takenOver (moved b i v call) es)
+      → cond b (netPolar net call c (asQ i v es)) (flippedOver i v (entry net c) es) ≡ polarOf f c (entryPointsOver (moved b i v call) es)
   unfolding machinePolar pointsOf
   moved-is true i v h call c es k counted =
       polar-is call c (asQ i v es) k (named-as gs i v es counted)
@@ -262,9 +262,9 @@ module _ (f : Polynomials) (frames : Frames) (long : Framed (groups f) frames) w
 
   -- ---- ranges
 
-  in-range-over : (other : Frames) → ((c : ℕ) (es : List (List ℕ)) → c < 4 → Counted gs es → inRange (polarOf f c (takenOver other es)) ≡ true) → netInRange (netOver f other) ≡ true
+  in-range-over : (other : Frames) → ((c : ℕ) (es : List (List ℕ)) → c < 4 → Counted gs es → inRange (polarOf f c (entryPointsOver other es)) ≡ true) → netInRange (netOver f other) ≡ true
   unfolding netOver
-  in-range-over other ok = listed-in gs (λ c es. polarOf f c (takenOver other es)) ok
+  in-range-over other ok = listed-in gs (λ c es. polarOf f c (entryPointsOver other es)) ok
 
   -- a move whose named values are in range leaves a net in range
   moved-in : (b : Bool) (i v : ℕ) → i < length gs → v < length (getD frames i []) → (call : Call) → netInRange net ≡ true
@@ -281,7 +281,7 @@ module _ (f : Polynomials) (frames : Frames) (long : Framed (groups f) frames) w
       by false named c es k counted =
           signed-unseen inRange in-range-neg (getD (getD es i []) v 0) (entry net c es)
           ∙ ap inRange (entry-is c es k counted)
-          ∙ listed-in-at gs (λ a x. polarOf f a (takenOver frames x)) fits c es k counted
+          ∙ listed-in-at gs (λ a x. polarOf f a (entryPointsOver frames x)) fits c es k counted
 
 -- ---- one call
 

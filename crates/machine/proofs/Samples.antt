@@ -22,7 +22,7 @@ use Rattle.machine.specs.Sizes.{namedByReplace, namedByPoint, namedBy, a
 use Rattle.machine.specs.Steps.{foundAt, stepBy, after, answers}
 use Rattle.machine.specs.Comparison.{groups, netOver, machineTests, machineStep, machineAccepted, machinePolar, polarOf, scaledValue}
 use Rattle.machine.specs.Nets.{handedTests, judgedNumbers, netTests, netPolar, entriesAfter, largestAfter, accepted, stepOf}
-use Rattle.machine.specs.Lent.{netAt, put, callNumber, callPlaces, madeNumber}
+use Rattle.machine.specs.Lent.{netAt, putNet, callNumber, callPlaces, madeNumber}
 use Rattle.machine.specs.First.{firstTests, firstRefusal}
 use Rattle.machine.specs.Samples.{Sample, answerRow, netOf, SampleHolds, samples, Instance, _is_, Right, instances}
 
@@ -91,7 +91,7 @@ agrees-right : (i : Instance) → agrees i ≡ true → Right i
 agrees-right (given is must) h = same-lists eqZ eqZ→eq given must h
 
 instances-agree : all agrees instances ≡ true
-unfolding netOver polarOf pointsOf newNumbers ownTests beforeSize namedBy namedByReplace namedByPoint allNamed callTests firstRefusal firstTests frameOf frameAllowed framesOf framesAllowed σ monomials counts monomialsOver countsOver multinomial leastCommonMultiple scale polarOver listedOver netTests handedTests judgedNumbers netPolar fixedOver entryOver fixed callNumber madeNumber netAt entriesAfter largestAfter accepted stepBy stepOf framesAfter put callPlaces
+unfolding netOver polarOf pointsOf newNumbers ownTests beforeSize namedBy namedByReplace namedByPoint allNamed callTests firstRefusal firstTests frameOf frameAllowed framesOf framesAllowed σ monomials counts monomialsOver countsOver multinomial leastCommonMultiple scale polarOver listedOver netTests handedTests judgedNumbers netPolar fixedOver entryOver fixed callNumber madeNumber netAt entriesAfter largestAfter accepted stepBy stepOf framesAfter putNet callPlaces
 instances-agree = refl
 
 -- every instance is right

@@ -7,7 +7,7 @@ use Rattle.polar.specs.Sigma.{Point}
 use Rattle.polar.specs.Groups.{Group, monomialsOver}
 use Rattle.polar.specs.Scale.{scaleOver}
 use Rattle.polar.specs.Polar.{polarOver, valueOver, terms}
-use Rattle.entries.specs.Frame.{takenOver, before}
+use Rattle.entries.specs.Frame.{entryPointsOver, framesWithQ}
 use Rattle.entries.specs.Entries.{listedOver}
 use Rattle.machine.specs.Refusals.{Test, firstFailed}
 use Rattle.kinds.specs.Kinds.{groupsOf}
@@ -40,7 +40,7 @@ scaledValue f qs c = pos (scaleOver (groups f)) *ℤ valueOver (groups f) (terms
 -- the net over frames: it carries them, every entry is its polar value, and it stores the largest component of the entries
 unfoldable pub netOver : Polynomials → Frames → Net
 netOver f frames =
-    let entries = listedOver (groups f) (λ c es. polarOf f c (takenOver frames es)) in
+    let entries = listedOver (groups f) (λ c es. polarOf f c (entryPointsOver frames es)) in
     record {
       kind = f .kind;
       degree = f .degree;
@@ -54,7 +54,7 @@ netOver f frames =
 
 -- component i of the polar value with counts es of the call's q and of the vertices in each group
 unfoldable pub machinePolar : Polynomials → Frames → Call → ℕ → List (List ℕ) → ℤ
-machinePolar f frames c i es = polarOf f i (takenOver (before (pointsOf (groups f) frames c) frames) es)
+machinePolar f frames c i es = polarOf f i (entryPointsOver (framesWithQ (pointsOf (groups f) frames c) frames) es)
 
 -- the tests of a call before that of its size, and all of them: 'the comparison machine answers 12 too, by the q of its own frame'
 unfoldable pub machineBefore : Polynomials → Frames → Call → List Test

@@ -21,7 +21,7 @@ use Rattle.machine.specs.Nets.{Net, netGroups, netInRange, stepOf}
 use Rattle.machine.specs.Comparison.{Polynomials}
 use Rattle.machine.specs.First.{firstRefusal}
 use Rattle.machine.specs.Demand3.{netReached}
-use Rattle.machine.specs.Lent.{netAt, wide}
+use Rattle.machine.specs.Lent.{netAt, enoughPlaces}
 use Rattle.machine.specs.Carried.{lentStep}
 use Rattle.machine.specs.declared.Weights.{Weights}
 use Rattle.machine.specs.declared.Call.{Call}
@@ -114,6 +114,6 @@ pub record OrderOfFlips : Type 0 where
   -- of handed nets
   pub handed : (net : Net) → Whole net → AllInRange net → FlipLaws stepOf (netGroups net) net
   -- of lent places, all of them and not only a net's; what stands there as a net is always whole
-  pub lent : (lent : List ℤ) → wide lent ≡ true → AllInRange (netAt lent) → FlipLaws lentMove (netGroups (netAt lent)) lent
+  pub lent : (lent : List ℤ) → enoughPlaces lent ≡ true → AllInRange (netAt lent) → FlipLaws lentMove (netGroups (netAt lent)) lent
   -- every net that calls reach from an accepted record is such a net
   pub reached : (f : Polynomials) (numbers : List ℤ) → firstRefusal f numbers ≡ 0 → (calls : List Call) → Whole (netReached f numbers calls) × AllInRange (netReached f numbers calls)

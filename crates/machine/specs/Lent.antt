@@ -52,16 +52,16 @@ abbrev pub putAt : {A : Type 0} → ℕ → List A → List A → List A
 putAt at numbers lent = take at lent ++ (numbers ++ drop (at + length numbers) lent)
 
 -- a net put into lent places
-unfoldable pub put : Net → List ℤ → List ℤ
-put net lent =
+unfoldable pub putNet : Net → List ℤ → List ℤ
+putNet net lent =
     putAt 0 (pos (net .kind) ∷ pos (net .degree) ∷ pos (net .second) ∷ [])
     (putAt 3 (numbersOf (net .frames))
     (putAt 12 (net .entries)
     (putAt 192 (net .largest ∷ []) lent)))
 
 -- places enough for a net; more are taken
-abbrev pub wide : List ℤ → Bool
-wide lent = leb 193 (length lent)
+abbrev pub enoughPlaces : List ℤ → Bool
+enoughPlaces lent = leb 193 (length lent)
 
 -- by the number that a function answers: what it writes where that is 0, and else what stood there
 abbrev pub unlessRefused : {A : Type 0} → ℕ → A → A → A
@@ -81,12 +81,12 @@ madeNumber kind degree second frame coefficients lent =
     firstFailed
     (leb 9 (length frame) else 11
     ∷ leb 180 (length coefficients) else 11
-    ∷ wide lent else 11
+    ∷ enoughPlaces lent else 11
     ∷ firstTests (polynomialsFrom kind degree second coefficients) (take 9 frame))
 
 unfoldable pub madePlaces : ℕ → ℕ → ℕ → List ℤ → List ℤ → List ℤ → List ℤ
 madePlaces kind degree second frame coefficients lent =
-    unlessRefused (madeNumber kind degree second frame coefficients lent) (put (firstNet (polynomialsFrom kind degree second coefficients) (take 9 frame)) lent) lent
+    unlessRefused (madeNumber kind degree second frame coefficients lent) (putNet (firstNet (polynomialsFrom kind degree second coefficients) (take 9 frame)) lent) lent
 
 -- ---- a call
 
@@ -99,12 +99,12 @@ room (Point weights) found = leb 4 (length found)
 unfoldable pub callNumber : Call → List ℤ → List ℤ → ℕ
 callNumber call lent found =
     firstFailed
-    (wide lent else 11
+    (enoughPlaces lent else 11
     ∷ room call found else 11
     ∷ netTests (netAt lent) call)
 
 unfoldable pub callPlaces : Call → List ℤ → List ℤ → List ℤ
-callPlaces call lent found = unlessRefused (callNumber call lent found) (put (accepted (netAt lent) call .left) lent) lent
+callPlaces call lent found = unlessRefused (callNumber call lent found) (putNet (accepted (netAt lent) call .left) lent) lent
 
 unfoldable pub callFound : Call → List ℤ → List ℤ → List ℤ
 callFound call lent found = unlessRefused (callNumber call lent found) (putAt 0 (pointValues (accepted (netAt lent) call .answer)) found) found

@@ -10,7 +10,7 @@ use Rattle.integers.specs.Sum.{upto}
 use Rattle.polar.specs.Order.{joined}
 use Rattle.polar.specs.Groups.{Group, monomialsOver}
 use Rattle.polar.specs.Polar.{polarOver, terms}
-use Rattle.entries.specs.Frame.{takenOver, pointsOver, before}
+use Rattle.entries.specs.Frame.{entryPointsOver, pointsOver, framesWithQ}
 use Rattle.entries.specs.Entries.{listedOver}
 use Rattle.kinds.specs.Kinds.{group}
 use Rattle.machine.specs.Steps.{Answer, refusalNumber, answerValues, answers}
@@ -49,25 +49,25 @@ netOf s = netOver (s .polynomials) (framesReached (s .polynomials) (s .frame) (s
 pub record SampleHolds (s : Sample) : Type 0 where
   pub accepted : firstRefusal (s .polynomials) (s .frame) ≡ 0
   pub reached : numbersOf (netOf s .frames) ≡ s .reached
-  pub net : netOf s .entries ≡ joined (λ row. row) (s .net)
+  pub net : netOf s .entries ≡ joined (λ numbers. numbers) (s .net)
   pub largest : netOf s .largest ≡ pos (s .largest)
   pub answered : map answerRow (answers (machineStep (s .polynomials)) (framesOf (groups (s .polynomials)) (s .frame)) (s .calls)) ≡ s .answers
 
 -- ---- how the table is written
 
 -- x, y, z, w of a monomial, an entry or a point
-abbrev row : ℕ → ℕ → ℕ → ℕ → List ℤ
-row x y z w = pos x ∷ pos y ∷ pos z ∷ pos w ∷ []
+abbrev four : ℕ → ℕ → ℕ → ℕ → List ℤ
+four x y z w = pos x ∷ pos y ∷ pos z ∷ pos w ∷ []
 
 -- the same where some are below 0
-abbrev signed : ℤ → ℤ → ℤ → ℤ → List ℤ
-signed x y z w = x ∷ y ∷ z ∷ w ∷ []
+abbrev fourSigned : ℤ → ℤ → ℤ → ℤ → List ℤ
+fourSigned x y z w = x ∷ y ∷ z ∷ w ∷ []
 
 abbrev minus : ℕ → ℤ
 minus k = negℤ (pos k)
 
 abbrev polynomials : ℕ → ℕ → ℕ → List (List ℤ) → Polynomials
-polynomials kind degree second rows = record { kind = kind; degree = degree; second = second; coefficients = joined (λ row. row) rows }
+polynomials kind degree second rows = record { kind = kind; degree = degree; second = second; coefficients = joined (λ numbers. numbers) rows }
 
 -- a move with the first of its weights; those that are not written are 0
 abbrev move : ℕ → ℕ → List ℤ → Call
@@ -108,23 +108,23 @@ direction x y z length = x ∷ y ∷ z ∷ pos length ∷ []
 -- ---- the polynomials
 
 abbrev circle : Polynomials
-circle = polynomials 1 2 0 (row 1 0 0 1 ∷ row 0 2 0 0 ∷ signed (minus 1) (pos 0) (pos 0) (pos 1) ∷ [])
+circle = polynomials 1 2 0 (four 1 0 0 1 ∷ four 0 2 0 0 ∷ fourSigned (minus 1) (pos 0) (pos 0) (pos 1) ∷ [])
 
 -- x = 3TZ², y = 3T²Z, z = 0, w = Z³ + T³
 abbrev folium : Polynomials
-folium = polynomials 1 3 0 (row 0 0 0 1 ∷ row 3 0 0 0 ∷ row 0 3 0 0 ∷ row 0 0 0 1 ∷ [])
+folium = polynomials 1 3 0 (four 0 0 0 1 ∷ four 3 0 0 0 ∷ four 0 3 0 0 ∷ four 0 0 0 1 ∷ [])
 
 -- x = UZ, y = VZ, z = UV, w = Z²
 abbrev saddle : Polynomials
-saddle = polynomials 2 2 0 (row 0 0 0 1 ∷ row 0 1 0 0 ∷ row 0 0 0 0 ∷ row 1 0 0 0 ∷ row 0 0 1 0 ∷ row 0 0 0 0 ∷ [])
+saddle = polynomials 2 2 0 (four 0 0 0 1 ∷ four 0 1 0 0 ∷ four 0 0 0 0 ∷ four 1 0 0 0 ∷ four 0 0 1 0 ∷ four 0 0 0 0 ∷ [])
 
 -- x = 1048576 Z, y = z = 0, w = Z + T
 abbrev line : Polynomials
-line = polynomials 1 1 0 (row 1048576 0 0 1 ∷ row 0 0 0 1 ∷ [])
+line = polynomials 1 1 0 (four 1048576 0 0 1 ∷ four 0 0 0 1 ∷ [])
 
 -- x = (Z₁² − T₁²) Z₂, y = 2 T₁Z₁ Z₂, z = (3 Z₁² + T₁²) T₂, w = (Z₁² + T₁²) Z₂: degrees 2 and 1
 abbrev stripCoefficients : List (List ℤ)
-stripCoefficients = row 1 0 0 1 ∷ row 0 0 3 0 ∷ row 0 2 0 0 ∷ row 0 0 0 0 ∷ signed (minus 1) (pos 0) (pos 0) (pos 1) ∷ row 0 0 1 0 ∷ []
+stripCoefficients = four 1 0 0 1 ∷ four 0 0 3 0 ∷ four 0 2 0 0 ∷ four 0 0 0 0 ∷ fourSigned (minus 1) (pos 0) (pos 0) (pos 1) ∷ four 0 0 1 0 ∷ []
 
 -- ---- the table
 
@@ -133,44 +133,44 @@ samples =
     -- B1 and B2
     record {
       polynomials = circle;
-      frame = row 0 1 1 1;
+      frame = four 0 1 1 1;
       calls = point (pos 1) (pos 1) (pos 0) (pos 0) ∷ [];
-      reached = row 0 1 1 1;
-      net = row 2 0 0 2 ∷ row 2 2 0 2 ∷ row 0 4 0 4 ∷ [];
+      reached = four 0 1 1 1;
+      net = four 2 0 0 2 ∷ four 2 2 0 2 ∷ four 0 4 0 4 ∷ [];
       largest = 4;
       -- 0.6, 0.8 and 0, as in the circle's text
-      answers = found (row 6 8 0 10) (finite 0x3fe3333333333333 0x3fe999999999999a 0) ∷ [];
+      answers = found (four 6 8 0 10) (finite 0x3fe3333333333333 0x3fe999999999999a 0) ∷ [];
     }
     ∷  -- B3
     record {
       polynomials = circle;
-      frame = row 0 1 1 1;
+      frame = four 0 1 1 1;
       calls = replace 2 (pos 1) (pos 1) ∷ [];
-      reached = row 0 1 1 2;
-      net = row 2 0 0 2 ∷ row 4 2 0 4 ∷ row 6 8 0 10 ∷ [];
+      reached = four 0 1 1 2;
+      net = four 2 0 0 2 ∷ four 4 2 0 4 ∷ four 6 8 0 10 ∷ [];
       largest = 10;
       answers = taken ∷ [];
     }
     ∷  -- B4 and B5
     record {
       polynomials = circle;
-      frame = row 0 1 1 1;
+      frame = four 0 1 1 1;
       calls = flip 1 ∷ point (pos 1) (pos 1) (pos 0) (pos 0) ∷ [];
-      reached = signed (pos 0) (minus 1) (pos 1) (pos 1);
-      net = row 2 0 0 2 ∷ signed (minus 2) (minus 2) (pos 0) (minus 2) ∷ row 0 4 0 4 ∷ [];
+      reached = fourSigned (pos 0) (minus 1) (pos 1) (pos 1);
+      net = four 2 0 0 2 ∷ fourSigned (minus 2) (minus 2) (pos 0) (minus 2) ∷ four 0 4 0 4 ∷ [];
       largest = 4;
       -- -1, 0 and 0
-      answers = taken ∷ found (signed (minus 2) (pos 0) (pos 0) (pos 2)) (finite 0xbff0000000000000 0 0) ∷ [];
+      answers = taken ∷ found (fourSigned (minus 2) (pos 0) (pos 0) (pos 2)) (finite 0xbff0000000000000 0 0) ∷ [];
     }
     ∷  -- B6 and B7
     record {
       polynomials = folium;
-      frame = row 0 1 1 1;
+      frame = four 0 1 1 1;
       calls = point (pos 2) (minus 1) (pos 0) (pos 0) ∷ [];
-      reached = row 0 1 1 1;
-      net = row 0 0 0 3 ∷ row 3 0 0 3 ∷ row 6 3 0 3 ∷ row 9 9 0 6 ∷ [];
+      reached = four 0 1 1 1;
+      net = four 0 0 0 3 ∷ four 3 0 0 3 ∷ four 6 3 0 3 ∷ four 9 9 0 6 ∷ [];
       largest = 9;
-      answers = found (signed (minus 9) (pos 9) (pos 0) (pos 0)) (direction (pos 1) (minus 1) (pos 0) 9) ∷ [];
+      answers = found (fourSigned (minus 9) (pos 9) (pos 0) (pos 0)) (direction (pos 1) (minus 1) (pos 0) 9) ∷ [];
     }
     ∷  -- B8 and B9
     record {
@@ -178,25 +178,25 @@ samples =
       frame = pos 1 ∷ pos 0 ∷ pos 1 ∷ pos 0 ∷ pos 1 ∷ pos 1 ∷ pos 0 ∷ pos 0 ∷ pos 1 ∷ [];
       calls = point (pos 1) (pos 1) (pos 1) (pos 0) ∷ [];
       reached = pos 1 ∷ pos 0 ∷ pos 1 ∷ pos 0 ∷ pos 1 ∷ pos 1 ∷ pos 0 ∷ pos 0 ∷ pos 1 ∷ [];
-      net = row 2 0 0 2 ∷ row 1 1 1 2 ∷ row 1 0 0 2 ∷ row 0 2 0 2 ∷ row 0 1 0 2 ∷ row 0 0 0 2 ∷ [];
+      net = four 2 0 0 2 ∷ four 1 1 1 2 ∷ four 1 0 0 2 ∷ four 0 2 0 2 ∷ four 0 1 0 2 ∷ four 0 0 0 2 ∷ [];
       largest = 2;
       -- 1/3, 1/3 and 1/9
-      answers = found (row 6 6 2 18) (finite 0x3fd5555555555555 0x3fd5555555555555 0x3fbc71c71c71c71c) ∷ [];
+      answers = found (four 6 6 2 18) (finite 0x3fd5555555555555 0x3fd5555555555555 0x3fbc71c71c71c71c) ∷ [];
     }
     ∷  -- B10, taken with 16 and refused with 17
     record {
       polynomials = line;
-      frame = row 0 1 1 0;
+      frame = four 0 1 1 0;
       calls = replace 1 (pos 4096) (pos 1) ∷ replace 1 (pos 4096) (pos 1) ∷ replace 1 (pos 16) (pos 1) ∷ [];
-      reached = row 65553 268435456 1 0;
-      net = row 281474976710656 0 0 268501009 ∷ row 0 0 0 1 ∷ [];
+      reached = four 65553 268435456 1 0;
+      net = four 281474976710656 0 0 268501009 ∷ four 0 0 0 1 ∷ [];
       largest = 281474976710656;
       answers = taken ∷ taken ∷ taken ∷ [];
     }
     ∷  -- and refusals with several reasons: 8 and 10, 8 and 9 and 10, 9 and 10; of a point 8 and 10, 8 and 9, 9
     record {
       polynomials = line;
-      frame = row 0 1 1 0;
+      frame = four 0 1 1 0;
       calls =
           replace 1 (pos 4096) (pos 1)
           ∷ replace 1 (pos 4096) (pos 1)
@@ -208,8 +208,8 @@ samples =
           ∷ point (pos 0) (pos 0) (pos 1) (pos 0)
           ∷ point (pos 0) (pos 0) (pos 0) (pos 0)
           ∷ [];
-      reached = row 4097 16777216 1 0;
-      net = row 17592186044416 0 0 16781313 ∷ row 0 0 0 1 ∷ [];
+      reached = four 4097 16777216 1 0;
+      net = four 17592186044416 0 0 16781313 ∷ four 0 0 0 1 ∷ [];
       largest = 17592186044416;
       answers = taken ∷ taken ∷ refused 10 ∷ refused 8 ∷ refused 8 ∷ refused 9 ∷ refused 8 ∷ refused 8 ∷ refused 9 ∷ [];
     }
@@ -218,38 +218,38 @@ samples =
       polynomials = saddle;
       frame = pos 1 ∷ pos 0 ∷ pos 1 ∷ pos 0 ∷ pos 1 ∷ pos 1 ∷ pos 0 ∷ pos 0 ∷ pos 1 ∷ [];
       calls =
-          move 0 1 (row 0 0 0 0)
-          ∷ move 3 1 (row 1 0 0 0)
-          ∷ move 2 0 (row 0 0 0 0)
-          ∷ move 2 4 (row 0 0 0 0)
-          ∷ move 1 3 (signed (pos 0) (minus 4097) (pos 1) (pos 0))
-          ∷ move 2 3 (row 0 0 1 0)
-          ∷ move 1 3 (row 0 0 1 1)
-          ∷ move 1 3 (row 1 1 0 0)
+          move 0 1 (four 0 0 0 0)
+          ∷ move 3 1 (four 1 0 0 0)
+          ∷ move 2 0 (four 0 0 0 0)
+          ∷ move 2 4 (four 0 0 0 0)
+          ∷ move 1 3 (fourSigned (pos 0) (minus 4097) (pos 1) (pos 0))
+          ∷ move 2 3 (four 0 0 1 0)
+          ∷ move 1 3 (four 0 0 1 1)
+          ∷ move 1 3 (four 1 1 0 0)
           ∷ [];
       reached = pos 1 ∷ pos 0 ∷ pos 1 ∷ pos 0 ∷ pos 1 ∷ pos 1 ∷ pos 0 ∷ pos 0 ∷ pos 1 ∷ [];
-      net = row 2 0 0 2 ∷ row 1 1 1 2 ∷ row 1 0 0 2 ∷ row 0 2 0 2 ∷ row 0 1 0 2 ∷ row 0 0 0 2 ∷ [];
+      net = four 2 0 0 2 ∷ four 1 1 1 2 ∷ four 1 0 0 2 ∷ four 0 2 0 2 ∷ four 0 1 0 2 ∷ four 0 0 0 2 ∷ [];
       largest = 2;
       answers = refused 8 ∷ refused 8 ∷ refused 8 ∷ refused 8 ∷ refused 8 ∷ refused 8 ∷ refused 8 ∷ refused 9 ∷ [];
     }
     ∷  -- every case of a projection: x = -4T², y = 3TZ + 6T², z = 0, w = -2TZ is nowhere, in a direction, and at 2, -4.5 and positive zero over a weight below 0
     record {
-      polynomials = polynomials 1 2 0 (row 0 0 0 0 ∷ signed (pos 0) (pos 3) (pos 0) (minus 2) ∷ signed (minus 4) (pos 6) (pos 0) (pos 0) ∷ []);
-      frame = row 0 1 1 0;
+      polynomials = polynomials 1 2 0 (four 0 0 0 0 ∷ fourSigned (pos 0) (pos 3) (pos 0) (minus 2) ∷ fourSigned (minus 4) (pos 6) (pos 0) (pos 0) ∷ []);
+      frame = four 0 1 1 0;
       calls = point (pos 1) (pos 0) (pos 0) (pos 0) ∷ point (pos 0) (pos 1) (pos 0) (pos 0) ∷ point (pos 1) (pos 1) (pos 0) (pos 0) ∷ [];
-      reached = row 0 1 1 0;
-      net = row 0 0 0 0 ∷ signed (pos 0) (pos 3) (pos 0) (minus 2) ∷ signed (minus 8) (pos 12) (pos 0) (pos 0) ∷ [];
+      reached = four 0 1 1 0;
+      net = four 0 0 0 0 ∷ fourSigned (pos 0) (pos 3) (pos 0) (minus 2) ∷ fourSigned (minus 8) (pos 12) (pos 0) (pos 0) ∷ [];
       largest = 12;
       answers =
-          found (row 0 0 0 0) []
-          ∷ found (signed (minus 8) (pos 12) (pos 0) (pos 0)) (direction (pos 2) (minus 3) (pos 0) 4)
-          ∷ found (signed (minus 8) (pos 18) (pos 0) (minus 4)) (finite 0x4000000000000000 0xc012000000000000 0)
+          found (four 0 0 0 0) []
+          ∷ found (fourSigned (minus 8) (pos 12) (pos 0) (pos 0)) (direction (pos 2) (minus 3) (pos 0) 4)
+          ∷ found (fourSigned (minus 8) (pos 18) (pos 0) (minus 4)) (finite 0x4000000000000000 0xc012000000000000 0)
           ∷ [];
     }
     ∷  -- a rectangular patch: a replace in each pair, a flip in each, a point, a direction, and the refusals of vertices, weights and pairs
     record {
       polynomials = polynomials 3 2 1 stripCoefficients;
-      frame = row 0 1 1 1 ++ row 1 2 1 1;
+      frame = four 0 1 1 1 ++ four 1 2 1 1;
       calls =
           replace 2 (pos 1) (pos 1)
           ∷ replace 3 (pos 1) (minus 2)
@@ -257,20 +257,20 @@ samples =
           ∷ flip 1
           ∷ point (pos 1) (pos 2) (pos 3) (pos 1)
           ∷ point (pos 1) (pos 1) (pos 1) (pos 0)
-          ∷ move 1 4 (row 1 2 1 0)
+          ∷ move 1 4 (four 1 2 1 0)
           ∷ replace 3 (pos 0) (pos 1)
           ∷ point (pos 0) (pos 0) (pos 1) (pos 1)
           ∷ point (pos 1) (pos 0) (pos 0) (pos 0)
           ∷ flip 5
           ∷ [];
-      reached = signed (pos 0) (minus 1) (pos 1) (pos 2) ++ signed (minus 1) (pos 0) (minus 1) (minus 1);
+      reached = fourSigned (pos 0) (minus 1) (pos 1) (pos 2) ++ fourSigned (minus 1) (pos 0) (minus 1) (minus 1);
       net =
-          signed (pos 0) (pos 0) (minus 6) (pos 0)
-          ∷ signed (minus 2) (pos 0) (minus 6) (minus 2)
-          ∷ row 0 0 12 0
-          ∷ row 4 2 12 4
-          ∷ signed (pos 0) (pos 0) (minus 26) (pos 0)
-          ∷ signed (minus 6) (minus 8) (minus 26) (minus 10)
+          fourSigned (pos 0) (pos 0) (minus 6) (pos 0)
+          ∷ fourSigned (minus 2) (pos 0) (minus 6) (minus 2)
+          ∷ four 0 0 12 0
+          ∷ four 4 2 12 4
+          ∷ fourSigned (pos 0) (pos 0) (minus 26) (pos 0)
+          ∷ fourSigned (minus 6) (minus 8) (minus 26) (minus 10)
           ∷ [];
       largest = 26;
       answers =
@@ -278,8 +278,8 @@ samples =
           ∷ taken
           ∷ taken
           ∷ taken
-          ∷ found (signed (minus 10) (minus 24) (minus 248) (minus 26)) (finite 0x3fd89d89d89d89d9 0x3fed89d89d89d89e 0x402313b13b13b13b)
-          ∷ found (signed (pos 0) (pos 0) (minus 8) (pos 0)) (direction (pos 0) (pos 0) (pos 1) 8)
+          ∷ found (fourSigned (minus 10) (minus 24) (minus 248) (minus 26)) (finite 0x3fd89d89d89d89d9 0x3fed89d89d89d89e 0x402313b13b13b13b)
+          ∷ found (fourSigned (pos 0) (pos 0) (minus 8) (pos 0)) (direction (pos 0) (pos 0) (pos 1) 8)
           ∷ refused 8
           ∷ refused 9
           ∷ refused 9
@@ -289,8 +289,8 @@ samples =
     }
     ∷  -- frames: a number of 2 to the 48th is taken and one more is 12, a point's q is not looked at, and a flip gives the negative
     record {
-      polynomials = polynomials 1 1 0 (row 0 0 0 0 ∷ row 1 0 0 0 ∷ []);
-      frame = row 0 1 1 1;
+      polynomials = polynomials 1 1 0 (four 0 0 0 0 ∷ four 1 0 0 0 ∷ []);
+      frame = four 0 1 1 1;
       calls =
           grown 1
           ++ (replace 1 (pos 1) (pos 1)
@@ -298,15 +298,15 @@ samples =
           ∷ flip 1
           ∷ replace 1 (pos 1) (minus 1)
           ∷ []);
-      reached = signed (pos 0) (minus 281474976710656) (pos 1) (pos 1);
-      net = row 0 0 0 0 ∷ row 1 0 0 0 ∷ [];
+      reached = fourSigned (pos 0) (minus 281474976710656) (pos 1) (pos 1);
+      net = four 0 0 0 0 ∷ four 1 0 0 0 ∷ [];
       largest = 1;
-      answers = replicate 4 taken ++ (refused 12 ∷ found (row 1 0 0 0) (direction (pos 1) (pos 0) (pos 0) 1) ∷ taken ∷ refused 12 ∷ []);
+      answers = replicate 4 taken ++ (refused 12 ∷ found (four 1 0 0 0) (direction (pos 1) (pos 0) (pos 0) 1) ∷ taken ∷ refused 12 ∷ []);
     }
     ∷  -- 12 before 10 and after 8 and 9
     record {
-      polynomials = polynomials 1 1 0 (row 1 0 0 0 ∷ row 0 0 0 0 ∷ []);
-      frame = row 0 1 1 1;
+      polynomials = polynomials 1 1 0 (four 1 0 0 0 ∷ four 0 0 0 0 ∷ []);
+      frame = four 0 1 1 1;
       calls =
           grown 1
           ++ (replace 1 (pos 1) (pos 1)
@@ -314,23 +314,23 @@ samples =
           ∷ replace 1 (pos 4097) (pos 1)
           ∷ replace 2 (pos 2) (pos 0)
           ∷ []);
-      reached = row 0 281474976710656 1 1;
-      net = row 281474976710656 0 0 0 ∷ row 1 0 0 0 ∷ [];
+      reached = four 0 281474976710656 1 1;
+      net = four 281474976710656 0 0 0 ∷ four 1 0 0 0 ∷ [];
       largest = 281474976710656;
       answers = replicate 4 taken ++ (refused 12 ∷ refused 10 ∷ refused 8 ∷ refused 9 ∷ []);
     }
     ∷  -- the q of the second pair, over the numbers of that pair
     record {
-      polynomials = polynomials 3 1 1 (row 0 0 0 0 ∷ row 0 0 0 0 ∷ row 0 0 0 0 ∷ row 0 0 0 1 ∷ []);
-      frame = row 1 0 0 1 ++ row 0 1 1 1;
+      polynomials = polynomials 3 1 1 (four 0 0 0 0 ∷ four 0 0 0 0 ∷ four 0 0 0 0 ∷ four 0 0 0 1 ∷ []);
+      frame = four 1 0 0 1 ++ four 0 1 1 1;
       calls =
           grown 3
           ++ (replace 3 (pos 1) (pos 1)
           ∷ replace 1 (pos 1) (pos 1)
           ∷ replace 4 (pos 1) (pos 1)
           ∷ []);
-      reached = row 1 1 0 1 ++ row 0 281474976710656 1 1;
-      net = row 0 0 0 0 ∷ row 0 0 0 1 ∷ row 0 0 0 0 ∷ row 0 0 0 0 ∷ [];
+      reached = four 1 1 0 1 ++ four 0 281474976710656 1 1;
+      net = four 0 0 0 0 ∷ four 0 0 0 1 ∷ four 0 0 0 0 ∷ four 0 0 0 0 ∷ [];
       largest = 1;
       answers = replicate 4 taken ++ (refused 12 ∷ taken ∷ refused 12 ∷ []);
     }
@@ -349,16 +349,16 @@ Right (given is must) = given ≡ must
 -- the refusals 7, 6, 5 and 4 of a first net, each with those of the rows before it: x of the first entry is 2520 times 2 to the 38th; a coefficient is outside;
 -- the determinant is 0 or a number outside; there is a second degree, or the degree is 11
 abbrev far : ℕ → ℕ → ℕ → Polynomials
-far degree second last = polynomials 1 degree second (joined (λ k. row 1048576 0 0 0 ∷ []) (upto degree) ++ (row 1048576 0 0 last ∷ []))
+far degree second last = polynomials 1 degree second (joined (λ k. four 1048576 0 0 0 ∷ []) (upto degree) ++ (four 1048576 0 0 last ∷ []))
 
 abbrev firstNets : List Instance
 firstNets =
-    refused (firstRefusal (far 9 0 1048576) (signed (pos 4) (pos 4) (minus 4) (pos 4))) is refused 7
-    ∷ refused (firstRefusal (far 9 0 1048577) (signed (pos 4) (pos 4) (minus 4) (pos 4))) is refused 6
-    ∷ refused (firstRefusal (far 9 0 1048577) (row 4 4 4 4)) is refused 5
-    ∷ refused (firstRefusal (far 9 0 1048577) (row 5 4 4 5)) is refused 5
-    ∷ refused (firstRefusal (far 9 1 1048577) (row 4 4 4 4)) is refused 4
-    ∷ refused (firstRefusal (far 11 0 1048577) (row 4 4 4 4)) is refused 4
+    refused (firstRefusal (far 9 0 1048576) (fourSigned (pos 4) (pos 4) (minus 4) (pos 4))) is refused 7
+    ∷ refused (firstRefusal (far 9 0 1048577) (fourSigned (pos 4) (pos 4) (minus 4) (pos 4))) is refused 6
+    ∷ refused (firstRefusal (far 9 0 1048577) (four 4 4 4 4)) is refused 5
+    ∷ refused (firstRefusal (far 9 0 1048577) (four 5 4 4 5)) is refused 5
+    ∷ refused (firstRefusal (far 9 1 1048577) (four 4 4 4 4)) is refused 4
+    ∷ refused (firstRefusal (far 11 0 1048577) (four 4 4 4 4)) is refused 4
     ∷ []
 
 -- the refusals 4 and 10 of a handed net before those of the call; its first entry is x, 0, 0, w; what a net claims as its largest component is not judged
@@ -367,7 +367,7 @@ handed kind degree second x w weight =
     refused
     (firstFailed
     (netTests
-    (record { kind = kind; degree = degree; second = second; frames = framesOf (group 1 1 ∷ []) (row 0 1 1 0); entries = row x 0 0 w ++ row 0 0 0 1; largest = minus 1 })
+    (record { kind = kind; degree = degree; second = second; frames = framesOf (group 1 1 ∷ []) (four 0 1 1 0); entries = four x 0 0 w ++ four 0 0 0 1; largest = minus 1 })
     (point weight (pos 1) (pos 0) (pos 0))))
 
 abbrev handedNets : List Instance
@@ -394,7 +394,7 @@ handedFrame number component call =
     refused
     (firstFailed
     (netTests
-    (record { kind = 1; degree = 1; second = 0; frames = framesOf (group 1 1 ∷ []) (signed (pos 0) number (pos 1) (pos 0)); entries = component ∷ zeros 7; largest = minus 1 })
+    (record { kind = 1; degree = 1; second = 0; frames = framesOf (group 1 1 ∷ []) (fourSigned (pos 0) number (pos 1) (pos 0)); entries = component ∷ zeros 7; largest = minus 1 })
     call))
 
 abbrev handedFrames : List Instance
@@ -434,11 +434,11 @@ lentNets =
 
 -- the entries of a line: at r and at s of its frame
 abbrev lineEntries : List ℤ
-lineEntries = signed (minus 3) (pos 1) (pos 0) (pos 2) ++ row 1 5 0 1
+lineEntries = fourSigned (minus 3) (pos 1) (pos 0) (pos 2) ++ four 1 5 0 1
 
 -- this line over a frame, with the largest component -1, which no net has
 abbrev claiming : Net
-claiming = record { kind = 1; degree = 1; second = 0; frames = framesOf (group 1 1 ∷ []) (row 0 1 1 0); entries = lineEntries; largest = minus 1 }
+claiming = record { kind = 1; degree = 1; second = 0; frames = framesOf (group 1 1 ∷ []) (four 0 1 1 0); entries = lineEntries; largest = minus 1 }
 
 -- what the net that a call leaves stores, and its entries
 abbrev stored : Call → List ℤ
@@ -450,26 +450,26 @@ lentLine frame entries largest =
     pos 1 ∷ pos 1 ∷ pos 0 ∷ (frame ++ replicate 5 (pos 100) ++ entries ++ replicate 172 (pos 100) ++ (largest ∷ pos 100 ∷ []))
 
 abbrev lentAfter : Call → List ℤ
-lentAfter call = callPlaces call (lentLine (row 0 1 1 0) lineEntries (minus 1)) []
+lentAfter call = callPlaces call (lentLine (four 0 1 1 0) lineEntries (minus 1)) []
 
 -- a replace works it out from the entries that it leaves, not from what is claimed and not from places past the entries; a flip, a point and a refused replace hand on what is claimed
 abbrev claims : List Instance
 claims =
-    stored (replace 2 (pos 1) (minus 2)) is (pos 9 ∷ (signed (minus 3) (pos 1) (pos 0) (pos 2) ++ signed (minus 5) (minus 9) (pos 0) (pos 0)))
-    ∷ stored (flip 2) is (minus 1 ∷ (signed (minus 3) (pos 1) (pos 0) (pos 2) ++ signed (minus 1) (minus 5) (pos 0) (minus 1)))
+    stored (replace 2 (pos 1) (minus 2)) is (pos 9 ∷ (fourSigned (minus 3) (pos 1) (pos 0) (pos 2) ++ fourSigned (minus 5) (minus 9) (pos 0) (pos 0)))
+    ∷ stored (flip 2) is (minus 1 ∷ (fourSigned (minus 3) (pos 1) (pos 0) (pos 2) ++ fourSigned (minus 1) (minus 5) (pos 0) (minus 1)))
     ∷ stored (point (pos 1) (pos 1) (pos 0) (pos 0)) is (minus 1 ∷ lineEntries)
     ∷ stored (replace 2 (pos 1) (pos 4097)) is (minus 1 ∷ lineEntries)
     ∷ lentAfter (replace 2 (pos 1) (minus 2))
-    is lentLine (signed (pos 0) (pos 1) (minus 2) (pos 1)) (signed (minus 3) (pos 1) (pos 0) (pos 2) ++ signed (minus 5) (minus 9) (pos 0) (pos 0)) (pos 9)
-    ∷ lentAfter (flip 2) is lentLine (signed (pos 0) (pos 1) (minus 1) (pos 0)) (signed (minus 3) (pos 1) (pos 0) (pos 2) ++ signed (minus 1) (minus 5) (pos 0) (minus 1)) (minus 1)
-    ∷ lentAfter (replace 2 (pos 1) (pos 4097)) is lentLine (row 0 1 1 0) lineEntries (minus 1)
+    is lentLine (fourSigned (pos 0) (pos 1) (minus 2) (pos 1)) (fourSigned (minus 3) (pos 1) (pos 0) (pos 2) ++ fourSigned (minus 5) (minus 9) (pos 0) (pos 0)) (pos 9)
+    ∷ lentAfter (flip 2) is lentLine (fourSigned (pos 0) (pos 1) (minus 1) (pos 0)) (fourSigned (minus 3) (pos 1) (pos 0) (pos 2) ++ fourSigned (minus 1) (minus 5) (pos 0) (minus 1)) (minus 1)
+    ∷ lentAfter (replace 2 (pos 1) (pos 4097)) is lentLine (four 0 1 1 0) lineEntries (minus 1)
     ∷ []
 
 -- ---- two groups of two vertices, as request E3 has them
 
 -- the net of coefficients over frames
 abbrev netNumbers : List Group → List (List ℤ) → Frames → List ℤ
-netNumbers gs coefficients frames = listedOver gs (λ c es. polarOver gs (terms c (monomialsOver gs) (joined (λ row. row) coefficients)) (takenOver frames es))
+netNumbers gs coefficients frames = listedOver gs (λ c es. polarOver gs (terms c (monomialsOver gs) (joined (λ numbers. numbers) coefficients)) (entryPointsOver frames es))
 
 -- the number of a call's refusal, its polar values being those of coefficients over frames
 abbrev numberOver : List Group → List (List ℤ) → Frames → Call → ℕ
@@ -477,7 +477,7 @@ numberOver gs coefficients frames call =
     firstFailed
     (callTests gs call (newNumbers gs frames call)
     (λ c es.
-    polarOver gs (terms c (monomialsOver gs) (joined (λ row. row) coefficients)) (takenOver (before (pointsOver gs (weightsFor gs call) frames) frames) es)))
+    polarOver gs (terms c (monomialsOver gs) (joined (λ numbers. numbers) coefficients)) (entryPointsOver (framesWithQ (pointsOver gs (weightsFor gs call) frames) frames) es)))
 
 -- the numbers of a list of names, and one name: how often q₁, r₁, s₁ and q₂, r₂, s₂ are taken
 abbrev counted : List (List (List ℕ)) → List ℤ
@@ -490,7 +490,7 @@ abbrev strip : List Group
 strip = group 1 2 ∷ group 1 1 ∷ []
 
 abbrev stripNumber : Call → List ℤ
-stripNumber call = refused (numberOver strip stripCoefficients (framesOf strip (row 0 1 1 1 ++ row 0 1 1 1)) call)
+stripNumber call = refused (numberOver strip stripCoefficients (framesOf strip (four 0 1 1 1 ++ four 0 1 1 1)) call)
 
 -- x = 1048576 Z₁ Z₂, y = z = 0, w = Z₁ Z₂ + T₁ Z₂ + Z₁ T₂, over frames with Z = 4096 at r₁ and r₂
 abbrev tile : List Group
@@ -499,7 +499,7 @@ tile = group 1 1 ∷ group 1 1 ∷ []
 abbrev tileNumber : Call → List ℤ
 tileNumber call =
     let pair = (pos 1 ∷ pos 4096 ∷ []) ∷ (pos 1 ∷ pos 0 ∷ []) ∷ [] in
-    refused (numberOver tile (row 1048576 0 0 1 ∷ row 0 0 0 1 ∷ row 0 0 0 1 ∷ row 0 0 0 0 ∷ []) (pair ∷ pair ∷ []) call)
+    refused (numberOver tile (four 1048576 0 0 1 ∷ four 0 0 0 1 ∷ four 0 0 0 1 ∷ four 0 0 0 0 ∷ []) (pair ∷ pair ∷ []) call)
 
 abbrev firstNames : List (List ℤ)
 firstNames = name 1 0 0 0 1 0 ∷ name 1 0 0 0 0 1 ∷ name 0 1 0 0 1 0 ∷ name 0 1 0 0 0 1 ∷ name 0 0 1 0 1 0 ∷ name 0 0 1 0 0 1 ∷ []
@@ -509,16 +509,16 @@ isTrue b = cond b (pos 1 ∷ []) (pos 0 ∷ [])
 
 abbrev twoGroups : List Instance
 twoGroups =
-    netNumbers strip stripCoefficients (framesOf strip (row 0 1 1 1 ++ row 1 2 1 1))
-    is joined (λ row. row) (row 4 0 6 4 ∷ row 2 0 6 2 ∷ row 4 4 6 4 ∷ row 2 2 6 2 ∷ row 0 8 8 8 ∷ row 0 4 8 4 ∷ [])
+    netNumbers strip stripCoefficients (framesOf strip (four 0 1 1 1 ++ four 1 2 1 1))
+    is joined (λ numbers. numbers) (four 4 0 6 4 ∷ four 2 0 6 2 ∷ four 4 4 6 4 ∷ four 2 2 6 2 ∷ four 0 8 8 8 ∷ four 0 4 8 4 ∷ [])
     -- a determinant 0, or a number outside, of the second pair
-    ∷ isTrue (framesAllowed strip (row 0 1 1 1 ++ row 0 1 1 1)) is (pos 1 ∷ [])
-    ∷ isTrue (framesAllowed strip (row 0 1 1 1 ++ row 1 1 1 1)) is (pos 0 ∷ [])
-    ∷ isTrue (framesAllowed strip (row 0 1 1 1 ++ row 0 1 1 5)) is (pos 0 ∷ [])
+    ∷ isTrue (framesAllowed strip (four 0 1 1 1 ++ four 0 1 1 1)) is (pos 1 ∷ [])
+    ∷ isTrue (framesAllowed strip (four 0 1 1 1 ++ four 1 1 1 1)) is (pos 0 ∷ [])
+    ∷ isTrue (framesAllowed strip (four 0 1 1 1 ++ four 0 1 1 5)) is (pos 0 ∷ [])
     -- vertices 1 to 4, weights of the own pair, no pair of a point all 0
     ∷ stripNumber (replace 4 (pos 1) (pos 2)) is refused 0
     ∷ stripNumber (replace 3 (pos 0) (pos 1)) is refused 9
-    ∷ stripNumber (move 1 4 (row 1 2 1 0)) is refused 8
+    ∷ stripNumber (move 1 4 (four 1 2 1 0)) is refused 8
     ∷ stripNumber (flip 5) is refused 8
     ∷ stripNumber (point (pos 1) (pos 1) (pos 0) (pos 1)) is refused 0
     ∷ stripNumber (point (pos 1) (pos 1) (pos 0) (pos 0)) is refused 9

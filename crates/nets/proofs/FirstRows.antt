@@ -13,7 +13,7 @@ use Rattle.polar.specs.Sigma.{Point}
 use Rattle.polar.specs.Order.{counts}
 use Rattle.polar.specs.Groups.{Group, monomialsOver}
 use Rattle.polar.specs.Polar.{columnTerms}
-use Rattle.entries.specs.Frame.{taken}
+use Rattle.entries.specs.Frame.{entryPoints}
 use Rattle.entries.specs.Form.{Form}
 use Rattle.entries.specs.Rows.{listed, size, rank}
 use Rattle.entries.proofs.Form.{block}
@@ -73,9 +73,9 @@ copied-written w p out ys g h =
 
 -- an entry of row i without copies of the first vertex: the third vertex's copies may stand first
 row-points : {d : ℕ} {G : List Point → ℤ} → Form d G → (fr : ℕ → Point) (n i k : ℕ) → 1 ≤ n → n ≤ 2 → k ≤ (n - 1) * i
-    → G (replicate k (fr 2) ++ replicate (i - k) (fr 1)) ≡ G (taken fr (countsAt n i i k))
+    → G (replicate k (fr 2) ++ replicate (i - k) (fr 1)) ≡ G (entryPoints fr (countsAt n i i k))
 row-points {d} {G} F fr n i k low high =
-    by-dimension (λ j. k ≤ (j - 1) * i → G (replicate k (fr 2) ++ replicate (i - k) (fr 1)) ≡ G (taken fr (countsAt j i i k))) n low high
+    by-dimension (λ j. k ≤ (j - 1) * i → G (replicate k (fr 2) ++ replicate (i - k) (fr 1)) ≡ G (entryPoints fr (countsAt j i i k))) n low high
     (λ h.
     let none : k ≡ 0 = omega arith in
     ap (λ j. G (replicate j (fr 2) ++ replicate (i - j) (fr 1))) none
@@ -87,9 +87,9 @@ row-points {d} {G} F fr n i k low high =
     ∙ ap (λ j. G (replicate j (fr 0) ++ (replicate (i - k) (fr 1) ++ (replicate k (fr 2) ++ [])))) (sym (sub-self i)))
 
 -- the copies of the first vertex stand in front
-first-points : (fr : ℕ → Point) (n m i k : ℕ) → 1 ≤ n → n ≤ 2 → replicate (m - i) (fr 0) ++ taken fr (countsAt n i i k) ≡ taken fr (countsAt n m i k)
+first-points : (fr : ℕ → Point) (n m i k : ℕ) → 1 ≤ n → n ≤ 2 → replicate (m - i) (fr 0) ++ entryPoints fr (countsAt n i i k) ≡ entryPoints fr (countsAt n m i k)
 first-points fr n m i k low high =
-    by-dimension (λ j. replicate (m - i) (fr 0) ++ taken fr (countsAt j i i k) ≡ taken fr (countsAt j m i k)) n low high
+    by-dimension (λ j. replicate (m - i) (fr 0) ++ entryPoints fr (countsAt j i i k) ≡ entryPoints fr (countsAt j m i k)) n low high
     (ap (λ j. replicate (m - i) (fr 0) ++ (replicate j (fr 0) ++ (replicate i (fr 1) ++ []))) (sub-self i))
     (ap (λ j. replicate (m - i) (fr 0) ++ (replicate j (fr 0) ++ (replicate (i - k) (fr 1) ++ (replicate k (fr 2) ++ [])))) (sub-self i))
 
@@ -124,7 +124,7 @@ entry-more w n i k frame out cur ys G F low high third inv is =
     ∙ written-cong cur (w * placeAt n i k) w (λ j. G (j % w) (replicate k (vertexOf n frame 2) ++ replicate (i - k) (vertexOf n frame 1))) (valueAt w n i frame G)
     (λ j lo up.
     row-points (F (j % w)) (vertexOf n frame) n i k low high third
-    ∙ ap (λ e. G (j % w) (taken (vertexOf n frame) e)) (sym (counts-here w n i i k j low high (le-refl i) third (row-digit w (placeAt n i k) j lo up)))))
+    ∙ ap (λ e. G (j % w) (entryPoints (vertexOf n frame) e)) (sym (counts-here w n i i k j low high (le-refl i) third (row-digit w (placeAt n i k) j lo up)))))
 
 -- ---- the rows
 
@@ -155,9 +155,9 @@ module _ (w n m i : ℕ) (frame xs cur : List ℤ) (stepping : Stepping w n m fr
 row-value : (w n m i j : ℕ) (frame : List ℤ) (G : Values) → Sized w n m → i ≤ m → w * placeAt n i 0 ≤ j → j < w * placeAt n i 0 + w * suc ((n - 1) * i)
     → valueAt w n i frame (λ c ps. G c (replicate (m - i) (vertexOf n frame 0) ++ ps)) j ≡ valueAt w n m frame G j
 row-value w n m i j frame G s b lo up =
-    ap (λ e. G (j % w) (replicate (m - i) (vertexOf n frame 0) ++ taken (vertexOf n frame) e)) (counts-here w n i i k j (s .low) (s .high) (le-refl i) third at)
+    ap (λ e. G (j % w) (replicate (m - i) (vertexOf n frame 0) ++ entryPoints (vertexOf n frame) e)) (counts-here w n i i k j (s .low) (s .high) (le-refl i) third at)
     ∙ ap (G (j % w)) (first-points (vertexOf n frame) n m i k (s .low) (s .high))
-    ∙ ap (λ e. G (j % w) (taken (vertexOf n frame) e)) (sym (counts-here w n m i k j (s .low) (s .high) b third at))
+    ∙ ap (λ e. G (j % w) (entryPoints (vertexOf n frame) e)) (sym (counts-here w n m i k j (s .low) (s .high) b third at))
   where
     k : ℕ
     k = j / w - placeAt n i 0
@@ -240,14 +240,14 @@ holds-polar w n m numbers xs coordinates =
 
 -- all values written are the numbers of the net over the frame, in front of what stood past them
 pub values-listed : (w n m : ℕ) (frame out : List ℤ) (G : Values) → 1 ≤ w → size w n m ≤ length out
-    → written out 0 (size w n m) (valueAt w n m frame G) ≡ listed w n m (λ c e. G c (taken (vertexOf n frame) e)) ++ drop (size w n m) out
+    → written out 0 (size w n m) (valueAt w n m frame G) ≡ listed w n m (λ c e. G c (entryPoints (vertexOf n frame) e)) ++ drop (size w n m) out
 values-listed w n m frame out G some room =
-    net-ext w n m some (written out 0 (size w n m) whole) out (λ c e. G c (taken (vertexOf n frame) e)) (length-written out 0 (size w n m) whole) room
+    net-ext w n m some (written out 0 (size w n m) whole) out (λ c e. G c (entryPoints (vertexOf n frame) e)) (length-written out 0 (size w n m) whole) room
     (λ c e k l t.
     let inside = digits-below w (rank n e) c (length (counts n m)) (rank-below w n m e l t) k in
     written-at out 0 (size w n m) whole (w * rank n e + c) zero-le (omega arith) (omega (arith, room))
-    ∙ ap₂ (λ p i. G i (taken (vertexOf n frame) (getD (counts n m) p []))) (row-of w (rank n e) c k) (own-of w (rank n e) c k)
-    ∙ ap (λ y. G c (taken (vertexOf n frame) y)) (counts-at-rank n m e l t))
+    ∙ ap₂ (λ p i. G i (entryPoints (vertexOf n frame) (getD (counts n m) p []))) (row-of w (rank n e) c k) (own-of w (rank n e) c k)
+    ∙ ap (λ y. G c (entryPoints (vertexOf n frame) y)) (counts-at-rank n m e l t))
     (λ i h. written-outside out 0 (size w n m) whole i (λ a b. omega arith))
   where
     whole : ℕ → ℤ

@@ -22,7 +22,7 @@ use Rattle.polar.specs.Order.{joined, counts, monomials}
 use Rattle.polar.specs.Scale.{scale}
 use Rattle.polar.specs.Groups.{Group, monomialsOver, countsOver}
 use Rattle.polar.specs.Polar.{polarOver, terms}
-use Rattle.entries.specs.Frame.{takenOver}
+use Rattle.entries.specs.Frame.{entryPointsOver}
 use Rattle.entries.specs.Entries.{numberCount, listedOver}
 use Rattle.entries.specs.Rows.{size}
 use Rattle.entries.proofs.Lengths.{length-one, monomials-counts}
@@ -39,7 +39,7 @@ use Rattle.machine.specs.Refusals.{_else_, firstFailed}
 use Rattle.machine.specs.Nets.{Net, netInRange}
 use Rattle.machine.specs.Comparison.{Polynomials, groups, polarOf, netOver}
 use Rattle.machine.specs.First.{firstTests, firstNet}
-use Rattle.machine.specs.Lent.{putAt, put, wide, unlessRefused, polynomialsFrom, madeNumber, madePlaces}
+use Rattle.machine.specs.Lent.{putAt, putNet, enoughPlaces, unlessRefused, polynomialsFrom, madeNumber, madePlaces}
 use Rattle.machine.proofs.Refusals.{none-failed, passed-first, refused-first, row-passes}
 use Rattle.machine.proofs.Lent.{part-put}
 use Rattle.nets.specs.Rows.{Sized, written}
@@ -319,14 +319,14 @@ module _ (kind p q : ℕ) (right : known kind p q ≡ true) where
     net = firstNet (polynomialsFrom kind p q coefficients) frame
 
     abbrev over : List Group → List ℤ
-    over gs = listedOver gs (λ c es. polarOver gs (terms c (monomialsOver gs) coefficients) (takenOver (framesOf gs frame) es))
+    over gs = listedOver gs (λ c es. polarOver gs (terms c (monomialsOver gs) coefficients) (entryPointsOver (framesOf gs frame) es))
 
     -- its entries are the polar values, of coefficients that may have more after them
     first-entries : net .entries ≡ over (group n p ∷ later)
     unfolding netOver polarOf
     first-entries =
         listed-over-cong (groupsOf kind p q) _ _
-        (λ c es k counted. ap (λ ts. polarOver (groupsOf kind p q) ts (takenOver (framesOf (groupsOf kind p q) frame) es)) (terms-taken c k (monomialsOver (groupsOf kind p q)) coefficients))
+        (λ c es k counted. ap (λ ts. polarOver (groupsOf kind p q) ts (entryPointsOver (framesOf (groupsOf kind p q) frame) es)) (terms-taken c k (monomialsOver (groupsOf kind p q)) coefficients))
         ∙ ap over (groups-of kind p q right)
 
     first-count : length (net .entries) ≡ numberCount (groupsOf kind p q)
@@ -388,11 +388,11 @@ module _ (kind degree second : ℕ) (frame coefficients lent : List ℤ) where
   abbrev Answered : ℕ → List ℤ → Type 0
   Answered k ys = (k ≡ madeNumber kind degree second frame coefficients lent) × (ys ≡ madePlaces kind degree second frame coefficients lent)
 
-  answered : (k : ℕ) (ys : List ℤ) → madeNumber kind degree second frame coefficients lent ≡ k → ys ≡ unlessRefused k (put made lent) lent → Answered k ys
+  answered : (k : ℕ) (ys : List ℤ) → madeNumber kind degree second frame coefficients lent ≡ k → ys ≡ unlessRefused k (putNet made lent) lent → Answered k ys
   unfolding madePlaces
-  answered k ys e is = (sym e, is ∙ ap (λ j. unlessRefused j (put made lent) lent) (sym e))
+  answered k ys e is = (sym e, is ∙ ap (λ j. unlessRefused j (putNet made lent) lent) (sym e))
 
-  by-places : {a b c : Bool} → leb 9 (length frame) ≡ a → leb 180 (length coefficients) ≡ b → wide lent ≡ c
+  by-places : {a b c : Bool} → leb 9 (length frame) ≡ a → leb 180 (length coefficients) ≡ b → enoughPlaces lent ≡ c
       → madeNumber kind degree second frame coefficients lent ≡ firstFailed (a else 11 ∷ b else 11 ∷ c else 11 ∷ firstTests f (take 9 frame))
   unfolding madeNumber
   by-places x y z = λ i. firstFailed (x i else 11 ∷ y i else 11 ∷ z i else 11 ∷ firstTests f (take 9 frame))
@@ -409,7 +409,7 @@ module _ (kind degree second : ℕ) (frame coefficients lent : List ℤ) where
       places-short h = answered 11 lent (by-places (le-leb 9 (length frame) framed) (le-leb 180 (length coefficients) long) (lt-leb 193 (length lent) h)) refl
 
       module _ (room : 193 ≤ length lent) where
-        enough : wide lent ≡ true
+        enough : enoughPlaces lent ≡ true
         enough = le-leb 193 (length lent) room
 
         -- the number is what was judged, and after it the net's range
@@ -460,8 +460,8 @@ module _ (kind p q largest : ℕ) (lent frame entries : List ℤ) (asked : Store
 
   -- the largest component is put, the entries are copied into their part of the places, the frame's numbers into theirs, and the head is put
   pub net-put : (base some more ys : List ℤ) → base ≡ putAt 192 (pos largest ∷ []) lent → some ≡ putAt 12 (take (numberCount gs) entries) base → more ≡ putAt 3 (take (frameCount gs) frame) some
-      → ys ≡ putAt 0 (pos kind ∷ pos p ∷ pos q ∷ []) more → ys ≡ put (netWith kind p q frame entries) lent
-  unfolding put
+      → ys ≡ putAt 0 (pos kind ∷ pos p ∷ pos q ∷ []) more → ys ≡ putNet (netWith kind p q frame entries) lent
+  unfolding putNet
   net-put base some more ys base-is some-is more-is is =
       is
       ∙ ap (putAt 0 (pos kind ∷ pos p ∷ pos q ∷ []))

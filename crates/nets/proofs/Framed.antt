@@ -15,7 +15,7 @@ use Rattle.polar.specs.Order.{joined, total, counts, monomials}
 use Rattle.polar.specs.Groups.{Group, monomialsOver, countsOver}
 use Rattle.polar.specs.Scale.{scale}
 use Rattle.polar.specs.Polar.{polarOver, columnTerms, terms}
-use Rattle.entries.specs.Frame.{taken, takenOver, combination, units}
+use Rattle.entries.specs.Frame.{entryPoints, entryPointsOver, combination, units}
 use Rattle.entries.specs.Form.{Form}
 use Rattle.entries.specs.Entries.{placeOf, raise, numberCount, listedOver}
 use Rattle.entries.specs.Rows.{listed, size}
@@ -53,23 +53,23 @@ module _ (d : ℕ) (fr corner : ℕ → Point) (weights : ℕ → List ℤ) (nam
   corners-more zero q Q c cs = cs
   corners-more (suc k) q Q c cs = (c, corners-more k q Q c cs)
 
-  corners-taken : (at : ℕ → Point) (e : List ℕ) → ((v : ℕ) → v < length e → Corner (at v)) → Corners (taken at e)
+  corners-taken : (at : ℕ → Point) (e : List ℕ) → ((v : ℕ) → v < length e → Corner (at v)) → Corners (entryPoints at e)
   corners-taken at [] h = tt
-  corners-taken at (k ∷ e) h = corners-more k (at 0) (taken (λ v. at (suc v)) e) (h 0 (suc-le-suc zero-le)) (corners-taken (λ v. at (suc v)) e (λ v p. h (suc v) (suc-le-suc p)))
+  corners-taken at (k ∷ e) h = corners-more k (at 0) (entryPoints (λ v. at (suc v)) e) (h 0 (suc-le-suc zero-le)) (corners-taken (λ v. at (suc v)) e (λ v p. h (suc v) (suc-le-suc p)))
 
-  module _ {G : List Point → ℤ} (F : Form d G) (A m : ℕ) (small : (e : List ℕ) → length e ≡ d → total e ≡ m → natAbs (G (taken fr e)) ≤ A) where
-    grown : (Q : List Point) → Corners Q → (e : List ℕ) → length e ≡ d → length Q + total e ≡ m → natAbs (G (Q ++ taken fr e)) ≤ (4 * d) ^ length Q * A
-    grown [] cs e l t = subst (λ k. natAbs (G (taken fr e)) ≤ k) (sym (ap (λ p. p * A) (pow-zero (4 * d)) ∙ one-mul A)) (small e l (sym (zero-add (total e)) ∙ t))
+  module _ {G : List Point → ℤ} (F : Form d G) (A m : ℕ) (small : (e : List ℕ) → length e ≡ d → total e ≡ m → natAbs (G (entryPoints fr e)) ≤ A) where
+    grown : (Q : List Point) → Corners Q → (e : List ℕ) → length e ≡ d → length Q + total e ≡ m → natAbs (G (Q ++ entryPoints fr e)) ≤ (4 * d) ^ length Q * A
+    grown [] cs e l t = subst (λ k. natAbs (G (entryPoints fr e)) ≤ k) (sym (ap (λ p. p * A) (pow-zero (4 * d)) ∙ one-mul A)) (small e l (sym (zero-add (total e)) ∙ t))
     grown (q ∷ Q) (c, cs) e l t =
-        subst (λ k. natAbs (G (q ∷ (Q ++ taken fr e))) ≤ k) turned
+        subst (λ k. natAbs (G (q ∷ (Q ++ entryPoints fr e))) ≤ k) turned
         (subst (λ x. natAbs x ≤ d * (4 * ((4 * d) ^ length Q * A))) step
-        (abs-sum (λ u. getD (weights (c .0)) u (pos 0) *ℤ G (Q ++ taken fr (raise u e))) d (4 * ((4 * d) ^ length Q * A))
+        (abs-sum (λ u. getD (weights (c .0)) u (pos 0) *ℤ G (Q ++ entryPoints fr (raise u e))) d (4 * ((4 * d) ^ length Q * A))
         (λ u h.
-        abs-*-le (getD (weights (c .0)) u (pos 0)) (G (Q ++ taken fr (raise u e))) (low (c .0) (c .1) u)
+        abs-*-le (getD (weights (c .0)) u (pos 0)) (G (Q ++ entryPoints fr (raise u e))) (low (c .0) (c .1) u)
         (grown Q cs (raise u e) (length-raise u e (subst (λ k. u < k) (sym l) h) ∙ l) (omega (arith, total-raise u e, t))))))
       where
-        step : sum (λ u. getD (weights (c .0)) u (pos 0) *ℤ G (Q ++ taken fr (raise u e))) (upto d) ≡ G (q ∷ (Q ++ taken fr e))
-        step = blend F fr (weights (c .0)) (λ x. G (Q ++ taken fr x)) Q e (λ u h. refl) ∙ ap (λ p. G (p ∷ (Q ++ taken fr e))) (named (c .0) (c .1) ∙ c .2)
+        step : sum (λ u. getD (weights (c .0)) u (pos 0) *ℤ G (Q ++ entryPoints fr (raise u e))) (upto d) ≡ G (q ∷ (Q ++ entryPoints fr e))
+        step = blend F fr (weights (c .0)) (λ x. G (Q ++ entryPoints fr x)) Q e (λ u h. refl) ∙ ap (λ p. G (p ∷ (Q ++ entryPoints fr e))) (named (c .0) (c .1) ∙ c .2)
 
         turned : d * (4 * ((4 * d) ^ length Q * A)) ≡ (4 * d) ^ suc (length Q) * A
         turned =
@@ -79,20 +79,20 @@ module _ (d : ℕ) (fr corner : ℕ → Point) (weights : ℕ → List ℤ) (nam
             ∙ ap (λ k. k * A) (sym (pow-succ' (4 * d) (length Q)))
 
     -- as many vertices as the form has points
-    pub over-corners : (e : List ℕ) → length e ≡ d → total e ≡ m → natAbs (G (taken corner e)) ≤ (4 * d) ^ m * A
+    pub over-corners : (e : List ℕ) → length e ≡ d → total e ≡ m → natAbs (G (entryPoints corner e)) ≤ (4 * d) ^ m * A
     over-corners e l t =
-        subst (λ ps. natAbs (G ps) ≤ (4 * d) ^ m * A) (ap (λ ps. taken corner e ++ ps) (none-taken fr d) ∙ append-nil (taken corner e))
-        (subst (λ k. natAbs (G (taken corner e ++ taken fr (replicate d 0))) ≤ (4 * d) ^ k * A) (taken-long corner e ∙ t)
-        (grown (taken corner e) (corners-taken corner e (λ v h. (v, subst (λ k. v < k) l h, refl))) (replicate d 0) (length-zeros d)
+        subst (λ ps. natAbs (G ps) ≤ (4 * d) ^ m * A) (ap (λ ps. entryPoints corner e ++ ps) (none-taken fr d) ∙ append-nil (entryPoints corner e))
+        (subst (λ k. natAbs (G (entryPoints corner e ++ entryPoints fr (replicate d 0))) ≤ (4 * d) ^ k * A) (taken-long corner e ∙ t)
+        (grown (entryPoints corner e) (corners-taken corner e (λ v h. (v, subst (λ k. v < k) l h, refl))) (replicate d 0) (length-zeros d)
         (ap₂ _+_ (taken-long corner e ∙ t) (total-zeros d) ∙ add-zero m)))
       where
-        none-taken : (at : ℕ → Point) (k : ℕ) → taken at (replicate k 0) ≡ []
+        none-taken : (at : ℕ → Point) (k : ℕ) → entryPoints at (replicate k 0) ≡ []
         none-taken at zero = refl
         none-taken at (suc k) = none-taken (λ v. at (suc v)) k
 
-        taken-long : (at : ℕ → Point) (x : List ℕ) → length (taken at x) ≡ total x
+        taken-long : (at : ℕ → Point) (x : List ℕ) → length (entryPoints at x) ≡ total x
         taken-long at [] = refl
-        taken-long at (k ∷ x) = length-append (replicate k (at 0)) (taken (λ v. at (suc v)) x) ∙ ap₂ _+_ (copies k) (taken-long (λ v. at (suc v)) x)
+        taken-long at (k ∷ x) = length-append (replicate k (at 0)) (entryPoints (λ v. at (suc v)) x) ∙ ap₂ _+_ (copies k) (taken-long (λ v. at (suc v)) x)
           where
             copies : (j : ℕ) → length (replicate j (at 0)) ≡ j
             copies zero = refl
@@ -119,33 +119,33 @@ framed-small w n m frame coefficients limited within B each i h =
     i-is = div-add-mod i w
 
     here : (p c : ℕ) → p < length (counts n m) → c < w → w * p + c ≡ i
-        → getD (framed w n m frame coefficients) i (pos 0) ≡ rowPolar w n m coefficients c (taken (vertexOf n frame) (getD (counts n m) p []))
+        → getD (framed w n m frame coefficients) i (pos 0) ≡ rowPolar w n m coefficients c (entryPoints (vertexOf n frame) (getD (counts n m) p []))
     here p c a b is =
         ap (λ j. getD (framed w n m frame coefficients) j (pos 0)) (sym is)
-        ∙ rows-at w (λ k e. rowPolar w n m coefficients k (taken (vertexOf n frame) e)) [] (counts n m) p c a b
+        ∙ rows-at w (λ k e. rowPolar w n m coefficients k (entryPoints (vertexOf n frame) e)) [] (counts n m) p c a b
 
 -- ---- group by group
 
 -- one group: its net over its frame
 pub one-framed : (n m : ℕ) (frame coefficients : List ℤ)
-    → listedOver (group n m ∷ []) (λ c es. polarOver (group n m ∷ []) (terms c (monomialsOver (group n m ∷ [])) coefficients) (takenOver (framesOf (group n m ∷ []) frame) es)) ≡ framed 4 n m frame coefficients
+    → listedOver (group n m ∷ []) (λ c es. polarOver (group n m ∷ []) (terms c (monomialsOver (group n m ∷ [])) coefficients) (entryPointsOver (framesOf (group n m ∷ []) frame) es)) ≡ framed 4 n m frame coefficients
 unfolding framed framesOf countsOver
 one-framed n m frame coefficients =
-    row-listed (group n m) [] (λ c es. polarOver (group n m ∷ []) (terms c (monomialsOver (group n m ∷ [])) coefficients) (takenOver (framesOf (group n m ∷ []) frame) es))
-    (λ c e. rowPolar 4 n m coefficients c (taken (vertexOf n frame) e))
-    (λ c e es k l t counted. ap (λ i. rowPolar 4 n m coefficients i (taken (vertexOf n frame) e)) (sym (zero-add c)))
+    row-listed (group n m) [] (λ c es. polarOver (group n m ∷ []) (terms c (monomialsOver (group n m ∷ [])) coefficients) (entryPointsOver (framesOf (group n m ∷ []) frame) es))
+    (λ c e. rowPolar 4 n m coefficients c (entryPoints (vertexOf n frame) e))
+    (λ c e es k l t counted. ap (λ i. rowPolar 4 n m coefficients i (entryPoints (vertexOf n frame) e)) (sym (zero-add c)))
 
 -- a first group and others: the net over the groups after the first of each part of the first group's net
 pub more-framed : (n m : ℕ) (gs : List Group) (frame coefficients : List ℤ)
-    → listedOver (group n m ∷ gs) (λ c es. polarOver (group n m ∷ gs) (terms c (monomialsOver (group n m ∷ gs)) coefficients) (takenOver (framesOf (group n m ∷ gs) frame) es))
+    → listedOver (group n m ∷ gs) (λ c es. polarOver (group n m ∷ gs) (terms c (monomialsOver (group n m ∷ gs)) coefficients) (entryPointsOver (framesOf (group n m ∷ gs) frame) es))
     ≡ joined
-    (λ k. listedOver gs (λ c es. polarOver gs (terms c (monomialsOver gs) (partAt (numberCount gs) (framed (numberCount gs) n m frame coefficients) k)) (takenOver (framesOf gs (drop (suc n * suc n) frame)) es)))
+    (λ k. listedOver gs (λ c es. polarOver gs (terms c (monomialsOver gs) (partAt (numberCount gs) (framed (numberCount gs) n m frame coefficients) k)) (entryPointsOver (framesOf gs (drop (suc n * suc n) frame)) es)))
     (upto (length (counts n m)))
 unfolding framesOf framed listed
 more-framed n m gs frame coefficients =
-    first-listed (group n m) gs (λ c es. polarOver (group n m ∷ gs) (terms c (monomialsOver (group n m ∷ gs)) coefficients) (takenOver (framesOf (group n m ∷ gs) frame) es))
+    first-listed (group n m) gs (λ c es. polarOver (group n m ∷ gs) (terms c (monomialsOver (group n m ∷ gs)) coefficients) (entryPointsOver (framesOf (group n m ∷ gs) frame) es))
     ∙ each (counts n m) (λ e q. q)
-    ∙ joined-places n m (λ k. listedOver gs (λ c es. polarOver gs (terms c (monomialsOver gs) (partAt w rows k)) (takenOver (framesOf gs (drop (suc n * suc n) frame)) es)))
+    ∙ joined-places n m (λ k. listedOver gs (λ c es. polarOver gs (terms c (monomialsOver gs) (partAt w rows k)) (entryPointsOver (framesOf gs (drop (suc n * suc n) frame)) es)))
   where
     w : ℕ
     w = numberCount gs
@@ -155,22 +155,22 @@ more-framed n m gs frame coefficients =
 
     -- the part of an entry has the first group's polar values
     reads : (e : List ℕ) → List·Memᴰ e (counts n m) → (i : ℕ) → i < 4 * length (monomialsOver gs)
-        → getD (partAt w rows (placeOf e (counts n m))) i (pos 0) ≡ rowPolar (4 * length (monomialsOver gs)) n m coefficients i (taken (vertexOf n frame) e)
+        → getD (partAt w rows (placeOf e (counts n m))) i (pos 0) ≡ rowPolar (4 * length (monomialsOver gs)) n m coefficients i (entryPoints (vertexOf n frame) e)
     reads e q i h =
         let r = placed e (counts n m) q in
         let below : i < w = subst (λ k. i < k) (coefficients-entries gs) h in
         part-at w rows (placeOf e (counts n m)) i below
-        ∙ rows-at w (λ k x. rowPolar w n m coefficients k (taken (vertexOf n frame) x)) [] (counts n m) (placeOf e (counts n m)) i (r .0) below
-        ∙ ap₂ (λ k x. rowPolar k n m coefficients i (taken (vertexOf n frame) x)) (sym (coefficients-entries gs)) (r .1)
+        ∙ rows-at w (λ k x. rowPolar w n m coefficients k (entryPoints (vertexOf n frame) x)) [] (counts n m) (placeOf e (counts n m)) i (r .0) below
+        ∙ ap₂ (λ k x. rowPolar k n m coefficients i (entryPoints (vertexOf n frame) x)) (sym (coefficients-entries gs)) (r .1)
 
     each : (es : List (List ℕ)) → ((e : List ℕ) → List·Memᴰ e es → List·Memᴰ e (counts n m))
-        → joined (λ e. listedOver gs (λ c fs. polarOver (group n m ∷ gs) (terms c (monomialsOver (group n m ∷ gs)) coefficients) (takenOver (framesOf (group n m ∷ gs) frame) (e ∷ fs)))) es
-        ≡ joined (λ e. listedOver gs (λ c fs. polarOver gs (terms c (monomialsOver gs) (partAt w rows (placeOf e (counts n m)))) (takenOver (framesOf gs (drop (suc n * suc n) frame)) fs))) es
+        → joined (λ e. listedOver gs (λ c fs. polarOver (group n m ∷ gs) (terms c (monomialsOver (group n m ∷ gs)) coefficients) (entryPointsOver (framesOf (group n m ∷ gs) frame) (e ∷ fs)))) es
+        ≡ joined (λ e. listedOver gs (λ c fs. polarOver gs (terms c (monomialsOver gs) (partAt w rows (placeOf e (counts n m)))) (entryPointsOver (framesOf gs (drop (suc n * suc n) frame)) fs))) es
     each [] inside = refl
     each (e ∷ es) inside =
         ap₂ _++_
         (listed-over-cong gs _ _
         (λ c fs k counted.
-        over-columns (group n m) gs (taken (vertexOf n frame) e) (takenOver (framesOf gs (drop (suc n * suc n) frame)) fs) c coefficients (partAt w rows (placeOf e (counts n m)))
+        over-columns (group n m) gs (entryPoints (vertexOf n frame) e) (entryPointsOver (framesOf gs (drop (suc n * suc n) frame)) fs) c coefficients (partAt w rows (placeOf e (counts n m)))
         (λ j b. reads e (inside e (List·Memᴰ·head refl)) (4 * j + c) (digits-below 4 j c (length (monomialsOver gs)) b k))))
         (each es (λ x q. inside x (List·Memᴰ·tail q)))

@@ -26,7 +26,7 @@ use Rattle.machine.specs.Frames.{newNumbers}
 use Rattle.machine.specs.Sizes.{namedBy, allNamed}
 use Rattle.machine.specs.Steps.{pointValues, foundAt}
 use Rattle.machine.specs.Nets.{Net, netPolar, handedTests, netTests, entriesAfter, accepted}
-use Rattle.machine.specs.Lent.{byteOf, netAt, putAt, put, wide, room, unlessRefused, callNumber, callPlaces, callFound}
+use Rattle.machine.specs.Lent.{byteOf, netAt, putAt, putNet, enoughPlaces, room, unlessRefused, callNumber, callPlaces, callFound}
 use Rattle.machine.proofs.Lent.{part-read, put-moved, head-stood, stood-sound, accepted-sound}
 use Rattle.machine.specs.declared.Weights.{Weights}
 use Rattle.machine.specs.declared.Call.{Call}
@@ -51,7 +51,7 @@ module _ (call : Call) (lent found : List ℤ) where
 
   pub places-short : length lent < 193 → (11 ≡ callNumber call lent found) × (lent ≡ callPlaces call lent found)
   unfolding callPlaces
-  places-short few = (lent-eleven few, kept-eleven (callNumber call lent found) (put (accepted (netAt lent) call .left) lent) lent (lent-eleven few))
+  places-short few = (lent-eleven few, kept-eleven (callNumber call lent found) (putNet (accepted (netAt lent) call .left) lent) lent (lent-eleven few))
 
   found-eleven : 11 ≡ callNumber call lent found → (11 ≡ callNumber call lent found) × (found ≡ callFound call lent found)
   unfolding callFound
@@ -132,7 +132,7 @@ pub record Stood (lent : List ℤ) (kind degree second : ℕ) : Type 0 where
   pub second-is : second ≡ byteOf (getD lent 2 (pos 0))
 
 module _ {lent : List ℤ} {kind degree second : ℕ} (stood : Stood lent kind degree second) where
-  enough : wide lent ≡ true
+  enough : enoughPlaces lent ≡ true
   enough = le-leb 193 (length lent) (stood .long)
 
   abbrev gs : List Group
@@ -181,7 +181,7 @@ module _ {lent : List ℤ} {kind degree second : ℕ} (stood : Stood lent kind d
     pub places-kept : {k : ℕ} → (k ≡ 0 → ⊥) → k ≡ callNumber call lent found → (k ≡ callNumber call lent found) × (lent ≡ callPlaces call lent found)
     unfolding callPlaces
     places-kept {k} refused is =
-        let written = put (accepted (netAt lent) call .left) lent in
+        let written = putNet (accepted (netAt lent) call .left) lent in
         (is, kept k written lent refused ∙ ap (λ j. unlessRefused j written lent) is)
 
     pub found-kept : {k : ℕ} → (k ≡ 0 → ⊥) → k ≡ callNumber call lent found → (k ≡ callNumber call lent found) × (found ≡ callFound call lent found)
@@ -218,7 +218,7 @@ module _ {lent : List ℤ} {kind degree second : ℕ} (stood : Stood lent kind d
           left-at : Net → List ℤ
           left-at n = putAt 3 (numbersOf (accepted n move .left .frames)) (putAt 12 (accepted n move .left .entries) (putAt 192 (accepted n move .left .largest ∷ []) lent))
 
-          put-is : left-at here ≡ put (accepted (netAt lent) move .left) lent
+          put-is : left-at here ≡ putNet (accepted (netAt lent) move .left) lent
           put-is =
               ap left-at net-is
               ∙ sym

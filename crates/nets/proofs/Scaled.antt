@@ -16,7 +16,7 @@ use Rattle.polar.specs.Groups.{Group, pairs, monomialsOver}
 use Rattle.polar.specs.Polar.{polarOver, columnTerms, terms}
 use Rattle.polar.specs.Scale.{factorial, multinomial, scale}
 use Rattle.polar.proofs.Diagonal.{multinomial-pos, multinomial-whole}
-use Rattle.entries.specs.Frame.{taken, units}
+use Rattle.entries.specs.Frame.{entryPoints, units}
 use Rattle.entries.specs.Entries.{placeOf}
 use Rattle.entries.specs.Rows.{size, rank, offset}
 use Rattle.entries.proofs.Places.{counts-at}
@@ -139,10 +139,10 @@ column-at w c (suc k) numbers (suc p) h =
 
 -- over the frame of the coordinates the polar value of one group is the scaled coefficient
 standard-one : (w n m c : ℕ) (numbers : List ℤ) (i : ℕ) (e : List ℕ) → length e ≡ n → i + total e ≡ m
-    → rowPolar w n m numbers c (taken (units n) (i ∷ e)) ≡ getD numbers (w * placeOf e (monomials n m) + c) (pos 0) *ℤ pos (scale n m / multinomial m e)
+    → rowPolar w n m numbers c (entryPoints (units n) (i ∷ e)) ≡ getD numbers (w * placeOf e (monomials n m) + c) (pos 0) *ℤ pos (scale n m / multinomial m e)
 unfolding monomialsOver
 standard-one w n m c numbers i e l t =
-    ap (λ ts. polarOver gs ts (taken (units n) (i ∷ e) ∷ [])) (column-terms w c (monomialsOver gs) numbers)
+    ap (λ ts. polarOver gs ts (entryPoints (units n) (i ∷ e) ∷ [])) (column-terms w c (monomialsOver gs) numbers)
     ∙ standard gs 0 (columnOf w c (length (monomialsOver gs)) numbers) ((i ∷ e) ∷ []) (ap suc l, t, tt)
     ∙ (λ j. getD (columnOf w c (length (monomialsOver gs)) numbers) (4 * place-is j + 0) (pos 0) *ℤ pos (mul-one (scale n m) j / mul-one (multinomial m e) j))
     ∙ ap (λ a. a *ℤ pos (scale n m / multinomial m e)) (column-at w c (length (monomialsOver gs)) numbers (placeOf e (monomials n m)) below)
@@ -158,11 +158,11 @@ standard-one w n m c numbers i e l t =
 
 -- the entry with i copies of the vertices after the first, k of them of the third
 scaled-entry : (w n m i k c : ℕ) (numbers : List ℤ) → 1 ≤ n → n ≤ 2 → i ≤ m → k ≤ (n - 1) * i
-    → rowPolar w n m numbers c (taken (units n) (countsAt n m i k))
+    → rowPolar w n m numbers c (entryPoints (units n) (countsAt n m i k))
     ≡ getD numbers (w * placeOf (exponentsAt n (i - k) k) (monomials n m) + c) (pos 0) *ℤ pos (scale n m / multinomial m (exponentsAt n (i - k) k))
 scaled-entry w n m i k c numbers low high b =
     by-dimension
-    (λ d. k ≤ (d - 1) * i → rowPolar w d m numbers c (taken (units d) (countsAt d m i k))
+    (λ d. k ≤ (d - 1) * i → rowPolar w d m numbers c (entryPoints (units d) (countsAt d m i k))
     ≡ getD numbers (w * placeOf (exponentsAt d (i - k) k) (monomials d m) + c) (pos 0) *ℤ pos (scale d m / multinomial m (exponentsAt d (i - k) k)))
     n low high
     (λ h. standard-one w 1 m c numbers (m - i) (i ∷ []) refl (curve-sum h) ∙ ap (λ j. getD numbers (w * placeOf (j ∷ []) (monomials 1 m) + c) (pos 0) *ℤ pos (scale 1 m / multinomial m (j ∷ []))) (whole h))
@@ -184,7 +184,7 @@ entry-at : (w n m i k : ℕ) (numbers : List ℤ) → 1 ≤ n → n ≤ 2 → i 
 unfolding coordinateAt
 entry-at w n m i k numbers low high b third j lo up =
     sym
-    (ap₂ (λ c e. rowPolar w n m numbers c (taken (units n) e)) (own-digit w (placeAt n i k) j lo up)
+    (ap₂ (λ c e. rowPolar w n m numbers c (entryPoints (units n) e)) (own-digit w (placeAt n i k) j lo up)
     (ap (λ p. getD (counts n m) p []) (row-digit w (placeAt n i k) j lo up) ∙ counts-at-place n m i k low high b third)
     ∙ scaled-entry w n m i k (j - w * placeAt n i k) numbers low high b third)
 
@@ -210,7 +210,7 @@ entry-put w n m i k to from times out numbers ys low high b third to-is from-is 
 module _ (w n m : ℕ) (numbers : List ℤ) (limited : Limited w n m numbers) where
   -- a polar value over the frame of the coordinates is small
   pub polar-small : (B : ℕ) → NoneBeyond B (w * length (monomials n m)) numbers → (c : ℕ) → c < w → (e : List ℕ) → length e ≡ suc n → total e ≡ m
-      → natAbs (rowPolar w n m numbers c (taken (units n) e)) ≤ scale n m * B
+      → natAbs (rowPolar w n m numbers c (entryPoints (units n) e)) ≤ scale n m * B
   polar-small B each c h [] l t = absurd (suc-ne-zero _ (sym l))
   polar-small B each c h (i ∷ e) l t =
       let len : length e ≡ n = omega arith in
@@ -229,12 +229,12 @@ module _ (w n m : ℕ) (numbers : List ℤ) (limited : Limited w n m numbers) wh
           ap (λ l. getD l i (pos 0)) is
           ∙ written-at xs 0 (size w n m) (coordinateAt w n m numbers) i zero-le (subst (λ k. i < k) (sym (zero-add (size w n m))) h) (subst (λ k. k ≤ length xs) (sym (zero-add (size w n m))) room)
 
-      entries-are : (c : ℕ) (e : List ℕ) → c < w → length e ≡ suc n → total e ≡ m → getD ys (w * rank n e + c) (pos 0) ≡ rowPolar w n m numbers c (taken (units n) e)
+      entries-are : (c : ℕ) (e : List ℕ) → c < w → length e ≡ suc n → total e ≡ m → getD ys (w * rank n e + c) (pos 0) ≡ rowPolar w n m numbers c (entryPoints (units n) e)
       entries-are c e h l t =
           let r = rank-below w n m e l t in
           at (w * rank n e + c) (digits-below w (rank n e) c (length (counts n m)) r h)
-          ∙ ap₂ (λ d p. rowPolar w n m numbers d (taken (units n) (getD (counts n m) p []))) (own-of w (rank n e) c h) (row-of w (rank n e) c h)
-          ∙ ap (λ y. rowPolar w n m numbers c (taken (units n) y)) (counts-at-rank n m e l t)
+          ∙ ap₂ (λ d p. rowPolar w n m numbers d (entryPoints (units n) (getD (counts n m) p []))) (own-of w (rank n e) c h) (row-of w (rank n e) c h)
+          ∙ ap (λ y. rowPolar w n m numbers c (entryPoints (units n) y)) (counts-at-rank n m e l t)
 
       smalls : (B : ℕ) → NoneBeyond B (w * length (monomials n m)) numbers → NoneBeyond (scale n m * B) (size w n m) ys
       smalls B each i h =

@@ -16,7 +16,7 @@ use Rattle.integers.proofs.Sums.{sum-upto-snoc}
 use Rattle.integers.proofs.Signed.{abs-*-le, abs-+-le}
 use Rattle.polar.specs.Sigma.{Point}
 use Rattle.polar.specs.Order.{total, counts}
-use Rattle.entries.specs.Frame.{taken, combination, units, vertexAt}
+use Rattle.entries.specs.Frame.{entryPoints, combination, units, vertexAt}
 use Rattle.entries.specs.Entries.{fixed, raise}
 use Rattle.entries.specs.Rows.{entryAt, size, rank}
 use Rattle.entries.proofs.Form.{fixing, fixes, total-raise, length-raise}
@@ -247,10 +247,10 @@ module _ (w n m v : ℕ) (frame xs : List ℤ) (sized : Sized w n m) (b : v ≤ 
 
   -- what the entries fix with h copies of the vertex
   fixed-is : (c h : ℕ) (e : List ℕ) → c < w → length e ≡ suc n → h + total e ≡ m
-      → fixed (suc n) ws (entryAt w n m xs c) h e ≡ G c (replicate h (vertexOf n frame v) ++ taken (units n) e)
+      → fixed (suc n) ws (entryAt w n m xs c) h e ≡ G c (replicate h (vertexOf n frame v) ++ entryPoints (units n) e)
   fixed-is c h e k l t =
       fixes (holds .form c) (units n) ws (entryAt w n m xs c) (λ x lx tx. holds .entries c x k lx tx) h e l t
-      ∙ ap (λ q. G c (replicate h q ++ taken (units n) e)) (vertex-named n (sized .low) (sized .high) frame v b)
+      ∙ ap (λ q. G c (replicate h q ++ entryPoints (units n) e)) (vertex-named n (sized .low) (sized .high) frame v b)
 
   -- after h steps: the values with h copies of the vertex
   pub holds-level : (h : ℕ) → h ≤ m → Holds w n (m - h) (λ c ps. G c (replicate h (vertexOf n frame v) ++ ps)) (level w n m ws h xs)
@@ -270,6 +270,6 @@ module _ (w n m v : ℕ) (frame xs : List ℤ) (sized : Sized w n m) (b : v ≤ 
       ∙ fixed-is c m (replicate (suc n) 0) k (length-zeros (suc n)) (ap (λ z. m + z) (total-zeros (suc n)) ∙ add-zero m)
       ∙ ap (G c) (ap (λ l. replicate m (vertexOf n frame v) ++ l) (no-points (suc n) (units n)) ∙ append-nil (replicate m (vertexOf n frame v)))
     where
-      no-points : (d : ℕ) (us : ℕ → Point) → taken us (replicate d 0) ≡ []
+      no-points : (d : ℕ) (us : ℕ → Point) → entryPoints us (replicate d 0) ≡ []
       no-points zero us = refl
       no-points (suc d) us = no-points d (λ u. us (suc u))

@@ -21,7 +21,7 @@ use Rattle.machine.specs.Steps.{pointValues}
 use Rattle.machine.specs.Nets.{Net, netGroups, netPolar, netInRange, handedTests, accepted}
 use Rattle.machine.specs.Comparison.{Polynomials}
 use Rattle.machine.specs.First.{firstTests, firstNet}
-use Rattle.machine.specs.Lent.{putAt, put, unlessRefused, polynomialsFrom}
+use Rattle.machine.specs.Lent.{putAt, putNet, unlessRefused, polynomialsFrom}
 use Rattle.machine.specs.declared.Weights.{Weights}
 use Rattle.machine.specs.declared.Call.{Call}
 use Rattle.nets.specs.Rows.{Sized}
@@ -153,7 +153,7 @@ netWith kind p q frame entries =
 -- the number that is answered where a net is to be stored, and the places after it: a net that is not in range is not stored
 pub record Stored (net : Net) (lent : List ℤ) (number : ℕ) (after : List ℤ) : Type 0 where
   pub number-is : number ≡ firstFailed (netInRange net else 7 ∷ [])
-  pub places-are : after ≡ unlessRefused number (put net lent) lent
+  pub places-are : after ≡ unlessRefused number (putNet net lent) lent
 
 -- the same of a first net
 abbrev pub FirstStored : Polynomials → List ℤ → List ℤ → ℕ → List ℤ → Type 0

@@ -9,7 +9,7 @@ use Rattle.polar.specs.Order.{total, counts, monomials}
 use Rattle.polar.specs.Scale.{factorial, factorials, scale}
 use Rattle.polar.specs.Groups.{monomialsOver}
 use Rattle.polar.specs.Polar.{polarOver, columnTerms}
-use Rattle.entries.specs.Frame.{taken, units}
+use Rattle.entries.specs.Frame.{entryPoints, units}
 use Rattle.entries.specs.Rows.{size, rank}
 use Rattle.kinds.specs.Kinds.{group}
 use Rattle.nets.specs.Rows.{Sized, written}
@@ -43,7 +43,7 @@ rowPolar w n m numbers c ps = let gs = group n m ∷ [] in polarOver gs (columnT
 
 -- the number at place i of the net over the frame of the coordinates
 unfoldable pub coordinateAt : ℕ → ℕ → ℕ → List ℤ → ℕ → ℤ
-coordinateAt w n m numbers i = rowPolar w n m numbers (i % w) (taken (units n) (getD (counts n m) (i / w) []))
+coordinateAt w n m numbers i = rowPolar w n m numbers (i % w) (entryPoints (units n) (getD (counts n m) (i / w) []))
 
 -- no number before place hi is beyond B in absolute value
 abbrev pub NoneBeyond : ℕ → ℕ → List ℤ → Type 0
@@ -60,7 +60,7 @@ pub record Limited (w n m : ℕ) (numbers : List ℤ) : Type 0 where
 
 -- what is made: every entry is its polar value, and where no coefficient is beyond B no entry is beyond the scale times B
 pub record Coordinates (w n m : ℕ) (numbers xs : List ℤ) : Type 0 where
-  pub entries : (c : ℕ) (e : List ℕ) → c < w → length e ≡ suc n → total e ≡ m → getD xs (w * rank n e + c) (pos 0) ≡ rowPolar w n m numbers c (taken (units n) e)
+  pub entries : (c : ℕ) (e : List ℕ) → c < w → length e ≡ suc n → total e ≡ m → getD xs (w * rank n e + c) (pos 0) ≡ rowPolar w n m numbers c (entryPoints (units n) e)
   pub small : (B : ℕ) → NoneBeyond B (w * length (monomials n m)) numbers → NoneBeyond (scale n m * B) (size w n m) xs
 
 -- ---- one row

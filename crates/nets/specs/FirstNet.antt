@@ -7,7 +7,7 @@ use lib.ListN.{length, getD, take, drop, replicate}
 use Rattle.polar.specs.Sigma.{Point}
 use Rattle.polar.specs.Order.{total, counts, monomials}
 use Rattle.polar.specs.Scale.{scale}
-use Rattle.entries.specs.Frame.{taken, units, vertexAt}
+use Rattle.entries.specs.Frame.{entryPoints, units, vertexAt}
 use Rattle.entries.specs.Form.{Form}
 use Rattle.entries.specs.Rows.{entryAt, listed, size}
 use Rattle.kinds.specs.Kinds.{laterDimension}
@@ -49,11 +49,11 @@ Values = ℕ → List Point → ℤ
 -- the entries of a net of degree m are the values of the form G over the frame of the coordinates
 pub record Holds (w n m : ℕ) (G : Values) (xs : List ℤ) : Type 0 where
   pub form : (c : ℕ) → Form (suc n) (G c)
-  pub entries : (c : ℕ) (e : List ℕ) → c < w → length e ≡ suc n → total e ≡ m → entryAt w n m xs c e ≡ G c (taken (units n) e)
+  pub entries : (c : ℕ) (e : List ℕ) → c < w → length e ≡ suc n → total e ≡ m → entryAt w n m xs c e ≡ G c (entryPoints (units n) e)
 
 -- the number at place i of the net of degree m with the values of G over the frame
 abbrev pub valueAt : ℕ → ℕ → ℕ → List ℤ → Values → ℕ → ℤ
-valueAt w n m frame G i = G (i % w) (taken (vertexOf n frame) (getD (counts n m) (i / w) []))
+valueAt w n m frame G i = G (i % w) (entryPoints (vertexOf n frame) (getD (counts n m) (i / w) []))
 
 -- what the steps ask for: places for a net of degree m, a frame, and a net that is small
 pub record Stepping (w n m : ℕ) (frame xs : List ℤ) : Type 0 where
@@ -91,7 +91,7 @@ NetPut w n m frame cur out after = (G : Values) → Holds w n m G cur → after 
 
 -- the numbers of the net over the frame, of the polynomials with these coefficients
 unfoldable pub framed : ℕ → ℕ → ℕ → List ℤ → List ℤ → List ℤ
-framed w n m frame coefficients = listed w n m (λ c e. rowPolar w n m coefficients c (taken (vertexOf n frame) e))
+framed w n m frame coefficients = listed w n m (λ c e. rowPolar w n m coefficients c (entryPoints (vertexOf n frame) e))
 
 -- the same put at the front of a list
 abbrev pub framedList : ℕ → ℕ → ℕ → List ℤ → List ℤ → List ℤ → List ℤ

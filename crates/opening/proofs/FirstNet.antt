@@ -12,7 +12,7 @@ use Rattle.kinds.specs.Counts.{NumberCount}
 use Rattle.machine.specs.Refusals.{_else_, firstFailed}
 use Rattle.machine.specs.Comparison.{Polynomials}
 use Rattle.machine.specs.First.{firstNet, firstTests, firstRefusal}
-use Rattle.machine.specs.Lent.{put, wide, unlessRefused, polynomialsFrom, madeNumber, madePlaces}
+use Rattle.machine.specs.Lent.{putNet, enoughPlaces, unlessRefused, polynomialsFrom, madeNumber, madePlaces}
 use Rattle.machine.proofs.Refusals.{passed-first}
 use Rattle.bytes.specs.Numbers.{numberAt, numbersTo, frameNumbers, coefficientsOf}
 use Rattle.bytes.proofs.Numbers.{length-numbersTo}
@@ -47,7 +47,7 @@ module _ (l : Layout) (s : List ℕ) (frame coefficients rest lent : List ℤ) (
   unfolding frameNumbers
   nine is = ap length is ∙ length-numbersTo 9 (numberAt 2 (bytesOf (l .frame) s))
 
-  pub first-made : frame ≡ numbersAt l s → coefficients ≡ numbersTo n (numberAt 4 (drop (l .coefficients .start) s)) ++ rest → length coefficients ≡ 180 → wide lent ≡ true
+  pub first-made : frame ≡ numbersAt l s → coefficients ≡ numbersTo n (numberAt 4 (drop (l .coefficients .start) s)) ++ rest → length coefficients ≡ 180 → enoughPlaces lent ≡ true
       → (number : ℕ) (left : List ℤ) → number ≡ madeNumber (l .kind) (l .degree) (l .second) frame coefficients lent → left ≡ madePlaces (l .kind) (l .degree) (l .second) frame coefficients lent
       → FirstMade l s lent number left
   unfolding madeNumber madePlaces firstRefusal
@@ -55,11 +55,11 @@ module _ (l : Layout) (s : List ℕ) (frame coefficients rest lent : List ℤ) (
       record {
         number =
             answered
-            ∙ passed-first (leb 9 (length frame) else 11 ∷ leb 180 (length coefficients) else 11 ∷ wide lent else 11 ∷ [])
+            ∙ passed-first (leb 9 (length frame) else 11 ∷ leb 180 (length coefficients) else 11 ∷ enoughPlaces lent else 11 ∷ [])
             (firstTests (polynomialsFrom (l .kind) (l .degree) (l .second) coefficients) (take 9 frame))
             (λ i. leb 9 (nine frame-is i) && (leb 180 (long i) && (enough i && true)))
             ∙ ap₂ (λ f ns. firstFailed (firstTests f ns)) polynomials numbers;
-        places = stands ∙ (λ i. unlessRefused (sym answered i) (put (firstNet (polynomials i) (numbers i)) lent) lent);
+        places = stands ∙ (λ i. unlessRefused (sym answered i) (putNet (firstNet (polynomials i) (numbers i)) lent) lent);
       }
     where
       polynomials : polynomialsFrom (l .kind) (l .degree) (l .second) coefficients ≡ polynomialsAt l s

@@ -13,7 +13,7 @@ use Rattle.machine.specs.Refusals.{_else_, firstFailed}
 use Rattle.machine.specs.Comparison.{groups}
 use Rattle.machine.specs.Nets.{netInRange}
 use Rattle.machine.specs.First.{firstNet, firstTests, firstRefusal}
-use Rattle.machine.specs.Lent.{put, wide, unlessRefused}
+use Rattle.machine.specs.Lent.{putNet, enoughPlaces, unlessRefused}
 use Rattle.machine.proofs.Refusals.{passed-first}
 use Rattle.records.proofs.Causes.{refused-caused}
 use Rattle.records.proofs.Accepted.{accepted-sound, found-inside, none-inside}
@@ -25,9 +25,9 @@ use Rattle.records.specs.declared.Layout.{Layout}
 use Rattle.records.specs.declared.Refusal.{Refusal}
 use Rattle.records.specs.declared.Slot.{Slot}
 use Rattle.records.specs.declared.Reading.{Reading}
-use Rattle.records.specs.declared.Reading.the-variants.{Accepted, Refused}
+use Rattle.records.specs.declared.Reading.the-variants.{Fields, Refused}
 use Rattle.opening.specs.Opening.{
-  layoutBy,
+  readingLayout,
   layoutRead,
   polynomialsAt,
   polynomialsIn,
@@ -38,7 +38,7 @@ use Rattle.opening.specs.Opening.{
   refusalBy,
   refusalIn,
   openedWith,
-  layoutIn,
+  openedLayout,
   fieldExtent,
   refusalOver,
   openedIn,
@@ -72,34 +72,34 @@ abbrev pub Opens : List ℕ → List ℤ → Opened → List ℤ → Type 0
 Opens s lent opened left = (opened ≡ openedIn s lent) × (left ≡ placesIn s lent)
 
 module _ (s : List ℕ) (lent : List ℤ) (r : Refusal) (is : refusalOver s lent ≡ r) where
-  opens : Opens s lent (openedWith r s) (unlessRefused (r .number) (put (firstNetFrom s) lent) lent)
+  opens : Opens s lent (openedWith r s) (unlessRefused (r .number) (putNet (firstNetFrom s) lent) lent)
   unfolding openedIn placesIn
-  opens = (ap (λ x. openedWith x s) (sym is), ap (λ x. unlessRefused (x .number) (put (firstNetFrom s) lent) lent) (sym is))
+  opens = (ap (λ x. openedWith x s) (sym is), ap (λ x. unlessRefused (x .number) (putNet (firstNetFrom s) lent) lent) (sym is))
 
   -- a refused record has no fields, and the places stand
   opens-refused : (r .number ≡ 0 → ⊥) → Opens s lent (record { refusal = r; layout = noFields s }) lent
   opens-refused some = (
     ap (λ l. record { refusal = r; layout = l }) (sym (stood (r .number) (layoutRead s) (noFields s) some)) ∙ opens .0,
-    sym (stood (r .number) (put (firstNetFrom s) lent) lent some) ∙ opens .1,
+    sym (stood (r .number) (putNet (firstNetFrom s) lent) lent some) ∙ opens .1,
   )
 
   -- another one has those that the reader found, and its first net is in the places
-  opens-taken : r .number ≡ 0 → Opens s lent (record { refusal = r; layout = layoutRead s }) (put (firstNetFrom s) lent)
+  opens-taken : r .number ≡ 0 → Opens s lent (record { refusal = r; layout = layoutRead s }) (putNet (firstNetFrom s) lent)
   opens-taken none = (
     ap (λ k. record { refusal = r; layout = unlessRefused k (layoutRead s) (noFields s) }) (sym none) ∙ opens .0,
-    ap (λ k. unlessRefused k (put (firstNetFrom s) lent) lent) (sym none) ∙ opens .1,
+    ap (λ k. unlessRefused k (putNet (firstNetFrom s) lent) lent) (sym none) ∙ opens .1,
   )
 
 -- with places enough the refusal is the record's own
-refusal-wide : (s : List ℕ) (lent : List ℤ) → wide lent ≡ true → refusalOver s lent ≡ refusalIn s
+refusal-wide : (s : List ℕ) (lent : List ℤ) → enoughPlaces lent ≡ true → refusalOver s lent ≡ refusalIn s
 refusal-wide s lent enough = ap (λ b. cond b (refusalIn s) (record { number = 11; offset = 0 })) enough
 
-pub opened-wide : (s : List ℕ) (lent : List ℤ) → wide lent ≡ true → openedIn s lent ≡ openedWith (refusalIn s) s
+pub opened-wide : (s : List ℕ) (lent : List ℤ) → enoughPlaces lent ≡ true → openedIn s lent ≡ openedWith (refusalIn s) s
 unfolding openedIn
 opened-wide s lent enough = ap (λ r. openedWith r s) (refusal-wide s lent enough)
 
 -- too few
-pub opens-short : (s : List ℕ) (lent : List ℤ) → wide lent ≡ false → Opens s lent (record { refusal = record { number = 11; offset = 0 }; layout = noFields s }) lent
+pub opens-short : (s : List ℕ) (lent : List ℤ) → enoughPlaces lent ≡ false → Opens s lent (record { refusal = record { number = 11; offset = 0 }; layout = noFields s }) lent
 opens-short s lent short =
     opens-refused s lent (record { number = 11; offset = 0 }) (ap (λ b. cond b (refusalIn s) (record { number = 11; offset = 0 })) short) (λ z. let e : _≡_ {A = ℕ} 11 0 = z in omega arith)
 
@@ -114,17 +114,17 @@ caused-some (Caused.absentTag b h) z = omega arith
 caused-some (Caused.wrongLength b h) z = omega arith
 caused-some (Caused.wrongValue b h k f) z = omega arith
 
-pub reading-refused : (s : List ℕ) (lent : List ℤ) → wide lent ≡ true → (r : Refusal) → readingOf s ≡ Refused r
+pub reading-refused : (s : List ℕ) (lent : List ℤ) → enoughPlaces lent ≡ true → (r : Refusal) → readingOf s ≡ Refused r
     → Opens s lent (record { refusal = r; layout = noFields s }) lent
 unfolding refusalIn
 reading-refused s lent enough r e = opens-refused s lent r (refusal-wide s lent enough ∙ ap (λ x. refusalBy x s) e) (caused-some (refused-caused s r e))
 
 -- ---- an accepted reading
 
-module _ (s : List ℕ) (l : Layout) (e : readingOf s ≡ Accepted l) where
+module _ (s : List ℕ) (l : Layout) (e : readingOf s ≡ Fields l) where
   layout-is : layoutRead s ≡ l
   unfolding layoutRead
-  layout-is = ap (λ r. layoutBy r s) e
+  layout-is = ap (λ r. readingLayout r s) e
 
   polynomials-are : polynomialsIn s ≡ polynomialsAt l s
   unfolding polynomialsIn
@@ -158,7 +158,7 @@ module _ (s : List ℕ) (l : Layout) (e : readingOf s ≡ Accepted l) where
       ∙ (λ i. sound .degrees i && (sound .frameGood i && (sound .coefficientsGood i && true))))
 
   -- the first net as it was made
-  module _ (lent left : List ℤ) (enough : wide lent ≡ true) (number : ℕ) (made : FirstMade l s lent number left) where
+  module _ (lent left : List ℤ) (enough : enoughPlaces lent ≡ true) (number : ℕ) (made : FirstMade l s lent number left) where
     refusal-made : refusalOver s lent ≡ refusalAt number (l .coefficients .field)
     refusal-made =
         refusal-wide s lent enough
@@ -175,8 +175,8 @@ module _ (s : List ℕ) (l : Layout) (e : readingOf s ≡ Accepted l) where
         let opens = opens-taken s lent (refusalAt number (l .coefficients .field)) refusal-made (refusal-number number (l .coefficients .field) ∙ none) in (
           ap (λ x. record { refusal = refusalAt number (l .coefficients .field); layout = x }) (sym layout-is) ∙ opens .0,
           made .places
-              ∙ ap (λ k. unlessRefused k (put (firstNet (polynomialsAt l s) (numbersAt l s)) lent) lent) none
-              ∙ sym (ap₂ (λ f ns. put (firstNet f ns) lent) polynomials-are numbers-are)
+              ∙ ap (λ k. unlessRefused k (putNet (firstNet (polynomialsAt l s) (numbersAt l s)) lent) lent) none
+              ∙ sym (ap₂ (λ f ns. putNet (firstNet f ns) lent) polynomials-are numbers-are)
               ∙ opens .1,
         )
 
@@ -188,13 +188,13 @@ unfolding refusalIn
 accepted-numbers s none = by (readingOf s) refl
   where
     by : (r : Reading) → readingOf s ≡ r → firstRefusal (polynomialsIn s) (numbersIn s) ≡ 0
-    by (Accepted l) e = sym (ap (λ r. r .number) (refusal-is s l e) ∙ refusal-number _ (l .coefficients .field)) ∙ none
+    by (Fields l) e = sym (ap (λ r. r .number) (refusal-is s l e) ∙ refusal-number _ (l .coefficients .field)) ∙ none
     by (Refused r) e = absurd (caused-some (refused-caused s r e) (sym (ap (λ x. refusalBy x s .number) e) ∙ none))
 
 -- one that is opened has places enough, and is not refused
-pub opened-none : (s : List ℕ) (lent : List ℤ) → openedIn s lent .refusal .number ≡ 0 → (wide lent ≡ true) × (refusalIn s .number ≡ 0)
+pub opened-none : (s : List ℕ) (lent : List ℤ) → openedIn s lent .refusal .number ≡ 0 → (enoughPlaces lent ≡ true) × (refusalIn s .number ≡ 0)
 unfolding openedIn
-opened-none s lent none = by (wide lent) none
+opened-none s lent none = by (enoughPlaces lent) none
   where
     by : (b : Bool) → cond b (refusalIn s) (record { number = 11; offset = 0 }) .number ≡ 0 → (b ≡ true) × (refusalIn s .number ≡ 0)
     by true h = (refl, h)
@@ -203,19 +203,19 @@ opened-none s lent none = by (wide lent) none
 -- ---- the fields of any bytes
 
 -- every value ends within the record
-layout-inside : (s : List ℕ) (slot : Slot) → Inside s (extentIn slot (layoutIn s))
-unfolding layoutIn layoutRead
+layout-inside : (s : List ℕ) (slot : Slot) → Inside s (extentIn slot (openedLayout s))
+unfolding openedLayout layoutRead
 layout-inside s slot = by (refusalIn s .number) (readingOf s) refl
   where
-    by : (k : ℕ) (r : Reading) → readingOf s ≡ r → Inside s (extentIn slot (unlessRefused k (layoutBy r s) (noFields s)))
-    by zero (Accepted l) e = accepted-sound s l e .within slot
+    by : (k : ℕ) (r : Reading) → readingOf s ≡ r → Inside s (extentIn slot (unlessRefused k (readingLayout r s) (noFields s)))
+    by zero (Fields l) e = accepted-sound s l e .within slot
     by zero (Refused r) e = none-inside s slot
     by (suc k) r e = none-inside s slot
 
 -- what is found in the layout of a record opened in places enough
-pub extent-found : (s : List ℕ) (lent : List ℤ) (tag : ℕ) {o : Opened} {e : Extent} → wide lent ≡ true → o ≡ openedIn s lent → e ≡ extentAmong slots s (o .layout) tag
+pub extent-found : (s : List ℕ) (lent : List ℤ) (tag : ℕ) {o : Opened} {e : Extent} → enoughPlaces lent ≡ true → o ≡ openedIn s lent → e ≡ extentAmong slots s (o .layout) tag
     → (e ≡ fieldExtent s tag) × Inside s e
-unfolding fieldExtent layoutIn
+unfolding fieldExtent openedLayout
 extent-found s lent tag {o} {e} enough opened found =
     let is : e ≡ fieldExtent s tag = found ∙ ap (λ x. extentAmong slots s (x .layout) tag) (opened ∙ opened-wide s lent enough) in
-    (is, subst (Inside s) (sym is) (found-inside s (layoutIn s) (layout-inside s) tag slots))
+    (is, subst (Inside s) (sym is) (found-inside s (openedLayout s) (layout-inside s) tag slots))

@@ -10,7 +10,7 @@ use Rattle.machine.specs.Demand3.{Guaranteed}
 use Rattle.machine.specs.declared.Call.{Call}
 use Rattle.records.specs.Reading.{readingOf}
 use Rattle.records.specs.declared.Layout.{Layout}
-use Rattle.records.specs.declared.Reading.the-variants.{Accepted}
+use Rattle.records.specs.declared.Reading.the-variants.{Fields}
 use Rattle.opening.specs.Opening.{polynomialsIn, numbersIn, firstNetFrom, refusalIn, refusalAt}
 
 abbrev pub Demand3FromBytes : Type 0
@@ -19,5 +19,5 @@ Demand3FromBytes = (s : List ℕ) → refusalIn s .number ≡ 0 → (calls : Lis
 -- 'first net out of range', both ways: of a record that the reader accepts nothing else is refused, and the offset is that of field 3.
 abbrev pub FirstNetRefused : Type 0
 FirstNetRefused =
-    (s : List ℕ) (l : Layout) → readingOf s ≡ Accepted l
+    (s : List ℕ) (l : Layout) → readingOf s ≡ Fields l
     → refusalIn s ≡ refusalAt (firstFailed (netInRange (firstNetFrom s) else 7 ∷ [])) (l .coefficients .field)

@@ -12,7 +12,7 @@ use Rattle.kinds.specs.Frames.{Frames, framesOf}
 use Rattle.machine.specs.Nets.{Net}
 use Rattle.machine.specs.Comparison.{Polynomials, groups}
 use Rattle.machine.specs.First.{firstNet, firstRefusal}
-use Rattle.machine.specs.Lent.{put, wide, unlessRefused}
+use Rattle.machine.specs.Lent.{putNet, enoughPlaces, unlessRefused}
 use Rattle.machine.specs.declared.Call.{Call}
 use Rattle.machine.specs.declared.Call.the-variants as call
 use Rattle.bytes.specs.Numbers.{frameNumbers}
@@ -23,18 +23,18 @@ use Rattle.records.specs.declared.Extent.{Extent}
 use Rattle.records.specs.declared.Layout.{Layout}
 use Rattle.records.specs.declared.Refusal.{Refusal}
 use Rattle.records.specs.declared.Reading.{Reading}
-use Rattle.records.specs.declared.Reading.the-variants.{Accepted, Refused}
+use Rattle.records.specs.declared.Reading.the-variants.{Fields, Refused}
 use Rattle.opening.specs.declared.Opened.{Opened}
 
 -- ---- what the fields say
 
 -- the layout that the reader finds, also where the first net will be refused; of a record that the reader refuses it finds none
-abbrev pub layoutBy : Reading → List ℕ → Layout
-layoutBy (Accepted l) s = l
-layoutBy (Refused r) s = noFields s
+abbrev pub readingLayout : Reading → List ℕ → Layout
+readingLayout (Fields l) s = l
+readingLayout (Refused r) s = noFields s
 
 unfoldable pub layoutRead : List ℕ → Layout
-layoutRead s = layoutBy (readingOf s) s
+layoutRead s = readingLayout (readingOf s) s
 
 -- the polynomials by a layout: the coefficients stand in the part of the record where field 3's value begins
 abbrev pub polynomialsAt : Layout → List ℕ → Polynomials
@@ -67,7 +67,7 @@ refusalAt (suc k) offset = record { number = suc k; offset = offset }
 -- the reader's own refusal comes first, then that of the first net, at the offset of field 3
 abbrev pub refusalBy : Reading → List ℕ → Refusal
 refusalBy (Refused r) s = r
-refusalBy (Accepted l) s = refusalAt (firstRefusal (polynomialsIn s) (numbersIn s)) (l .coefficients .field)
+refusalBy (Fields l) s = refusalAt (firstRefusal (polynomialsIn s) (numbersIn s)) (l .coefficients .field)
 
 unfoldable pub refusalIn : List ℕ → Refusal
 refusalIn s = refusalBy (readingOf s) s
@@ -80,13 +80,13 @@ abbrev pub openedWith : Refusal → List ℕ → Opened
 openedWith r s = record { refusal = r; layout = unlessRefused (r .number) (layoutRead s) (noFields s) }
 
 -- the layout of any bytes
-unfoldable pub layoutIn : List ℕ → Layout
-layoutIn s = openedWith (refusalIn s) s .layout
+unfoldable pub openedLayout : List ℕ → Layout
+openedLayout s = openedWith (refusalIn s) s .layout
 
 -- where the value of the field with a tag byte stands in any bytes: at the record's end where the record is refused, where it has no such field, and where the
 -- byte is no tag
 unfoldable pub fieldExtent : List ℕ → ℕ → Extent
-fieldExtent s tag = extentAmong slots s (layoutIn s) tag
+fieldExtent s tag = extentAmong slots s (openedLayout s) tag
 
 -- ---- moves and point
 
@@ -99,27 +99,27 @@ abbrev pub pointOf : List ℕ → List Call
 pointOf value = cond (eqb (length value) 0) [] (call.Point (weightsOf value) ∷ [])
 
 unfoldable pub movesIn : List ℕ → List Call
-movesIn s = movesOf (bytesOf (layoutIn s .moves) s)
+movesIn s = movesOf (bytesOf (openedLayout s .moves) s)
 
 unfoldable pub pointIn : List ℕ → List Call
-pointIn s = pointOf (bytesOf (layoutIn s .point) s)
+pointIn s = pointOf (bytesOf (openedLayout s .point) s)
 
 -- ---- all of it
 
 -- too few places for a net are 11, before the record is looked at
 abbrev pub refusalOver : List ℕ → List ℤ → Refusal
-refusalOver s lent = cond (wide lent) (refusalIn s) (record { number = 11; offset = 0 })
+refusalOver s lent = cond (enoughPlaces lent) (refusalIn s) (record { number = 11; offset = 0 })
 
 unfoldable pub openedIn : List ℕ → List ℤ → Opened
 openedIn s lent = openedWith (refusalOver s lent) s
 
 -- the first net put into the places where nothing is refused, and else what stood there
 unfoldable pub placesIn : List ℕ → List ℤ → List ℤ
-placesIn s lent = unlessRefused (openedIn s lent .refusal .number) (put (firstNetFrom s) lent) lent
+placesIn s lent = unlessRefused (openedIn s lent .refusal .number) (putNet (firstNetFrom s) lent) lent
 
 -- ---- what the making of a first net promises
 
 -- by a layout: the number answered, and what then stands in the lent places
 pub record FirstMade (l : Layout) (s : List ℕ) (lent : List ℤ) (answered : ℕ) (left : List ℤ) : Type 0 where
   pub number : answered ≡ firstRefusal (polynomialsAt l s) (numbersAt l s)
-  pub places : left ≡ unlessRefused answered (put (firstNet (polynomialsAt l s) (numbersAt l s)) lent) lent
+  pub places : left ≡ unlessRefused answered (putNet (firstNet (polynomialsAt l s) (numbersAt l s)) lent) lent

@@ -3,7 +3,7 @@
 ghost use mathlib.Core.Path.{_≡_};
 ghost use mathlib.Core.Bool.{true};
 ghost use Rattle.kinds.specs.Kinds.{known};
-ghost use Rattle.machine.specs.Lent.{wide};
+ghost use Rattle.machine.specs.Lent.{enoughPlaces};
 ghost use Rattle.bytes.specs.Parts.{Lies};
 ghost use Rattle.records.specs.Reading.{noFields, bytesOf, Inside};
 ghost use Rattle.opening.specs.Opening.{
@@ -41,7 +41,7 @@ pub struct Opened {
 // Makes the first net of a record with this layout, or tells the number of the refusal. The coefficient
 // reader gets the part of the record that begins with field 3's value.
 fn make_first(input: &[u8], layout: Layout, net: &mut [i64]) -> u8
-    requires { ⌜ (wide (now net) ≡ true) × (known (layout .kind) (layout .degree) (layout .second) ≡ true) ⌝ }
+    requires { ⌜ (enoughPlaces (now net) ≡ true) × (known (layout .kind) (layout .degree) (layout .second) ≡ true) ⌝ }
     ensures { λ k. ⌜ FirstMade layout (now (input .entry)) (now (net .entry)) k (now (net .exit)) ⌝ }
 {
     let kind = layout.kind;
@@ -95,7 +95,7 @@ pub fn open(input: &[u8], net: &mut [i64]) -> Opened
     }
     match read(input) {
         Reading::Refused(refusal) => refuse(input, refusal),
-        Reading::Accepted(layout) => {
+        Reading::Fields(layout) => {
             let number = make_first(input, layout, net);
             let refusal = refusal_at(number, layout.coefficients.field);
             if number != 0 {

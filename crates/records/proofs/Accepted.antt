@@ -18,17 +18,17 @@ use Rattle.bytes.specs.Numbers.{frameNumbers, coefficientsOf}
 use Rattle.bytes.proofs.Numbers.{coefficients-of-value}
 use Rattle.records.specs.Table.{tagOf, tagsIn, required, headGroups, headLength, headAllowed, frameLength, coefficientCount, coefficientsLength, pointLength, movesLengthAllowed, polynomialsOf, fieldRow}
 use Rattle.machine.specs.Refusals.{_else_, firstFailed, numbered}
-use Rattle.records.specs.Reading.{left, lengthAt, bytesAt, headOf, tagAmong, isTag, standing, missingNumber, endExtent, extentAt, extentIn, extentAmong, noFields, bytesOf, Inside, stay, readStanding, readSlot, readEnd, layoutWith, concluded, readingOf}
+use Rattle.records.specs.Reading.{bytesLeft, lengthAt, bytesAt, headOf, tagAmong, isTag, standing, missingNumber, endExtent, extentAt, extentIn, extentAmong, noFields, bytesOf, Inside, stay, readStanding, readSlot, readEnd, layoutOfExtents, concluded, readingOf}
 use Rattle.records.specs.Causes.{Sound}
 use Rattle.records.specs.declared.Extent.{Extent}
 use Rattle.records.specs.declared.Layout.{Layout}
 use Rattle.records.specs.declared.Slot.{Slot}
-use Rattle.records.specs.declared.Slot.the-variants.{First, Second, Third, Fourth, Fifth}
+use Rattle.records.specs.declared.Slot.the-variants.{KindSlot, FrameSlot, CoefficientsSlot, MovesSlot, PointSlot}
 use Rattle.records.specs.declared.Tag.{Tag}
 use Rattle.records.specs.declared.Tag.the-variants.{Kind, Coefficients}
 use Rattle.records.specs.declared.Standing.the-variants.{Field, Nothing}
 use Rattle.records.specs.declared.Progress.{Progress}
-use Rattle.records.specs.declared.Reading.the-variants.{Accepted, Refused}
+use Rattle.records.specs.declared.Reading.the-variants.{Fields, Refused}
 use Rattle.records.proofs.Slots.{long-enough, stands-there, field-passes, missing-refused, Stepped, stepped, all-steps}
 use Rattle.records.proofs.Slots.Stepped.{took, fell, lacked, skipped}
 
@@ -122,30 +122,30 @@ coefficients-in {s} {e} h =
 
 module _ (s : List ℕ) where
   abbrev step1 : Progress
-  step1 = readSlot First (headOf s) s (stay 0 s 0)
+  step1 = readSlot KindSlot (headOf s) s (stay 0 s 0)
 
   abbrev step2 : Progress
-  step2 = readSlot Second (headOf s) s step1
+  step2 = readSlot FrameSlot (headOf s) s step1
 
   abbrev step3 : Progress
-  step3 = readSlot Third (headOf s) s step2
+  step3 = readSlot CoefficientsSlot (headOf s) s step2
 
   abbrev step4 : Progress
-  step4 = readSlot Fourth (headOf s) s step3
+  step4 = readSlot MovesSlot (headOf s) s step3
 
   abbrev step5 : Progress
-  step5 = readSlot Fifth (headOf s) s step4
+  step5 = readSlot PointSlot (headOf s) s step4
 
   abbrev layout : Layout
-  layout = layoutWith s (step1 .extent ∷ step2 .extent ∷ step3 .extent ∷ step4 .extent ∷ step5 .extent ∷ [])
+  layout = layoutOfExtents s (step1 .extent ∷ step2 .extent ∷ step3 .extent ∷ step4 .extent ∷ step5 .extent ∷ [])
 
   whole-layout : step5 .number ≡ 0 → Sound s layout
   whole-layout z =
-      let five = back Fifth s step4 z in
-      let four = back Fourth s step3 (five .0) in
-      let three = back Third s step2 (four .0) in
-      let two = back Second s step1 (three .0) in
-      let one = back First s (stay 0 s 0) (two .0) in
+      let five = back PointSlot s step4 z in
+      let four = back MovesSlot s step3 (five .0) in
+      let three = back CoefficientsSlot s step2 (four .0) in
+      let two = back FrameSlot s step1 (three .0) in
+      let one = back KindSlot s (stay 0 s 0) (two .0) in
       let first = must refl (one .1) in
       let head = head-right (first .0) (first .1) in
       let frame = must refl (two .1) .1 in
@@ -163,33 +163,33 @@ module _ (s : List ℕ) where
         within = within-all layout (inside (one .1)) (inside (two .1)) (inside (three .1)) (inside (four .1)) (inside (five .1));
       }
     where
-      moves : {at : ℕ} {e : Extent} → Went Fourth s at e → movesLengthAllowed (e .length) ≡ true
-      moves {at} (filled h f t) = own Fourth s at h t .long
+      moves : {at : ℕ} {e : Extent} → Went MovesSlot s at e → movesLengthAllowed (e .length) ≡ true
+      moves {at} (filled h f t) = own MovesSlot s at h t .long
       moves (empty r h) = ap (λ (e : Extent). movesLengthAllowed (e .length)) h
 
-      point : {at : ℕ} {e : Extent} → Went Fifth s at e → (e .length ≡ 0) ⊎ (e .length ≡ pointLength (headGroups (headOf s)))
-      point {at} {e} (filled h f t) = inr (eqb-true (e .length) (pointLength (headGroups (headOf s))) (own Fifth s at h t .long))
+      point : {at : ℕ} {e : Extent} → Went PointSlot s at e → (e .length ≡ 0) ⊎ (e .length ≡ pointLength (headGroups (headOf s)))
+      point {at} {e} (filled h f t) = inr (eqb-true (e .length) (pointLength (headGroups (headOf s))) (own PointSlot s at h t .long))
       point (empty r h) = inl (ap (λ (e : Extent). e .length) h)
 
       within-all : (l : Layout) → Inside s (l .head) → Inside s (l .frame) → Inside s (l .coefficients) → Inside s (l .moves) → Inside s (l .point)
           → (slot : Slot) → Inside s (extentIn slot l)
-      within-all l a b c d e First = a
-      within-all l a b c d e Second = b
-      within-all l a b c d e Third = c
-      within-all l a b c d e Fourth = d
-      within-all l a b c d e Fifth = e
+      within-all l a b c d e KindSlot = a
+      within-all l a b c d e FrameSlot = b
+      within-all l a b c d e CoefficientsSlot = c
+      within-all l a b c d e MovesSlot = d
+      within-all l a b c d e PointSlot = e
 
   -- the end is not refused, nor then is the last slot
   at-end : readEnd s step5 .number ≡ 0 → step5 .number ≡ 0
   unfolding readEnd
-  at-end z = not-stopped step5 (stay (missingNumber (ltb 0 (left s (step5 .at))) s (step5 .at)) s (step5 .at)) z
+  at-end z = not-stopped step5 (stay (missingNumber (ltb 0 (bytesLeft s (step5 .at))) s (step5 .at)) s (step5 .at)) z
 
-  pub accepted-sound : (l : Layout) → readingOf s ≡ Accepted l → Sound s l
+  pub accepted-sound : (l : Layout) → readingOf s ≡ Fields l → Sound s l
   unfolding concluded
   accepted-sound l e = by (eqb (readEnd s step5 .number) 0) refl (sym (all-steps s refl refl refl refl refl refl refl) ∙ e)
     where
       by : (b : Bool) → eqb (readEnd s step5 .number) 0 ≡ b
-          → cond b (Accepted layout) (Refused (record { number = readEnd s step5 .number; offset = readEnd s step5 .at })) ≡ Accepted l → Sound s l
+          → cond b (Fields layout) (Refused (record { number = readEnd s step5 .number; offset = readEnd s step5 .at })) ≡ Fields l → Sound s l
       by true z k = subst (Sound s) (cc) (whole-layout (at-end (eqb-true (readEnd s step5 .number) 0 z)))
       by false z k = let z : _≡_ {A = ℕ} 0 1 = cc in absurd (omega arith)
 
@@ -207,8 +207,8 @@ module _ (s : List ℕ) (l : Layout) (all-inside : (slot : Slot) → Inside s (e
 
 -- so has the layout of no fields
 pub none-inside : (s : List ℕ) (slot : Slot) → Inside s (extentIn slot (noFields s))
-none-inside s First = omega arith
-none-inside s Second = omega arith
-none-inside s Third = omega arith
-none-inside s Fourth = omega arith
-none-inside s Fifth = omega arith
+none-inside s KindSlot = omega arith
+none-inside s FrameSlot = omega arith
+none-inside s CoefficientsSlot = omega arith
+none-inside s MovesSlot = omega arith
+none-inside s PointSlot = omega arith

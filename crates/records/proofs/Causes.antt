@@ -12,21 +12,21 @@ use lib.Dec.{eqb, ltb}
 use Rattle.records.specs.Table.{slots, tagsIn, required, fieldRow}
 use Rattle.integers.proofs.All.{clash}
 use Rattle.machine.specs.Refusals.{firstFailed}
-use Rattle.records.specs.Reading.{left, lengthAt, bytesAt, headOf, fieldNumber, tagAmong, isTag, standing, missingNumber, endExtent, extentAt, stay, readSlot, readEnd, concluded, onward, readingOf, readingNumber, readingValues}
-use Rattle.records.specs.Causes.{Begins, Comes, mayCome, anyRequired, Caused, Verdict}
+use Rattle.records.specs.Reading.{bytesLeft, lengthAt, bytesAt, headOf, fieldNumber, tagAmong, isTag, standing, missingNumber, endExtent, extentAt, stay, readSlot, readEnd, concluded, onward, readingOf, readingNumber, readingValues}
+use Rattle.records.specs.Causes.{Begins, Comes, mayCome, anyRequired, Caused, TableVerdict}
 use Rattle.records.specs.Causes.Begins.{first, after, without}
 use Rattle.records.specs.Causes.Comes.{comes}
 use Rattle.records.specs.Causes.Caused.{cutField, cutValue, wrongTag, absentTag, wrongLength, wrongValue}
 use Rattle.records.specs.declared.Extent.{Extent}
 use Rattle.records.specs.declared.Slot.{Slot}
-use Rattle.records.specs.declared.Slot.the-variants.{First, Second, Third, Fourth, Fifth}
+use Rattle.records.specs.declared.Slot.the-variants.{KindSlot, FrameSlot, CoefficientsSlot, MovesSlot, PointSlot}
 use Rattle.records.specs.declared.Tag.{Tag}
 use Rattle.records.specs.declared.Standing.{Standing}
 use Rattle.records.specs.declared.Standing.the-variants.{Field, Nothing}
 use Rattle.records.specs.declared.Refusal.{Refusal}
 use Rattle.records.specs.declared.Progress.{Progress}
 use Rattle.records.specs.declared.Reading.{Reading}
-use Rattle.records.specs.declared.Reading.the-variants.{Accepted, Refused}
+use Rattle.records.specs.declared.Reading.the-variants.{Fields, Refused}
 use Rattle.records.proofs.Slots.{too-short, long-enough, stands-there, wrong-length, cut-short, by-value, Judged, judged, field-passes, goes-past, stops, at-end, one-or-two, other-tag, missing-refused, passed-on, Stepped, takes, misses, stepped}
 use Rattle.records.proofs.Slots.Stepped.{took, fell, lacked, skipped}
 
@@ -96,19 +96,19 @@ not-tag Nothing e = refl
 module _ (s : List ℕ) (at byte : ℕ) (none : (slot : Slot) → isTag (tagAmong (tagsIn slot) byte) ≡ false → standing slot s at ≡ Nothing) where
   abbrev Stuck : List Slot → Type 0
   Stuck rest =
-      (e : Extent) (es : List Extent) → mayCome rest byte ≡ false → (0 < left s at) ⊎ (anyRequired rest ≡ true)
+      (e : Extent) (es : List Extent) → mayCome rest byte ≡ false → (0 < bytesLeft s at) ⊎ (anyRequired rest ≡ true)
       → onward rest s (go at e) es ≡ Refused (record { number = missingNumber true s at; offset = at })
 
   stuck : (rest : List Slot) → Stuck rest
   unfolding readEnd
-  stuck [] e es m (inl h) = ap (λ t. concluded s (stay (missingNumber t s at) s at) es) (lt-ltb 0 (left s at) h) ∙ refuses s (stay (missingNumber true s at) s at) es (missing-refused s at)
+  stuck [] e es m (inl h) = ap (λ t. concluded s (stay (missingNumber t s at) s at) es) (lt-ltb 0 (bytesLeft s at) h) ∙ refuses s (stay (missingNumber true s at) s at) es (missing-refused s at)
   stuck [] e es m (inr h) = absurd (clash h refl)
   stuck (slot ∷ rest) e es m c = by-case (required slot) refl (stuck rest)
     where
       parts : (isTag (tagAmong (tagsIn slot) byte) ≡ false) × ((not (required slot) && mayCome rest byte) ≡ false)
       parts = or-false (isTag (tagAmong (tagsIn slot) byte)) (not (required slot) && mayCome rest byte) m
 
-      still : required slot ≡ false → (0 < left s at) ⊎ (anyRequired (slot ∷ rest) ≡ true) → (0 < left s at) ⊎ (anyRequired rest ≡ true)
+      still : required slot ≡ false → (0 < bytesLeft s at) ⊎ (anyRequired (slot ∷ rest) ≡ true) → (0 < bytesLeft s at) ⊎ (anyRequired rest ≡ true)
       still q (inl h) = inl h
       still q (inr h) = inr (sym (ap (λ (b : Bool). b || anyRequired rest) q) ∙ h)
 
@@ -122,14 +122,14 @@ module _ (s : List ℕ) (at byte : ℕ) (none : (slot : Slot) → isTag (tagAmon
 -- no tag is 0
 zero-comes-not : (rest : List Slot) → mayCome rest 0 ≡ false
 zero-comes-not [] = refl
-zero-comes-not (First ∷ rest) = refl
-zero-comes-not (Second ∷ rest) = refl
-zero-comes-not (Third ∷ rest) = refl
-zero-comes-not (Fourth ∷ rest) = zero-comes-not rest
-zero-comes-not (Fifth ∷ rest) = zero-comes-not rest
+zero-comes-not (KindSlot ∷ rest) = refl
+zero-comes-not (FrameSlot ∷ rest) = refl
+zero-comes-not (CoefficientsSlot ∷ rest) = refl
+zero-comes-not (MovesSlot ∷ rest) = zero-comes-not rest
+zero-comes-not (PointSlot ∷ rest) = zero-comes-not rest
 
 -- fewer than three bytes are left, so that no field stands here
-stuck-short : {s : List ℕ} {rest : List Slot} {at : ℕ} → Begins s rest at → left s at < 3 → (0 < left s at) ⊎ (anyRequired rest ≡ true)
+stuck-short : {s : List ℕ} {rest : List Slot} {at : ℕ} → Begins s rest at → bytesLeft s at < 3 → (0 < bytesLeft s at) ⊎ (anyRequired rest ≡ true)
     → readingOf s ≡ Refused (record { number = missingNumber true s at; offset = at })
 stuck-short {s} {rest} {at} b short c =
     let f = from-here b in f .is ∙ stuck s at 0 (λ slot e. too-short slot s at short) rest (f .last) (f .extents) (zero-comes-not rest) c
@@ -156,7 +156,7 @@ caused-refused {s} (wrongTag {rest = rest} {at = at} b h m) =
     ∙ stuck s at (getD s at 0) (λ slot k. long-enough slot s at h ∙ not-tag (tagAmong (tagsIn slot) (getD s at 0)) k) rest (f .last) (f .extents) m (inl (omega arith))
     ∙ ap (as-refused at) (other-tag s at h)
 caused-refused {s} (absentTag b e) =
-    let none : left s (length s) ≡ 0 = omega arith in
+    let none : bytesLeft s (length s) ≡ 0 = omega arith in
     stuck-short b (omega arith) (inr e) ∙ ap (as-refused (length s)) (at-end s (length s) none)
 caused-refused {s} (wrongLength {tag = tag} {at = at} c e) = halted c (wrong-length tag (headOf s) s at e)
 caused-refused {s} (wrongValue {tag = tag} {at = at} c e k v) = halted c (by-value tag (headOf s) s at e k ∙ v)
@@ -165,23 +165,23 @@ caused-refused {s} (wrongValue {tag = tag} {at = at} c e k v) = halted c (by-val
 
 -- by what is left where no tag that may come stands
 module _ {s : List ℕ} {rest : List Slot} {at : ℕ} (b : Begins s rest at) where
-  missing-caused : (3 ≤ left s at → mayCome rest (getD s at 0) ≡ false) → (left s at ≡ 0 → anyRequired rest ≡ true) → Caused s (missingNumber true s at) at
-  missing-caused tag end = by-end (eqb (left s at) 0) refl
+  missing-caused : (3 ≤ bytesLeft s at → mayCome rest (getD s at 0) ≡ false) → (bytesLeft s at ≡ 0 → anyRequired rest ≡ true) → Caused s (missingNumber true s at) at
+  missing-caused tag end = by-end (eqb (bytesLeft s at) 0) refl
     where
       with-number : {n : ℕ} → missingNumber true s at ≡ n → Caused s n at → Caused s (missingNumber true s at) at
       with-number e c = subst (λ n. Caused s n at) (sym e) c
 
-      by-three : (t : Bool) → ltb (left s at) 3 ≡ t → 0 < left s at → Caused s (missingNumber true s at) at
-      by-three true k h = let short = ltb-true (left s at) 3 k in with-number (one-or-two s at h short) (cutField b h short)
-      by-three false k h = let long = ltb-false (left s at) 3 k in with-number (other-tag s at long) (wrongTag b long (tag long))
+      by-three : (t : Bool) → ltb (bytesLeft s at) 3 ≡ t → 0 < bytesLeft s at → Caused s (missingNumber true s at) at
+      by-three true k h = let short = ltb-true (bytesLeft s at) 3 k in with-number (one-or-two s at h short) (cutField b h short)
+      by-three false k h = let long = ltb-false (bytesLeft s at) 3 k in with-number (other-tag s at long) (wrongTag b long (tag long))
 
-      by-end : (t : Bool) → eqb (left s at) 0 ≡ t → Caused s (missingNumber true s at) at
+      by-end : (t : Bool) → eqb (bytesLeft s at) 0 ≡ t → Caused s (missingNumber true s at) at
       by-end true k =
-          let none = eqb-true (left s at) 0 k in
+          let none = eqb-true (bytesLeft s at) 0 k in
           let inside = reached b in
           let last : length s ≡ at = omega arith in
           with-number (at-end s at none) (subst (Caused s 2) last (absentTag (subst (Begins s rest) (sym last) b) (end none)))
-      by-end false k = let some = eqb-false (left s at) 0 k in by-three (ltb (left s at) 3) refl (omega arith)
+      by-end false k = let some = eqb-false (bytesLeft s at) 0 k in by-three (ltb (bytesLeft s at) 3) refl (omega arith)
 
 -- by the first test that a field fails
 module _ {s : List ℕ} {tag : Tag} {at : ℕ} (c : Comes s tag at) where
@@ -202,18 +202,18 @@ module _ {s : List ℕ} {tag : Tag} {at : ℕ} (c : Comes s tag at) where
 
 -- what a reading tells: an accepted record is readSlot to its end, and a refused one has a cause
 abbrev Outcome : List ℕ → Reading → Type 0
-Outcome s (Accepted l) = Verdict s 0 (l .kind ∷ l .degree ∷ l .second ∷ [])
+Outcome s (Fields l) = TableVerdict s 0 (l .kind ∷ l .degree ∷ l .second ∷ [])
 Outcome s (Refused r) = Caused s (r .number) (r .offset)
 
 at-rest : {s : List ℕ} {at : ℕ} (e : Extent) (es : List Extent) → Begins s [] at → Outcome s (onward [] s (go at e) es)
 unfolding readEnd concluded
-at-rest {s} {at} e es b = by-case (ltb 0 (left s at)) refl
+at-rest {s} {at} e es b = by-case (ltb 0 (bytesLeft s at)) refl
   where
-    by-case : (t : Bool) → ltb 0 (left s at) ≡ t → Outcome s (concluded s (stay (missingNumber t s at) s at) es)
+    by-case : (t : Bool) → ltb 0 (bytesLeft s at) ≡ t → Outcome s (concluded s (stay (missingNumber t s at) s at) es)
     by-case true k =
-        let some = ltb-true 0 (left s at) k in
+        let some = ltb-true 0 (bytesLeft s at) k in
         subst (Outcome s) (sym (refuses s (stay (missingNumber true s at) s at) es (missing-refused s at))) (missing-caused b (λ h. refl) (λ z. absurd (omega arith)))
-    by-case false k = let none = ltb-false 0 (left s at) k in let inside = reached b in Verdict.accepted (subst (Begins s []) (omega arith) b)
+    by-case false k = let none = ltb-false 0 (bytesLeft s at) k in let inside = reached b in TableVerdict.accepted (subst (Begins s []) (omega arith) b)
 
 outcome : {s : List ℕ} (rest : List Slot) (at : ℕ) (e : Extent) (es : List Extent) → Begins s rest at → Outcome s (onward rest s (go at e) es)
 outcome [] at e es b = at-rest e es b
@@ -243,12 +243,12 @@ pub refused-caused : (s : List ℕ) (r : Refusal) → readingOf s ≡ Refused r 
 refused-caused s r e = subst (Outcome s) e (outcome-of s)
 
 -- So number and values of every reading are what the table tells of the bytes.
-pub table-verdict : (s : List ℕ) → Verdict s (readingNumber (readingOf s)) (readingValues (readingOf s))
+pub table-verdict : (s : List ℕ) → TableVerdict s (readingNumber (readingOf s)) (readingValues (readingOf s))
 table-verdict s = by-case (readingOf s) (outcome-of s)
   where
-    by-case : (r : Reading) → Outcome s r → Verdict s (readingNumber r) (readingValues r)
-    by-case (Accepted l) o = o
-    by-case (Refused r) o = Verdict.refused o
+    by-case : (r : Reading) → Outcome s r → TableVerdict s (readingNumber r) (readingValues r)
+    by-case (Fields l) o = o
+    by-case (Refused r) o = TableVerdict.refused o
 
 -- a record of no bytes lacks tag 1, at its end, which is its beginning
 pub empty-record : readingOf [] ≡ Refused (record { number = 2; offset = 0 })

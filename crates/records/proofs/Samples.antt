@@ -11,7 +11,7 @@ use Rattle.polar.specs.Groups.{monomialsOver}
 use Rattle.kinds.specs.Frames.{frameOf, frameAllowed, framesAllowed}
 use Rattle.bytes.specs.Numbers.{frameNumbers, coefficientsOf}
 use Rattle.records.specs.Reading.{readingOf, readingNumber, readingValues}
-use Rattle.records.specs.declared.Reading.the-variants.{Accepted}
+use Rattle.records.specs.declared.Reading.the-variants.{Fields}
 
 -- ---- fields of the circle record
 
@@ -38,7 +38,7 @@ circle = kind ++ frame ++ coefficients ++ point
 
 pub circle-read :
     readingOf circle
-    ≡ Accepted
+    ≡ Fields
     (record {
       kind = 1;
       degree = 2;
@@ -75,7 +75,7 @@ rectangle = kinds ++ pairs ++ products ++ points
 
 pub rectangle-read :
     readingOf rectangle
-    ≡ Accepted
+    ≡ Fields
     (record {
       kind = 3;
       degree = 1;

@@ -11,10 +11,10 @@ use lib.Dec.{eqb, leb}
 use Rattle.records.specs.Table.{tagsIn, required, fieldRow}
 use Rattle.integers.proofs.All.{clash}
 use Rattle.machine.specs.Refusals.{_else_, firstFailed}
-use Rattle.records.specs.Reading.{left, lengthAt, bytesAt, headOf, fieldNumber, tagAmong, isTag, standing, missingNumber, past, stay, readStanding, readSlot, readEnd, concluded, readingOf}
+use Rattle.records.specs.Reading.{bytesLeft, lengthAt, bytesAt, headOf, fieldNumber, tagAmong, isTag, standing, missingNumber, past, stay, readStanding, readSlot, readEnd, concluded, readingOf}
 use Rattle.records.specs.declared.Head.{Head}
 use Rattle.records.specs.declared.Slot.{Slot}
-use Rattle.records.specs.declared.Slot.the-variants.{First, Second, Third, Fourth, Fifth}
+use Rattle.records.specs.declared.Slot.the-variants.{KindSlot, FrameSlot, CoefficientsSlot, MovesSlot, PointSlot}
 use Rattle.records.specs.declared.Tag.{Tag}
 use Rattle.records.specs.declared.Standing.{Standing}
 use Rattle.records.specs.declared.Standing.the-variants.{Field, Nothing}
@@ -23,21 +23,21 @@ use Rattle.records.specs.declared.Progress.{Progress}
 -- ---- what stands in a slot
 
 module _ (slot : Slot) (s : List ℕ) (at : ℕ) where
-  pub too-short : left s at < 3 → standing slot s at ≡ Nothing
+  pub too-short : bytesLeft s at < 3 → standing slot s at ≡ Nothing
   unfolding standing
-  too-short h = rw (lt-leb 3 (left s at) h) refl
+  too-short h = rw (lt-leb 3 (bytesLeft s at) h) refl
 
-  pub long-enough : 3 ≤ left s at → standing slot s at ≡ tagAmong (tagsIn slot) (getD s at 0)
+  pub long-enough : 3 ≤ bytesLeft s at → standing slot s at ≡ tagAmong (tagsIn slot) (getD s at 0)
   unfolding standing
-  long-enough h = rw (le-leb 3 (left s at) h) refl
+  long-enough h = rw (le-leb 3 (bytesLeft s at) h) refl
 
   -- three bytes are left where a field stands
-  pub stands-there : {tag : Tag} → standing slot s at ≡ Field tag → 3 ≤ left s at
+  pub stands-there : {tag : Tag} → standing slot s at ≡ Field tag → 3 ≤ bytesLeft s at
   unfolding standing
-  stands-there {tag} e = by-case (leb 3 (left s at)) refl e
+  stands-there {tag} e = by-case (leb 3 (bytesLeft s at)) refl e
     where
-      by-case : (t : Bool) → leb 3 (left s at) ≡ t → cond t (tagAmong (tagsIn slot) (getD s at 0)) Nothing ≡ Field tag → 3 ≤ left s at
-      by-case true h k = leb-true 3 (left s at) h
+      by-case : (t : Bool) → leb 3 (bytesLeft s at) ≡ t → cond t (tagAmong (tagsIn slot) (getD s at 0)) Nothing ≡ Field tag → 3 ≤ bytesLeft s at
+      by-case true h k = leb-true 3 (bytesLeft s at) h
       by-case false h k = absurd (clash (ap isTag k) refl)
 
 -- ---- the tests of a field whose tag is right
@@ -47,35 +47,35 @@ module _ (tag : Tag) (h : Head) (s : List ℕ) (at : ℕ) where
   unfolding fieldNumber
   wrong-length e = rw e refl
 
-  pub cut-short : fieldRow tag .lengthAllowed h (lengthAt s at) ≡ true → left s (at + 3) < lengthAt s at → fieldNumber tag h s at ≡ 1
+  pub cut-short : fieldRow tag .lengthAllowed h (lengthAt s at) ≡ true → bytesLeft s (at + 3) < lengthAt s at → fieldNumber tag h s at ≡ 1
   unfolding fieldNumber
-  cut-short e k = rw (e, lt-leb (lengthAt s at) (left s (at + 3)) k) refl
+  cut-short e k = rw (e, lt-leb (lengthAt s at) (bytesLeft s (at + 3)) k) refl
 
-  pub by-value : fieldRow tag .lengthAllowed h (lengthAt s at) ≡ true → lengthAt s at ≤ left s (at + 3) → fieldNumber tag h s at ≡ firstFailed (fieldRow tag .tests h (bytesAt s at))
+  pub by-value : fieldRow tag .lengthAllowed h (lengthAt s at) ≡ true → lengthAt s at ≤ bytesLeft s (at + 3) → fieldNumber tag h s at ≡ firstFailed (fieldRow tag .tests h (bytesAt s at))
   unfolding fieldNumber
-  by-value e k = rw (e, le-leb (lengthAt s at) (left s (at + 3)) k) refl
+  by-value e k = rw (e, le-leb (lengthAt s at) (bytesLeft s (at + 3)) k) refl
 
   -- the three ways of a field, by its tests
   pub data Judged : Type 0 where
     badLength : fieldRow tag .lengthAllowed h (lengthAt s at) ≡ false → Judged
-    badRoom : fieldRow tag .lengthAllowed h (lengthAt s at) ≡ true → left s (at + 3) < lengthAt s at → Judged
-    whole : fieldRow tag .lengthAllowed h (lengthAt s at) ≡ true → lengthAt s at ≤ left s (at + 3) → Judged
+    badRoom : fieldRow tag .lengthAllowed h (lengthAt s at) ≡ true → bytesLeft s (at + 3) < lengthAt s at → Judged
+    whole : fieldRow tag .lengthAllowed h (lengthAt s at) ≡ true → lengthAt s at ≤ bytesLeft s (at + 3) → Judged
 
   pub judged : Judged
   judged = by-length (fieldRow tag .lengthAllowed h (lengthAt s at)) refl
     where
-      by-room : (t : Bool) → leb (lengthAt s at) (left s (at + 3)) ≡ t → fieldRow tag .lengthAllowed h (lengthAt s at) ≡ true → Judged
-      by-room true k e = whole e (leb-true (lengthAt s at) (left s (at + 3)) k)
-      by-room false k e = badRoom e (leb-false (lengthAt s at) (left s (at + 3)) k)
+      by-room : (t : Bool) → leb (lengthAt s at) (bytesLeft s (at + 3)) ≡ t → fieldRow tag .lengthAllowed h (lengthAt s at) ≡ true → Judged
+      by-room true k e = whole e (leb-true (lengthAt s at) (bytesLeft s (at + 3)) k)
+      by-room false k e = badRoom e (leb-false (lengthAt s at) (bytesLeft s (at + 3)) k)
 
       by-length : (t : Bool) → fieldRow tag .lengthAllowed h (lengthAt s at) ≡ t → Judged
-      by-length true e = by-room (leb (lengthAt s at) (left s (at + 3))) refl e
+      by-length true e = by-room (leb (lengthAt s at) (bytesLeft s (at + 3))) refl e
       by-length false e = badLength e
 
   -- not refused: every test field-passes
   pub record Passes : Type 0 where
     pub long : fieldRow tag .lengthAllowed h (lengthAt s at) ≡ true
-    pub room : lengthAt s at ≤ left s (at + 3)
+    pub room : lengthAt s at ≤ bytesLeft s (at + 3)
     pub good : firstFailed (fieldRow tag .tests h (bytesAt s at)) ≡ 0
 
   pub field-passes : fieldNumber tag h s at ≡ 0 → Passes
@@ -99,18 +99,18 @@ module _ (tag : Tag) (h : Head) (s : List ℕ) (at : ℕ) where
 -- ---- no field that may come next, where one is due
 
 module _ (s : List ℕ) (at : ℕ) where
-  pub at-end : left s at ≡ 0 → missingNumber true s at ≡ 2
+  pub at-end : bytesLeft s at ≡ 0 → missingNumber true s at ≡ 2
   at-end h = rw h refl
 
-  pub one-or-two : 0 < left s at → left s at < 3 → missingNumber true s at ≡ 1
-  one-or-two h k = rw (ne-eqb (left s at) 0 (λ e. omega arith), lt-leb 3 (left s at) k) refl
+  pub one-or-two : 0 < bytesLeft s at → bytesLeft s at < 3 → missingNumber true s at ≡ 1
+  one-or-two h k = rw (ne-eqb (bytesLeft s at) 0 (λ e. omega arith), lt-leb 3 (bytesLeft s at) k) refl
 
-  pub other-tag : 3 ≤ left s at → missingNumber true s at ≡ 2
-  other-tag k = rw (ne-eqb (left s at) 0 (λ e. omega arith), le-leb 3 (left s at) k) refl
+  pub other-tag : 3 ≤ bytesLeft s at → missingNumber true s at ≡ 2
+  other-tag k = rw (ne-eqb (bytesLeft s at) 0 (λ e. omega arith), le-leb 3 (bytesLeft s at) k) refl
 
   -- its number is not 0
   pub missing-refused : missingNumber true s at ≡ 0 → ⊥
-  missing-refused e = by-case (eqb (left s at) 0 || leb 3 (left s at)) e
+  missing-refused e = by-case (eqb (bytesLeft s at) 0 || leb 3 (bytesLeft s at)) e
     where
       by-case : (t : Bool) → firstFailed (t else 1 ∷ false else 2 ∷ []) ≡ 0 → ⊥
       by-case true k = omega arith
@@ -166,8 +166,8 @@ module _ (slot : Slot) (s : List ℕ) (before : Progress) (e : before .number �
 
 -- ---- five slots and the end, step by step
 
-pub all-steps : (s : List ℕ) {h : Head} {a b c d e z : Progress} → h ≡ headOf s → a ≡ readSlot First h s (stay 0 s 0) → b ≡ readSlot Second h s a → c ≡ readSlot Third h s b
-    → d ≡ readSlot Fourth h s c → e ≡ readSlot Fifth h s d → z ≡ readEnd s e
+pub all-steps : (s : List ℕ) {h : Head} {a b c d e z : Progress} → h ≡ headOf s → a ≡ readSlot KindSlot h s (stay 0 s 0) → b ≡ readSlot FrameSlot h s a → c ≡ readSlot CoefficientsSlot h s b
+    → d ≡ readSlot MovesSlot h s c → e ≡ readSlot PointSlot h s d → z ≡ readEnd s e
     → readingOf s ≡ concluded s z (a .extent ∷ b .extent ∷ c .extent ∷ d .extent ∷ e .extent ∷ [])
 unfolding readingOf
 all-steps s hs ea eb ec ed ee ez = rw (ez, ee, ed, ec, eb, ea, hs) refl

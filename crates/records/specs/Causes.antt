@@ -13,7 +13,7 @@ use Rattle.kinds.specs.Frames.{framesAllowed}
 use Rattle.machine.specs.Refusals.{firstFailed}
 use Rattle.bytes.specs.Numbers.{frameNumbers}
 use Rattle.records.specs.Table.{slots, tagsIn, required, headLength, frameLength, coefficientsLength, pointLength, movesLengthAllowed, polynomialsOf, fieldRow}
-use Rattle.records.specs.Reading.{left, lengthAt, bytesAt, headOf, fieldNumber, tagAmong, isTag, standing, extentIn, bytesOf, Inside}
+use Rattle.records.specs.Reading.{bytesLeft, lengthAt, bytesAt, headOf, fieldNumber, tagAmong, isTag, standing, extentIn, bytesOf, Inside}
 use Rattle.records.specs.declared.Slot.{Slot}
 use Rattle.records.specs.declared.Tag.{Tag}
 use Rattle.records.specs.declared.Standing.the-variants.{Field, Nothing}
@@ -45,25 +45,25 @@ anyRequired (slot ∷ rest) = required slot || anyRequired rest
 -- the causes, each with its number and offset
 pub data Caused (s : List ℕ) : ℕ → ℕ → Type 0 where
   -- row 1: a field begins here, and its tag and length are not all there
-  cutField : {rest : List Slot} {at : ℕ} → Begins s rest at → 0 < left s at → left s at < 3 → Caused s 1 at
+  cutField : {rest : List Slot} {at : ℕ} → Begins s rest at → 0 < bytesLeft s at → bytesLeft s at < 3 → Caused s 1 at
   -- row 1: the length says more bytes than the record still has
-  cutValue : {tag : Tag} {at : ℕ} → Comes s tag at → fieldRow tag .lengthAllowed (headOf s) (lengthAt s at) ≡ true → left s (at + 3) < lengthAt s at
+  cutValue : {tag : Tag} {at : ℕ} → Comes s tag at → fieldRow tag .lengthAllowed (headOf s) (lengthAt s at) ≡ true → bytesLeft s (at + 3) < lengthAt s at
       → Caused s 1 at
   -- row 2: the byte is no tag that may come next
-  wrongTag : {rest : List Slot} {at : ℕ} → Begins s rest at → 3 ≤ left s at → mayCome rest (getD s at 0) ≡ false → Caused s 2 at
+  wrongTag : {rest : List Slot} {at : ℕ} → Begins s rest at → 3 ≤ bytesLeft s at → mayCome rest (getD s at 0) ≡ false → Caused s 2 at
   -- row 2: the record is over, and a slot that must be filled has not had its turn
   absentTag : {rest : List Slot} → Begins s rest (length s) → anyRequired rest ≡ true → Caused s 2 (length s)
   -- row 3: the field cannot have this length
   wrongLength : {tag : Tag} {at : ℕ} → Comes s tag at → fieldRow tag .lengthAllowed (headOf s) (lengthAt s at) ≡ false → Caused s 3 at
   -- rows 4, 5 and 6, by the field's own tests: the value is there whole, and the number is that of the first test that it fails
-  wrongValue : {tag : Tag} {at n : ℕ} → Comes s tag at → fieldRow tag .lengthAllowed (headOf s) (lengthAt s at) ≡ true → lengthAt s at ≤ left s (at + 3)
+  wrongValue : {tag : Tag} {at n : ℕ} → Comes s tag at → fieldRow tag .lengthAllowed (headOf s) (lengthAt s at) ≡ true → lengthAt s at ≤ bytesLeft s (at + 3)
       → firstFailed (fieldRow tag .tests (headOf s) (bytesAt s at)) ≡ suc n → Caused s (suc n) at
 
 -- The table's verdict on any bytes, a number and the values with it: 0 with kind and degrees where the fields go up to the record's very end, or a row's
 -- number with the offset where its cause is there.
-pub data Verdict (s : List ℕ) : ℕ → List ℕ → Type 0 where
-  accepted : Begins s [] (length s) → Verdict s 0 (headOf s .kind ∷ headOf s .degree ∷ headOf s .second ∷ [])
-  refused : {number offset : ℕ} → Caused s number offset → Verdict s number (offset ∷ [])
+pub data TableVerdict (s : List ℕ) : ℕ → List ℕ → Type 0 where
+  accepted : Begins s [] (length s) → TableVerdict s 0 (headOf s .kind ∷ headOf s .degree ∷ headOf s .second ∷ [])
+  refused : {number offset : ℕ} → Caused s number offset → TableVerdict s number (offset ∷ [])
 
 -- the groups of vertices of an accepted record
 abbrev pub layoutGroups : Layout → List Group

@@ -10,7 +10,7 @@ use Rattle.bytes.specs.Numbers.{unsignedOf}
 use Rattle.records.specs.Table.{slots, tagsIn, required, headIn, fieldRow}
 use Rattle.records.specs.declared.Head.{Head}
 use Rattle.records.specs.declared.Slot.{Slot}
-use Rattle.records.specs.declared.Slot.the-variants.{First, Second, Third, Fourth, Fifth}
+use Rattle.records.specs.declared.Slot.the-variants.{KindSlot, FrameSlot, CoefficientsSlot, MovesSlot, PointSlot}
 use Rattle.records.specs.declared.Tag.{Tag}
 use Rattle.records.specs.declared.Standing.{Standing}
 use Rattle.records.specs.declared.Standing.the-variants.{Field, Nothing}
@@ -18,13 +18,13 @@ use Rattle.records.specs.declared.Extent.{Extent}
 use Rattle.records.specs.declared.Layout.{Layout}
 use Rattle.records.specs.declared.Progress.{Progress}
 use Rattle.records.specs.declared.Reading.{Reading}
-use Rattle.records.specs.declared.Reading.the-variants.{Accepted, Refused}
+use Rattle.records.specs.declared.Reading.the-variants.{Fields, Refused}
 
 -- ---- one field: its tag in 1 byte, its length in 2, and then its value
 
 -- how many bytes are left from the offset on
-abbrev pub left : List ℕ → ℕ → ℕ
-left s at = length s - at
+abbrev pub bytesLeft : List ℕ → ℕ → ℕ
+bytesLeft s at = length s - at
 
 -- the length, from the two bytes after the tag
 unfoldable pub lengthAt : List ℕ → ℕ → ℕ
@@ -47,7 +47,7 @@ fieldTests tag h s at =
     -- 'length not one the table allows'
     fieldRow tag .lengthAllowed h (lengthAt s at) else 3
     -- 'value cut short'
-    ∷ leb (lengthAt s at) (left s (at + 3)) else 1
+    ∷ leb (lengthAt s at) (bytesLeft s (at + 3)) else 1
     ∷ fieldRow tag .tests h (bytesAt s at)
 
 unfoldable pub fieldNumber : Tag → Head → List ℕ → ℕ → ℕ
@@ -63,13 +63,13 @@ tagAmong (tag ∷ more) byte = cond (eqb byte (fieldRow tag .byte)) (Field tag) 
 
 -- what stands in a slot: tag and length are all there, and the tag is one of the slot's
 unfoldable pub standing : Slot → List ℕ → ℕ → Standing
-standing slot s at = cond (leb 3 (left s at)) (tagAmong (tagsIn slot) (getD s at 0)) Nothing
+standing slot s at = cond (leb 3 (bytesLeft s at)) (tagAmong (tagsIn slot) (getD s at 0)) Nothing
 
 -- The tests where the reader stands at no tag that may come next: none fails unless a field is due. At the end of the record the offset is the record's length.
 abbrev pub missingTests : Bool → List ℕ → ℕ → List Test
 missingTests due s at =
     -- '1 or 2 bytes left where a field begins'
-    (not due || (eqb (left s at) 0 || leb 3 (left s at))) else 1
+    (not due || (eqb (bytesLeft s at) 0 || leb 3 (bytesLeft s at))) else 1
     -- 'tag unknown, repeated, lower than the last, or before a required lower one; or required one absent at the end'
     ∷ not due else 2
     ∷ []
@@ -106,19 +106,19 @@ readSlot slot h s before = cond (eqb (before .number) 0) (readStanding (standing
 
 -- after the last slot nothing may be left: what is, is no field
 unfoldable pub readEnd : List ℕ → Progress → Progress
-readEnd s last = cond (eqb (last .number) 0) (stay (missingNumber (ltb 0 (left s (last .at))) s (last .at)) s (last .at)) last
+readEnd s last = cond (eqb (last .number) 0) (stay (missingNumber (ltb 0 (bytesLeft s (last .at))) s (last .at)) s (last .at)) last
 
 -- ---- all slots
 
 -- the layout by the extents of the slots, in their order
-abbrev pub layoutWith : List ℕ → List Extent → Layout
-layoutWith s es =
+abbrev pub layoutOfExtents : List ℕ → List Extent → Layout
+layoutOfExtents s es =
     let e : ℕ → Extent = λ k. getD es k (endExtent s) in
     record { kind = headOf s .kind; degree = headOf s .degree; second = headOf s .second; head = e 0; frame = e 1; coefficients = e 2; moves = e 3; point = e 4 }
 
 -- the reading by how far the reader has come after all slots
 unfoldable pub concluded : List ℕ → Progress → List Extent → Reading
-concluded s end es = cond (eqb (end .number) 0) (Accepted (layoutWith s es)) (Refused (record { number = end .number; offset = end .at }))
+concluded s end es = cond (eqb (end .number) 0) (Fields (layoutOfExtents s es)) (Refused (record { number = end .number; offset = end .at }))
 
 -- the reading from there on, with the extents so far
 abbrev pub onward : List Slot → List ℕ → Progress → List Extent → Reading
@@ -138,23 +138,23 @@ noFields s = let e = endExtent s in record { kind = 0; degree = 0; second = 0; h
 
 -- the table's number, 0 where nothing is refused
 abbrev pub readingNumber : Reading → ℕ
-readingNumber (Accepted l) = 0
+readingNumber (Fields l) = 0
 readingNumber (Refused r) = r .number
 
 -- the values: kind and degrees of an accepted record; what is returned with a refusal's number, the offset
 abbrev pub readingValues : Reading → List ℕ
-readingValues (Accepted l) = l .kind ∷ l .degree ∷ l .second ∷ []
+readingValues (Fields l) = l .kind ∷ l .degree ∷ l .second ∷ []
 readingValues (Refused r) = r .offset ∷ []
 
 -- ---- a field's value: where it stands, and its bytes
 
 -- the extent of what stands in a slot, in an accepted record
 abbrev pub extentIn : Slot → Layout → Extent
-extentIn First l = l .head
-extentIn Second l = l .frame
-extentIn Third l = l .coefficients
-extentIn Fourth l = l .moves
-extentIn Fifth l = l .point
+extentIn KindSlot l = l .head
+extentIn FrameSlot l = l .frame
+extentIn CoefficientsSlot l = l .coefficients
+extentIn MovesSlot l = l .moves
+extentIn PointSlot l = l .point
 
 -- the same by the tag byte; a number that is no tag is an absent field
 abbrev pub isTag : Standing → Bool

@@ -14,22 +14,22 @@ use Rattle.machine.specs.Comparison.{Polynomials}
 use Rattle.bytes.specs.Numbers.{frameNumbers, coefficientsOf}
 use Rattle.records.specs.declared.Head.{Head}
 use Rattle.records.specs.declared.Slot.{Slot}
-use Rattle.records.specs.declared.Slot.the-variants.{First, Second, Third, Fourth, Fifth}
+use Rattle.records.specs.declared.Slot.the-variants.{KindSlot, FrameSlot, CoefficientsSlot, MovesSlot, PointSlot}
 use Rattle.records.specs.declared.Tag.{Tag}
 use Rattle.records.specs.declared.Tag.the-variants.{Kind, Frame, Coefficients, Moves, Point}
 
 -- ---- the slots, in the order in which fields come: 'tags rise'
 
 abbrev pub slots : List Slot
-slots = First ∷ Second ∷ Third ∷ Fourth ∷ Fifth ∷ []
+slots = KindSlot ∷ FrameSlot ∷ CoefficientsSlot ∷ MovesSlot ∷ PointSlot ∷ []
 
 -- the field that a slot is for
 abbrev pub tagOf : Slot → Tag
-tagOf First = Kind
-tagOf Second = Frame
-tagOf Third = Coefficients
-tagOf Fourth = Moves
-tagOf Fifth = Point
+tagOf KindSlot = Kind
+tagOf FrameSlot = Frame
+tagOf CoefficientsSlot = Coefficients
+tagOf MovesSlot = Moves
+tagOf PointSlot = Point
 
 -- the fields that may stand in a slot, one of them in each record: as yet none stands in place of another
 abbrev pub tagsIn : Slot → List Tag
@@ -37,11 +37,11 @@ tagsIn slot = tagOf slot ∷ []
 
 -- 'Tags 1, 2, 3 are required, 4 and 5 may be absent'
 abbrev pub required : Slot → Bool
-required First = true
-required Second = true
-required Third = true
-required Fourth = false
-required Fifth = false
+required KindSlot = true
+required FrameSlot = true
+required CoefficientsSlot = true
+required MovesSlot = false
+required PointSlot = false
 
 -- ---- lengths and numbers, by what field 1 says
 

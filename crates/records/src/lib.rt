@@ -26,7 +26,7 @@ ghost use Rattle.records.specs.Table.{
   fieldRow,
 };
 ghost use Rattle.records.specs.Reading.{
-  left,
+  bytesLeft,
   lengthAt,
   headOf,
   fieldNumber,
@@ -44,7 +44,7 @@ ghost use Rattle.records.specs.Reading.{
   extentAmong,
   bytesOf,
 };
-ghost use Rattle.records.specs.Causes.{Verdict};
+ghost use Rattle.records.specs.Causes.{TableVerdict};
 use bytes::byte_at;
 use bytes::coefficients_within;
 use bytes::first_part;
@@ -86,7 +86,7 @@ pub struct Refusal {
 
 // What reading a record gives.
 pub enum Reading {
-    Accepted(Layout),
+    Fields(Layout),
     Refused(Refusal),
 }
 
@@ -99,11 +99,11 @@ pub struct Head {
 
 // The slots of a record, in their order: each may have one field, or must.
 pub enum Slot {
-    First,
-    Second,
-    Third,
-    Fourth,
-    Fifth,
+    KindSlot,
+    FrameSlot,
+    CoefficientsSlot,
+    MovesSlot,
+    PointSlot,
 }
 
 // The fields, by their tags. Callers give a tag by its number; the definitions name it.
@@ -152,11 +152,11 @@ fn tag_of(slot: Slot) -> Tag
     ensures { λ r. ⌜ r ≡ tagOf slot ⌝ }
 {
     match slot {
-        Slot::First => Tag::Kind,
-        Slot::Second => Tag::Frame,
-        Slot::Third => Tag::Coefficients,
-        Slot::Fourth => Tag::Moves,
-        Slot::Fifth => Tag::Point,
+        Slot::KindSlot => Tag::Kind,
+        Slot::FrameSlot => Tag::Frame,
+        Slot::CoefficientsSlot => Tag::Coefficients,
+        Slot::MovesSlot => Tag::Moves,
+        Slot::PointSlot => Tag::Point,
     }
 }
 
@@ -165,11 +165,11 @@ fn is_required(slot: Slot) -> bool
     ensures { λ r. ⌜ r ≡ required slot ⌝ }
 {
     match slot {
-        Slot::First => true,
-        Slot::Second => true,
-        Slot::Third => true,
-        Slot::Fourth => false,
-        Slot::Fifth => false,
+        Slot::KindSlot => true,
+        Slot::FrameSlot => true,
+        Slot::CoefficientsSlot => true,
+        Slot::MovesSlot => false,
+        Slot::PointSlot => false,
     }
 }
 
@@ -265,7 +265,7 @@ fn value_number(tag: Tag, head: Head, value: &[u8]) -> u8
 
 // How many bytes are left from `at` on.
 fn bytes_left(input: &[u8], at: usize) -> usize
-    ensures { λ r. ⌜ r ≡ left (now (input .entry)) at ⌝ }
+    ensures { λ r. ⌜ r ≡ bytesLeft (now (input .entry)) at ⌝ }
 {
     if input.len() < at {
         return 0;
@@ -426,14 +426,14 @@ fn read_end(input: &[u8], last: Progress) -> Progress
 // values are those of the table: 0 with kind and degrees, or a row's number with the offset.
 pub fn read(input: &[u8]) -> Reading
     ensures reading { λ r. ⌜ r ≡ readingOf (now (input .entry)) ⌝ }
-    ensures verdict { λ r. ⌜ Verdict (now (input .entry)) (readingNumber r) (readingValues r) ⌝ }
+    ensures verdict { λ r. ⌜ TableVerdict (now (input .entry)) (readingNumber r) (readingValues r) ⌝ }
 {
     let said = head_of(input);
-    let first = read_slot(Slot::First, said, input, stay_at(0, input, 0));
-    let second = read_slot(Slot::Second, said, input, first);
-    let third = read_slot(Slot::Third, said, input, second);
-    let fourth = read_slot(Slot::Fourth, said, input, third);
-    let fifth = read_slot(Slot::Fifth, said, input, fourth);
+    let first = read_slot(Slot::KindSlot, said, input, stay_at(0, input, 0));
+    let second = read_slot(Slot::FrameSlot, said, input, first);
+    let third = read_slot(Slot::CoefficientsSlot, said, input, second);
+    let fourth = read_slot(Slot::MovesSlot, said, input, third);
+    let fifth = read_slot(Slot::PointSlot, said, input, fourth);
     let end = read_end(input, fifth);
     let number = end.number;
     if number != 0 {
@@ -445,7 +445,7 @@ pub fn read(input: &[u8]) -> Reading
     let coefficients = third.extent;
     let moves = fourth.extent;
     let point = fifth.extent;
-    Reading::Accepted(Layout {
+    Reading::Fields(Layout {
         kind: said.kind,
         degree: said.degree,
         second: said.second,

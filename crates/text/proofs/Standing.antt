@@ -20,7 +20,7 @@ use Rattle.machine.specs.Refusals.{_else_, firstFailed, allPass}
 use Rattle.machine.specs.Calls.{ownTests}
 use Rattle.machine.specs.Steps.{refusalNumber, foundAt, stepBy, after}
 use Rattle.machine.specs.Nets.{Net, netGroups, handedTests, netTests, accepted, stepOf}
-use Rattle.machine.specs.Lent.{byteOf, netAt, put, wide, unlessRefused, room, callNumber, callPlaces}
+use Rattle.machine.specs.Lent.{byteOf, netAt, putNet, enoughPlaces, unlessRefused, room, callNumber, callPlaces}
 use Rattle.machine.specs.declared.Call.{Call}
 use Rattle.machine.specs.declared.Call.the-variants as call
 use Rattle.machine.proofs.Refusals.{none-failed, row-passes}
@@ -32,7 +32,7 @@ use Rattle.text.specs.Parts.{numbersText, Stands, Made, Answered, netHea
 use Rattle.text.proofs.InParts.{line-first}
 
 module _ (lent : List ℤ) (stands : Stands lent) where
-  pub enough : wide lent ≡ true
+  pub enough : enoughPlaces lent ≡ true
   enough = le-leb 193 (length lent) (let l = stands .long in omega (arith, l))
 
   -- its kind and degrees
@@ -145,11 +145,11 @@ module _ (lent : List ℤ) (stands : Stands lent) (c : Call) where
     unfolding callPlaces stepOf stepBy
     places-by zero e {left} is =
         let sound-left = accepted-sound net c (sound lent stands) in
-        let put-there : left ≡ put (accepted net c .left) lent = is ∙ ap (λ k. unlessRefused k (put (accepted net c .left) lent) lent) (number-there ∙ e) in
+        let put-there : left ≡ putNet (accepted net c .left) lent = is ∙ ap (λ k. unlessRefused k (putNet (accepted net c .left) lent) lent) (number-there ∙ e) in
         made-by (ap length put-there ∙ put-long (accepted net c .left) lent (enough lent stands) sound-left ∙ stands .long)
         (ap netAt put-there ∙ read-back (accepted net c .left) lent (enough lent stands) sound-left ∙ sym (ap (λ k. stepBy k net (accepted net c) .left) e))
     places-by (suc k) e {left} is =
-        let stood : left ≡ lent = is ∙ ap (λ k. unlessRefused k (put (accepted net c .left) lent) lent) (number-there ∙ e) in
+        let stood : left ≡ lent = is ∙ ap (λ k. unlessRefused k (putNet (accepted net c .left) lent) lent) (number-there ∙ e) in
         made-by (ap length stood ∙ stands .long) (ap netAt stood ∙ sym (ap (λ k. stepBy k net (accepted net c) .left) e))
 
     -- the number answered is the step's, and the places hold what it leaves

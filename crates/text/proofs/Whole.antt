@@ -18,7 +18,7 @@ use Rattle.machine.specs.Refusals.{firstFailed}
 use Rattle.machine.specs.Steps.{after, answers}
 use Rattle.machine.specs.Nets.{handedTests, stepOf}
 use Rattle.machine.specs.Comparison.{Polynomials, machineStep, netOver}
-use Rattle.machine.specs.Lent.{netAt, put, wide, unlessRefused}
+use Rattle.machine.specs.Lent.{netAt, putNet, enoughPlaces, unlessRefused}
 use Rattle.machine.specs.declared.Call.{Call}
 use Rattle.machine.specs.declared.Call.the-variants as call
 use Rattle.machine.proofs.Refusals.{none-failed}
@@ -31,13 +31,13 @@ use Rattle.records.specs.Reading.{bytesOf, readingOf, noFields}
 use Rattle.records.specs.declared.Reading.{Reading}
 use Rattle.records.specs.declared.Reading.the-variants as reading
 use Rattle.records.proofs.Accepted.{accepted-sound}
-use Rattle.opening.specs.Opening.{layoutBy, layoutRead, polynomialsIn, numbersIn, framesFrom, firstNetFrom, openedWith, layoutIn, movesOf, movesIn, pointOf, pointIn, refusalIn, openedIn, placesIn}
+use Rattle.opening.specs.Opening.{readingLayout, layoutRead, polynomialsIn, numbersIn, framesFrom, firstNetFrom, openedWith, openedLayout, movesOf, movesIn, pointOf, pointIn, refusalIn, openedIn, placesIn}
 use Rattle.opening.specs.declared.Opened.{Opened}
 use Rattle.opening.proofs.Records.{accepted-numbers, opened-wide}
 use Rattle.text.specs.Words.{over, Wrote}
 use Rattle.text.specs.Text.{refusedLine, headLine, moveLines, netLines, pointLine, acceptedText, textBy, textOf, fits, writtenOf, bufferOf}
 use Rattle.text.specs.Parts.{Stands, netText}
-use Rattle.text.specs.Told.{Verdict, written, refused, Told}
+use Rattle.text.specs.Told.{BufferVerdict, written, refused, Told}
 use Rattle.text.specs.declared.Written.the-variants.{Bytes, Refused}
 use Rattle.text.proofs.Room.{accepted-room}
 
@@ -57,12 +57,12 @@ reached-handed f frames at = none-failed (handedTests (netOver f frames)) refl .
 
 -- ---- how many moves and points a record has
 
-moves-short : (s : List ℕ) → layoutIn s .moves .length ≤ 256
-unfolding layoutIn layoutRead
+moves-short : (s : List ℕ) → openedLayout s .moves .length ≤ 256
+unfolding openedLayout layoutRead
 moves-short s = by (refusalIn s .number) (readingOf s) refl
   where
-    by : (k : ℕ) (r : Reading) → readingOf s ≡ r → unlessRefused k (layoutBy r s) (noFields s) .moves .length ≤ 256
-    by zero (reading.Accepted l) e =
+    by : (k : ℕ) (r : Reading) → readingOf s ≡ r → unlessRefused k (readingLayout r s) (noFields s) .moves .length ≤ 256
+    by zero (reading.Fields l) e =
         leb-true (l .moves .length) 256 (and-parts (eqb (l .moves .length % 8) 0) (leb (l .moves .length) 256) (accepted-sound s l e .movesLong) .1)
     by zero (reading.Refused r) e = omega arith
     by (suc k) r e = omega arith
@@ -71,7 +71,7 @@ moves-few : (s : List ℕ) → length (movesIn s) ≤ 32
 unfolding movesIn
 moves-few s =
     let short = moves-short s in
-    let moves = layoutIn s .moves in
+    let moves = openedLayout s .moves in
     let value = bytesOf moves s in
     let cut = length-take (moves .length) (drop (moves .start) s) in
     let many = length-map (upto (length value / 8)) (callAt value) ∙ length-upto (length value / 8) in
@@ -79,7 +79,7 @@ moves-few s =
 
 point-few : (s : List ℕ) → length (pointIn s) ≤ 1
 unfolding pointIn
-point-few s = let value = bytesOf (layoutIn s .point) s in by (eqb (length value) 0) (call.Point (weightsOf value))
+point-few s = let value = bytesOf (openedLayout s .point) s in by (eqb (length value) 0) (call.Point (weightsOf value))
   where
     by : (b : Bool) (c : Call) → length (cond b [] (c ∷ [])) ≤ 1
     by true c = omega arith
@@ -92,7 +92,7 @@ module _ (s : List ℕ) (ok : refusalIn s .number ≡ 0) where
   at-start = start-reached (polynomialsIn s) (numbersIn s) (accepted-numbers s ok)
 
   -- its first net put into places takes calls
-  first-stands : (lent : List ℤ) → length lent ≡ 193 → wide lent ≡ true → (netAt (put (firstNetFrom s) lent) ≡ firstNetFrom s) × Stands (put (firstNetFrom s) lent)
+  first-stands : (lent : List ℤ) → length lent ≡ 193 → enoughPlaces lent ≡ true → (netAt (putNet (firstNetFrom s) lent) ≡ firstNetFrom s) × Stands (putNet (firstNetFrom s) lent)
   first-stands lent long enough =
       let sound = reached-sound (polynomialsIn s) (framesFrom s) at-start in
       let back = read-back (firstNetFrom s) lent enough sound in (
@@ -120,7 +120,7 @@ module _ (s : List ℕ) (ok : refusalIn s .number ≡ 0) where
 -- ---- a record as the code has opened it, in 193 places
 
 module _ (s : List ℕ) (lent : List ℤ) {net : List ℤ} {o : Opened} (long : length lent ≡ 193) (is : (o ≡ openedIn s lent) × (net ≡ placesIn s lent)) where
-  enough : wide lent ≡ true
+  enough : enoughPlaces lent ≡ true
   enough = le-leb 193 (length lent) (omega (arith, long))
 
   opened-is : o ≡ openedWith (refusalIn s) s
@@ -133,15 +133,15 @@ module _ (s : List ℕ) (lent : List ℤ) {net : List ℤ} {o : Opened} (long : 
     accepted : refusalIn s .number ≡ 0
     accepted = sym number-is ∙ ok
 
-    places-are : net ≡ put (firstNetFrom s) lent
+    places-are : net ≡ putNet (firstNetFrom s) lent
     unfolding placesIn
-    places-are = is .1 ∙ ap (λ k. unlessRefused k (put (firstNetFrom s) lent) lent) (sym (ap (λ x. x .refusal .number) (is .0)) ∙ ok)
+    places-are = is .1 ∙ ap (λ k. unlessRefused k (putNet (firstNetFrom s) lent) lent) (sym (ap (λ x. x .refusal .number) (is .0)) ∙ ok)
 
     pub opened-stands : Stands net
     opened-stands = subst Stands (sym places-are) (first-stands s accepted lent long enough .1)
 
     pub opened-text : netText (netAt net) (movesOf (bytesOf (o .layout .moves) s)) (pointOf (bytesOf (o .layout .point) s)) ≡ textOf s
-    unfolding movesIn pointIn layoutIn
+    unfolding movesIn pointIn openedLayout
     opened-text =
         let first : netAt net ≡ firstNetFrom s = ap netAt places-are ∙ first-stands s accepted lent long enough .0 in
         (λ i. netText (first i) (movesOf (bytesOf (opened-is i .layout .moves) s)) (pointOf (bytesOf (opened-is i .layout .point) s))) ∙ text-of s accepted
@@ -191,7 +191,7 @@ written-whole text out part new n r long room same w =
     let within : n ≤ length new = subst (λ k. k ≤ length new) (sym n-is) (front .2) in (
       ap Bytes long ∙ sym (ap (λ b. cond b (Bytes (length text)) (Refused 11)) yes),
       (
-        record { verdict = subst (Verdict text out 0) (sym long) (written (omega (arith, long, room))); within = (within, sym (length-take-le n new within)) },
+        record { verdict = subst (BufferVerdict text out 0) (sym long) (written (omega (arith, long, room))); within = (within, sym (length-take-le n new within)) },
         w .buffer ∙ ap (λ t. t ++ drop (0 + length t) out) same ∙ ap (λ k. text ++ drop k out) all ∙ sym (ap (λ b. cond b (text ++ drop (length text) out) out) yes),
       ),
     )

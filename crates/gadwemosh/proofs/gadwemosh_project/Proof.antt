@@ -3,7 +3,7 @@ use borrow.Author.Needs.{needs}
 use mathlib.Core.Path.{_∙_, ap}
 use Rattle.integers.proofs.Signed.{back-fits}
 use Rattle.projection.specs.Projection.{projectionOf}
-use Rattle.gadwemosh.specs.Projections.{untold, projectionReturned}
+use Rattle.gadwemosh.specs.Projections.{projectionWithoutRoom, projectionReturned}
 use Rattle.gadwemosh.proofs.Places.{clauses, clauses-of, bits-short, direction-short, with-room}
 use Rattle.gadwemosh.proofs.gadwemosh_project.Statement.{statement}
 use Rattle.gadwemosh.proofs.gadwemosh_project.Tie as tie
@@ -11,13 +11,13 @@ use Rattle.gadwemosh.proofs.gadwemosh_project.Tie as tie
 returns : tie.Need-returns
 returns c =
     let a = c .before .before .args in
-    clauses (untold (a .bits .now) (a .direction .now)) _
+    clauses (projectionWithoutRoom (a .bits .now) (a .direction .now)) _
     (bits-short (projectionOf (a .x) (a .y) (a .z) (a .w)) (a .bits .now) (a .direction .now) (c .if1 .taken))
 
 returns-2 : tie.Need-returns-2
 returns-2 c =
     let a = c .before .before .before .args in
-    clauses (untold (a .bits .now) (a .direction .now)) _
+    clauses (projectionWithoutRoom (a .bits .now) (a .direction .now)) _
     (direction-short (projectionOf (a .x) (a .y) (a .z) (a .w)) (a .bits .now) (a .direction .now) (c .before .if1 .left) (c .if2 .taken))
 
 returns-3 : tie.Need-returns-3

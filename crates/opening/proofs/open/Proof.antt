@@ -3,7 +3,7 @@ use mathlib.Core.Path.{_≡_, sym, ap, _∙_}
 use mathlib.Core.Bool.{true}
 use borrow.Author.Tests.{le-leb, lt-leb}
 use lib.ListN.{length}
-use Rattle.machine.specs.Lent.{wide}
+use Rattle.machine.specs.Lent.{enoughPlaces}
 use Rattle.records.specs.Reading.{noFields}
 use Rattle.opening.proofs.Records.{opens-short, reading-refused, layout-known, first-refused, first-taken}
 use borrow.Author.Needs.{needs}
@@ -11,7 +11,7 @@ use Rattle.opening.proofs.open.Statement.{statement}
 use Rattle.opening.proofs.open.Tie as tie
 
 -- the places are enough
-enough : (c : tie.Else1) → wide (c .before .before .args .net .now) ≡ true
+enough : (c : tie.Else1) → enoughPlaces (c .before .before .args .net .now) ≡ true
 enough c = le-leb 193 (length (c .before .before .args .net .now)) (c .if1 .left)
 
 returns : tie.Need-returns

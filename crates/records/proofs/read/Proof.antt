@@ -6,10 +6,10 @@ use denote.Ref.{now}
 use borrow.Author.Needs.{needs}
 use borrow.Author.Tests.{eq-eqb, ne-eqb}
 use Rattle.records.specs.Reading.{readSlot, concluded, readingOf, readingNumber, readingValues}
-use Rattle.records.specs.Causes.{Verdict}
+use Rattle.records.specs.Causes.{TableVerdict}
 use Rattle.records.specs.declared.Extent.{Extent}
 use Rattle.records.specs.declared.Reading.{Reading}
-use Rattle.records.specs.declared.Slot.the-variants.{First}
+use Rattle.records.specs.declared.Slot.the-variants.{KindSlot}
 use Rattle.records.proofs.Slots.{all-steps}
 use Rattle.records.proofs.Causes.{table-verdict}
 use Rattle.records.proofs.read.Statement.{statement}
@@ -39,7 +39,7 @@ steps c =
     let s = bytes fifth in
     all-steps s
     (said .ensures)
-    (first .read-slot .ensures ∙ ap (readSlot First (said .result) s) (first .before .stay-at .ensures))
+    (first .read-slot .ensures ∙ ap (readSlot KindSlot (said .result) s) (first .before .stay-at .ensures))
     (third .before .read-slot2 .ensures)
     (third .read-slot3 .ensures)
     (fifth .before .read-slot4 .ensures)
@@ -47,8 +47,8 @@ steps c =
     (c .read-end .ensures)
 
 -- a reading that is the definition's is told by the table
-both : (s : List ℕ) (r : Reading) → r ≡ readingOf s → (r ≡ readingOf s) × Verdict s (readingNumber r) (readingValues r)
-both s r e = (e, subst (λ r. Verdict s (readingNumber r) (readingValues r)) (sym e) (table-verdict s))
+both : (s : List ℕ) (r : Reading) → r ≡ readingOf s → (r ≡ readingOf s) × TableVerdict s (readingNumber r) (readingValues r)
+both s r e = (e, subst (λ r. TableVerdict s (readingNumber r) (readingValues r)) (sym e) (table-verdict s))
 
 returns : tie.Need-returns
 unfolding concluded
