@@ -2,6 +2,7 @@ pub mod Refusals
 pub mod Frames
 pub mod LargestAfter
 pub mod Over
+pub mod Names
 pub mod Found
 pub mod Demand3
 pub mod Lent

@@ -2,6 +2,7 @@ pub mod Refusals
 pub mod Calls
 pub mod Frames
 pub mod Sizes
+pub mod Names
 pub mod Steps
 pub mod Nets
 pub mod Comparison
