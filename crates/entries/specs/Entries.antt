@@ -62,8 +62,12 @@ entryOver gs numbers c es = getD numbers (4 * placeOver gs es + c) (pos 0)
 unfoldable pub listedOver : List Group → (ℕ → List (List ℕ) → ℤ) → List ℤ
 listedOver gs f = joined (λ es. map (λ c. f c es) (upto 4)) (countsOver gs)
 
--- The polar values that a net's entries fix. f is one component of the entries. In each group a point q is taken besides the vertices, which the group's weights name:
--- the counts of a group say first how often q is taken, then how often each vertex.
+-- The polar values that a net's entries fix. f is one component of the entries. In each group a point q is
+-- taken besides the vertices, which the group's weights name: the counts of a group say first how often q is
+-- taken, then how often each vertex. An example, a curve of degree 2 whose entries have the component 1 at r
+-- r, 2 at r s and 5 at s s, with the weights 2 and 3, so q = 2 r + 3 s. One copy of q with r, counts 1 1 0,
+-- is 2 × 1 + 3 × 2 = 8; with s, counts 1 0 1, 2 × 2 + 3 × 5 = 19; two copies, counts 2 0 0, are 2 × 8 + 3 ×
+-- 19 = 73; counts 0 1 1 are the entry 2 itself.
 unfoldable pub fixedOver : List Group → List (List ℤ) → (List (List ℕ) → ℤ) → List (List ℕ) → ℤ
 fixedOver [] weights f es = f []
 fixedOver (g ∷ gs) weights f es =

@@ -6,3 +6,4 @@ pub mod Ring
 pub mod Signed
 pub mod Sums
 pub mod Within
+pub mod Instances

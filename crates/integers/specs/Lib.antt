@@ -1,3 +1,4 @@
 pub mod Sum
 pub mod Test
 pub mod Largest
+pub mod Instances

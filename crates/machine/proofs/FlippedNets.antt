@@ -1,26 +1,24 @@
 -- Nets with a vertex flipped and replaced, one after the other, whatever is refused. What the flipped net fixes is what the net before fixes with the vertex's weight negated,
 -- up to signs (entries/proofs/Flips.antt): so the size rule judges both alike, and entries, frames and largest component are the same where both ways end.
-use Prim.Native.Nat.{ℕ, _<_, zero, suc}
-use mathlib.Core.Path.{_≡_, refl, sym, ap, ap₂, _∙_, subst}
+use Prim.Native.Nat.{ℕ, _<_}
+use mathlib.Core.Path.{_≡_, refl, sym, ap, ap₂, _∙_}
 use mathlib.Core.Logic.{_≢_}
 use mathlib.Core.Bool.{true}
-use mathlib.Core.List.{List, map, _∷_, [], List·Memᴰ, List·Memᴰ·not-nil, Memᴰ·of-map}
+use mathlib.Core.List.{List, map, []}
 use lib.IntN.{ℤ, pos}
 use lib.ListN.{length, getD, length-map}
 use Rattle.integers.specs.Sum.{upto}
 use Rattle.integers.specs.Largest.{largestOf}
 use Rattle.integers.proofs.All.{all-cong, all-getD}
 use Rattle.integers.proofs.Sums.{upto-below}
-use Rattle.polar.specs.Order.{counts}
-use Rattle.polar.specs.Groups.{Group, countsOver}
-use Rattle.polar.proofs.Value.{of-pairs}
+use Rattle.polar.specs.Groups.{Group}
 use Rattle.entries.specs.Frame.{pointsOver, putOver}
-use Rattle.entries.specs.Entries.{numberCount, entryOver, listedOver, signed, fixedOver, flippedOver, noneOfQ, asQ}
+use Rattle.entries.specs.Entries.{numberCount, entryOver, listedOver, signed, fixedOver, flippedOver, asQ}
 use Rattle.entries.proofs.Signs.{signed-twice, signed-unseen, signed-swap}
 use Rattle.entries.proofs.Groups.{Counted, Named, withQ, counted-long, named-as}
 use Rattle.entries.proofs.Fixed.{fixed-over-cong}
 use Rattle.entries.proofs.ListedOver.{length-listed-over, entry-listed-over, listed-over-cong, listed-again}
-use Rattle.entries.proofs.Flips.{negatedAt, negatedOver, copiesAt, fixed-flipped-over, NoneOfQ, QOfOne, SameIn, fixed-same-in, turned-same, none-of-q, q-of-one, copies-other, copies-same}
+use Rattle.entries.proofs.Flips.{negatedAt, negatedOver, copiesAt, fixed-flipped-over, QOfOne, SameIn, fixed-same-in, turned-same, q-of-one, copies-other, copies-same}
 use Rattle.entries.proofs.FlippedFrames.{flippedFrames, put-again, put-flip, flip-flip, flip-back, points-flipped, point-same-in}
 use Rattle.projection.specs.Projection.{inRange}
 use Rattle.kinds.specs.Frames.{Frames}
@@ -28,21 +26,8 @@ use Rattle.machine.specs.Sizes.{namedByReplace, allNamed}
 use Rattle.machine.specs.Nets.{Net, netGroups, entry, netInRange}
 use Rattle.machine.proofs.Frames.{in-range-neg}
 use Rattle.machine.proofs.LargestAfter.{flipped-largest}
-use Rattle.machine.proofs.Over.{by-replace, listed-in}
-
--- ---- what a replace names takes q in the vertex's group alone
-
-named-q : (gs : List Group) (i : ℕ) (es : List (List ℕ)) → List·Memᴰ es (namedByReplace gs i) → QOfOne gs i es
-unfolding namedByReplace
-named-q [] i es m = absurd (List·Memᴰ·not-nil m)
-named-q (g ∷ gs) zero es m =
-    let r = of-pairs (counts (suc (g .dimension)) (g .degree)) (map noneOfQ (countsOver gs)) m in
-    let k = Memᴰ·of-map noneOfQ (countsOver gs) (r .3) in
-    subst (QOfOne (g ∷ gs) 0) (r .4) (subst (NoneOfQ gs) (k .2) (none-of-q gs (k .0)))
-named-q (g ∷ gs) (suc i) es m =
-    let r = of-pairs (noneOfQ (counts (g .dimension) (g .degree))) (namedByReplace gs i) m in
-    let k = Memᴰ·of-map (λ (e : List ℕ). 0 ∷ e) (counts (g .dimension) (g .degree)) (r .2) in
-    subst (QOfOne (g ∷ gs) (suc i)) (r .4) (subst (λ e. getD e 0 0 ≡ 0) (k .2) refl, named-q gs i (r .1) (r .3))
+use Rattle.machine.proofs.Names.{by-replace, one-of-q}
+use Rattle.machine.proofs.Over.{listed-in}
 
 -- ---- nets that a flip and a replace leave
 
@@ -133,7 +118,7 @@ module _ (net : Net) where
         (λ es m.
         all-cong _ _ (upto 4)
         (λ c k.
-        ap inRange (fixed-turned c es (upto-below 4 c k) (by-replace gs i es m) (named-q gs i es m))
+        ap inRange (fixed-turned c es (upto-below 4 c k) (by-replace gs i es m) (one-of-q gs i es m))
         ∙ signed-unseen inRange in-range-neg (copiesAt j v es) (fixedOver gs (everywhere net others) (entry net c) es)))
 
     -- another vertex replaced

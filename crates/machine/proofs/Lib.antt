@@ -1,8 +1,9 @@
+pub mod AllSamples
+pub mod Names
 pub mod Refusals
 pub mod Frames
 pub mod LargestAfter
 pub mod Over
-pub mod Names
 pub mod Found
 pub mod Demand3
 pub mod Lent
@@ -11,4 +12,3 @@ pub mod Largest
 pub mod FlippedNets
 pub mod FlipLaws
 pub mod FlipLawsLent
-pub mod Samples

@@ -1,5 +1,7 @@
--- The names of the size rule are exactly what the papers say: the lists of Sizes.antt are made group by group, and so the counts are taken apart and put together group by group.
--- `counts` has every list of counts with its sum, so in one group nothing is left out; over groups the lists are pairs of what the first group has and what those after it have.
+-- The names of the size rule are exactly what the papers say: the lists of Sizes.antt are made group by
+-- group, and so the counts are taken apart and put together group by group. `counts` has every list of counts
+-- with its sum, so in one group nothing is left out; over groups the lists are pairs of what the first group
+-- has and what those after it have.
 use Prim.Native.Nat.{ℕ, zero, suc, _+_, _<_}
 use native.Mathlib.Nat.{zero-add, suc-inj}
 use native.Mathlib.Omega.{arith}
@@ -11,8 +13,9 @@ use Rattle.polar.specs.Order.{total, counts}
 use Rattle.polar.specs.Groups.{Group, pairs, countsOver}
 use Rattle.polar.proofs.Order.{counts-total}
 use Rattle.polar.proofs.Value.{of-pairs}
-use Rattle.entries.specs.Entries.{noneOfQ}
-use Rattle.entries.proofs.Groups.{Counted, total-zeros}
+use Rattle.entries.specs.Entries.{noneOfQ, asQ}
+use Rattle.entries.proofs.Groups.{Counted, Named, named-as, total-zeros}
+use Rattle.entries.proofs.Flips.{NoneOfQ, QOfOne}
 use Rattle.entries.proofs.Places.{member-counts}
 use Rattle.entries.proofs.ListedOver.{in-pairs, member-over, counts-over}
 use Rattle.machine.specs.Sizes.{namedByReplace, namedByPoint, namedBy}
@@ -55,6 +58,24 @@ entry-counts (g ∷ gs) (e ∷ es) h =
 
 -- ---- a replace
 
+to-replace : (gs : List Group) (i : ℕ) (es : List (List ℕ)) → NamedByReplace gs i es → List·Memᴰ es (namedByReplace gs i)
+unfolding namedByReplace
+to-replace [] i es h = let inside = h .0 in absurd (omega arith)
+to-replace (g ∷ gs) zero [] h = absurd (h .1)
+to-replace (g ∷ gs) (suc i) [] h = absurd (h .1)
+to-replace (g ∷ gs) zero (e ∷ es) h =
+    let rest = entry-counts gs es (each-of (λ j g e k. (k .0, k .1 (λ same. absurd (omega arith)))) gs es (h .1 .1)) in
+    in-pairs (counts (suc (g .dimension)) (g .degree)) (map noneOfQ (countsOver gs))
+    (member-counts (suc (g .dimension)) (g .degree) e (h .1 .0 .0 .each) (h .1 .0 .0 .asMany))
+    (subst (λ x. List·Memᴰ x (map noneOfQ (countsOver gs))) (rest .2) (Memᴰ·map noneOfQ (member-over gs (rest .0) (rest .1))))
+to-replace (g ∷ gs) (suc i) (e ∷ es) h =
+    let c = own-counts g e (h .1 .0 .0) (h .1 .0 .1 (λ same. absurd (omega arith))) in
+    let inside = h .0 in
+    in-pairs (noneOfQ (counts (g .dimension) (g .degree))) (namedByReplace gs i)
+    (subst (λ x. List·Memᴰ x (noneOfQ (counts (g .dimension) (g .degree)))) (c .3)
+    (Memᴰ·map (λ (r : List ℕ). 0 ∷ r) (member-counts (g .dimension) (g .degree) (c .0) (c .1) (c .2))))
+    (to-replace gs i es (omega arith, each-of (λ j g e k. (k .0, λ other. k .1 (λ same. other (suc-inj same)))) gs es (h .1 .1)))
+
 from-replace : (gs : List Group) (i : ℕ) (es : List (List ℕ)) → List·Memᴰ es (namedByReplace gs i) → NamedByReplace gs i es
 unfolding namedByReplace
 from-replace [] i es m = absurd (List·Memᴰ·not-nil m)
@@ -74,24 +95,6 @@ from-replace (g ∷ gs) (suc i) es m =
     let inside = later .0 in
     subst (NamedByReplace (g ∷ gs) (suc i)) (r .4)
     (omega arith, ((own .0, λ other. own .1), each-of (λ j g e h. (h .0, λ other. h .1 (λ same. other (ap suc same)))) gs (r .1) (later .1)))
-
-to-replace : (gs : List Group) (i : ℕ) (es : List (List ℕ)) → NamedByReplace gs i es → List·Memᴰ es (namedByReplace gs i)
-unfolding namedByReplace
-to-replace [] i es h = let inside = h .0 in absurd (omega arith)
-to-replace (g ∷ gs) zero [] h = absurd (h .1)
-to-replace (g ∷ gs) (suc i) [] h = absurd (h .1)
-to-replace (g ∷ gs) zero (e ∷ es) h =
-    let rest = entry-counts gs es (each-of (λ j g e k. (k .0, k .1 (λ same. absurd (omega arith)))) gs es (h .1 .1)) in
-    in-pairs (counts (suc (g .dimension)) (g .degree)) (map noneOfQ (countsOver gs))
-    (member-counts (suc (g .dimension)) (g .degree) e (h .1 .0 .0 .each) (h .1 .0 .0 .asMany))
-    (subst (λ x. List·Memᴰ x (map noneOfQ (countsOver gs))) (rest .2) (Memᴰ·map noneOfQ (member-over gs (rest .0) (rest .1))))
-to-replace (g ∷ gs) (suc i) (e ∷ es) h =
-    let c = own-counts g e (h .1 .0 .0) (h .1 .0 .1 (λ same. absurd (omega arith))) in
-    let inside = h .0 in
-    in-pairs (noneOfQ (counts (g .dimension) (g .degree))) (namedByReplace gs i)
-    (subst (λ x. List·Memᴰ x (noneOfQ (counts (g .dimension) (g .degree)))) (c .3)
-    (Memᴰ·map (λ (r : List ℕ). 0 ∷ r) (member-counts (g .dimension) (g .degree) (c .0) (c .1) (c .2))))
-    (to-replace gs i es (omega arith, each-of (λ j g e k. (k .0, λ other. k .1 (λ same. other (suc-inj same)))) gs es (h .1 .1)))
 
 -- ---- a point
 
@@ -114,6 +117,22 @@ both-all-q g (n ∷ e) h q =
     let none : total e ≡ 0 = omega arith in
     ap₂ _∷_ q (zeros-by-total e none ∙ ap (λ k. replicate k 0) (suc-inj (h .each)))
 
+to-point : (gs : List Group) (es : List (List ℕ)) → NamedByPoint gs es → List·Memᴰ es (namedByPoint gs)
+unfolding namedByPoint
+to-point [] es h = let inside = h .1 in absurd (omega arith)
+to-point (g ∷ gs) [] h = absurd (h .2)
+to-point (g ∷ gs) (e ∷ es) (zero, inside, h) =
+    Memᴰ·append-left _
+    (to-replace (g ∷ gs) 0 (e ∷ es) (inside, each-of {P = PointTakes 0} {Q = ReplaceTakes 0} (λ j g e k. (k .0, λ other. k .2 (positive j other))) (g ∷ gs) (e ∷ es) h))
+  where
+    positive : (j : ℕ) → (j ≡ 0 → ⊥) → 0 < j
+    positive zero other = absurd (other refl)
+    positive (suc j) other = omega arith
+to-point (g ∷ gs) (e ∷ es) (suc k, inside, h) =
+    Memᴰ·append-right (namedByReplace (g ∷ gs) 0)
+    (in-pairs (allQ g ∷ []) (namedByPoint gs) (List·Memᴰ·head (both-all-q g e (h .0 .0) (h .0 .1 (omega arith))))
+    (to-point gs es (k, omega arith, each-of {Q = PointTakes k} (λ j g e c. (c .0, (λ less. c .1 (omega arith)), (λ more. c .2 (omega arith)))) gs es (h .1))))
+
 from-point : (gs : List Group) (es : List (List ℕ)) → List·Memᴰ es (namedByPoint gs) → NamedByPoint gs es
 unfolding namedByPoint
 from-point [] es m = absurd (List·Memᴰ·not-nil m)
@@ -132,21 +151,53 @@ from-point (g ∷ gs) es m = by (from-point gs) (List·Memᴰ·append-cases (nam
         subst (NamedByPoint (g ∷ gs)) (r .4)
         (suc (rest .0), omega arith, (own, each-of (λ j g e h. (h .0, (λ less. h .1 (omega arith)), (λ more. h .2 (omega arith)))) gs (r .1) (rest .2)))
 
-to-point : (gs : List Group) (es : List (List ℕ)) → NamedByPoint gs es → List·Memᴰ es (namedByPoint gs)
-unfolding namedByPoint
-to-point [] es h = let inside = h .1 in absurd (omega arith)
-to-point (g ∷ gs) [] h = absurd (h .2)
-to-point (g ∷ gs) (e ∷ es) (zero, inside, h) =
-    Memᴰ·append-left _
-    (to-replace (g ∷ gs) 0 (e ∷ es) (inside, each-of {P = PointTakes 0} {Q = ReplaceTakes 0} (λ j g e k. (k .0, λ other. k .2 (positive j other))) (g ∷ gs) (e ∷ es) h))
-  where
-    positive : (j : ℕ) → (j ≡ 0 → ⊥) → 0 < j
-    positive zero other = absurd (other refl)
-    positive (suc j) other = omega arith
-to-point (g ∷ gs) (e ∷ es) (suc k, inside, h) =
-    Memᴰ·append-right (namedByReplace (g ∷ gs) 0)
-    (in-pairs (allQ g ∷ []) (namedByPoint gs) (List·Memᴰ·head (both-all-q g e (h .0 .0) (h .0 .1 (omega arith))))
-    (to-point gs es (k, omega arith, each-of {Q = PointTakes k} (λ j g e c. (c .0, (λ less. c .1 (omega arith)), (λ more. c .2 (omega arith)))) gs es (h .1))))
+-- ---- what the laws of sizes need of it
+
+-- what is named are counts of q and the vertices
+each-named : (gs : List Group) (es : List (List ℕ)) → EachGroup (λ j g e. FromBoth g e) gs es → Named gs es
+each-named [] [] h = tt
+each-named [] (e ∷ es) h = absurd h
+each-named (g ∷ gs) [] h = absurd h
+each-named (g ∷ gs) (e ∷ es) h = (h .0 .each, h .0 .asMany, each-named gs es (h .1))
+
+pub by-replace : (gs : List Group) (i : ℕ) (es : List (List ℕ)) → List·Memᴰ es (namedByReplace gs i) → Named gs es
+by-replace gs i es m = each-named gs es (each-of {P = ReplaceTakes i} (λ j g e h. h .0) gs es (from-replace gs i es m .1))
+
+pub by-point : (gs : List Group) (es : List (List ℕ)) → List·Memᴰ es (namedByPoint gs) → Named gs es
+by-point gs es m = let r = from-point gs es m in each-named gs es (each-of {P = PointTakes (r .0)} (λ j g e h. h .0) gs es (r .2))
+
+-- a replace names no value with q in another group
+none-after : (gs : List Group) (es : List (List ℕ)) → WithoutQ gs es → NoneOfQ gs es
+none-after [] es h = tt
+none-after (g ∷ gs) [] h = absurd h
+none-after (g ∷ gs) (e ∷ es) h = (h .0 .1, none-after gs es (h .1))
+
+takes-one : (gs : List Group) (i : ℕ) (es : List (List ℕ)) → EachGroup (ReplaceTakes i) gs es → QOfOne gs i es
+takes-one [] i es h = tt
+takes-one (g ∷ gs) i [] h = absurd h
+takes-one (g ∷ gs) zero (e ∷ es) h =
+    none-after gs es (each-of {Q = λ j g e. FromBoth g e × (copiesOfQ e ≡ 0)} (λ j g e k. (k .0, k .1 (λ same. absurd (omega arith)))) gs es (h .1))
+takes-one (g ∷ gs) (suc i) (e ∷ es) h =
+    (h .0 .1 (λ same. absurd (omega arith)), takes-one gs i es (each-of {Q = ReplaceTakes i} (λ j g e k. (k .0, λ other. k .1 (λ same. other (suc-inj same)))) gs es (h .1)))
+
+pub one-of-q : (gs : List Group) (i : ℕ) (es : List (List ℕ)) → List·Memᴰ es (namedByReplace gs i) → QOfOne gs i es
+one-of-q gs i es m = takes-one gs i es (from-replace gs i es m .1)
+
+-- an entry whose copies of a vertex are q's is named by the replace of that vertex
+as-taken : (gs : List Group) (i v : ℕ) (es : List (List ℕ)) → Counted gs es → EachGroup (ReplaceTakes i) gs (asQ i v es)
+as-taken [] i v [] c = tt
+as-taken [] i v (e ∷ es) c = absurd c
+as-taken (g ∷ gs) i v [] c = absurd c
+as-taken (g ∷ gs) zero v (e ∷ es) c =
+    let n = named-as (g ∷ gs) 0 v (e ∷ es) c in
+    let rest = entry-without gs es (c .2) in
+    ((record { each = n .0; asMany = n .1 }, λ other. absurd (other refl)), each-of (λ j g e h. (h .0, λ other. h .1)) gs (noneOfQ es) rest)
+as-taken (g ∷ gs) (suc i) v (e ∷ es) c =
+    let own = none-of-q g e (c .0) (c .1) in
+    ((own .0, λ other. own .1), each-of {P = ReplaceTakes i} (λ j g e h. (h .0, λ other. h .1 (λ same. other (ap suc same)))) gs (asQ i v es) (as-taken gs i v es (c .2)))
+
+pub as-named : (gs : List Group) (i v : ℕ) (es : List (List ℕ)) → i < length gs → Counted gs es → List·Memᴰ (asQ i v es) (namedByReplace gs i)
+as-named gs i v es h counted = to-replace gs i (asQ i v es) (h, as-taken gs i v es counted)
 
 -- ---- all of it
 

@@ -1,31 +1,28 @@
 -- The net over frames, seen by the net machine: its entries fix the polar values of its polynomials, so it refuses what the comparison machine refuses,
 -- and an accepted call leaves the net over the frames that the comparison machine reaches.
 use Prim.Native.Nat.{ℕ, zero, suc, pred, _-_, _<_}
-use native.Mathlib.Nat.{le-of-suc-le-suc, not-suc-le-zero}
+use native.Mathlib.Nat.{not-suc-le-zero}
 use native.Mathlib.Omega.{arith}
-use mathlib.Core.Path.{_≡_, refl, sym, ap, ap₂, _∙_, subst}
-use mathlib.Core.Logic.{_⊎_, inl, inr}
+use mathlib.Core.Path.{_≡_, refl, sym, ap, ap₂, _∙_}
 use mathlib.Core.Bool.{Bool, true, false, _&&_, cond}
-use mathlib.Core.List.{List, [], _∷_, _++_, map, List·Memᴰ, List·Memᴰ·not-nil, List·Memᴰ·append-cases, List·Memᴰ·eq-of-singleton, Memᴰ·map, Memᴰ·of-map}
+use mathlib.Core.List.{List, [], _∷_, _++_, map, List·Memᴰ, List·Memᴰ·not-nil}
 use lib.Dec.{eqb, leb, lit≤}
 use lib.IntN.{ℤ, pos, negℤ}
-use lib.ListN.{length, getD, set, replicate}
+use lib.ListN.{length, getD}
 use borrow.Author.Tests.{leb-true, leb-false}
 use Rattle.integers.specs.Sum.{upto}
 use Rattle.integers.specs.Largest.{largestOf}
 use Rattle.integers.proofs.Sums.{upto-below, below-upto}
 use Rattle.polar.specs.Sigma.{Point}
-use Rattle.polar.specs.Order.{total, counts}
-use Rattle.polar.specs.Groups.{Group, pairs, countsOver, monomialsOver}
+use Rattle.polar.specs.Groups.{Group, countsOver, monomialsOver}
 use Rattle.polar.specs.Polar.{terms}
-use Rattle.polar.proofs.Order.{counts-total, all-joined}
-use Rattle.polar.proofs.Value.{of-pairs, polar-diagonal}
+use Rattle.polar.proofs.Order.{all-joined}
+use Rattle.polar.proofs.Value.{polar-diagonal}
 use Rattle.entries.specs.Frame.{vertexAt, entryPointsOver, pointsOver, putOver}
-use Rattle.entries.specs.Entries.{listedOver, signed, noneOfQ, asQ, onlyQ, flippedOver}
+use Rattle.entries.specs.Entries.{listedOver, signed, asQ, onlyQ, flippedOver}
 use Rattle.entries.proofs.Signs.{signed-unseen}
-use Rattle.entries.proofs.Places.{member-counts}
-use Rattle.entries.proofs.Groups.{Counted, Named, Framed, Forms, polar-forms, fixes-over, putting-over, flipping-over, points-long, named-none, named-as, named-only, only-taken}
-use Rattle.entries.proofs.ListedOver.{in-pairs, member-over, counts-over, length-listed-over, entry-listed-over, listed-over-cong}
+use Rattle.entries.proofs.Groups.{Counted, Named, Framed, Forms, polar-forms, fixes-over, putting-over, flipping-over, points-long, named-as, named-only, only-taken}
+use Rattle.entries.proofs.ListedOver.{member-over, counts-over, length-listed-over, entry-listed-over, listed-over-cong}
 use Rattle.projection.specs.Projection.{inRange, projectionOf}
 use Rattle.machine.specs.Refusals.{_else_, firstFailed, allPass, numbered}
 use Rattle.integers.specs.Test.{all}
@@ -34,7 +31,7 @@ use Rattle.kinds.specs.Kinds.{known}
 use Rattle.kinds.specs.Frames.{vertexCount, Frames, numbersOf}
 use Rattle.machine.specs.Calls.{groupAt, ownAt, weightsFor, ownTests}
 use Rattle.machine.specs.Frames.{pointsOf, framesAfter, newNumbers}
-use Rattle.machine.specs.Sizes.{namedByReplace, namedByPoint, namedBy, allNamed, beforeSize, callTests}
+use Rattle.machine.specs.Sizes.{namedByReplace, namedBy, allNamed, beforeSize, callTests}
 use Rattle.machine.specs.Steps.{Found, foundAt, stepBy}
 use Rattle.machine.specs.Nets.{Net, netGroups, entry, netPolar, netInRange, handedTests, judgedNumbers, netTests, entriesAfter, accepted, stepOf}
 use Rattle.machine.specs.Comparison.{Polynomials, groups, polarOf, scaledValue, machinePolar, machineTests, machineAccepted, machineStep, netOver}
@@ -42,6 +39,7 @@ use Rattle.machine.specs.declared.Weights.{Weights}
 use Rattle.machine.specs.declared.Call.{Call}
 use Rattle.machine.specs.declared.Call.the-variants as call
 use Rattle.machine.proofs.Refusals.{none-failed, all-pass-append, row-passes}
+use Rattle.machine.proofs.Names.{by-replace, by-point, as-named}
 use Rattle.machine.proofs.Frames.{framed-after, in-range-neg, in-range-after}
 use Rattle.machine.proofs.LargestAfter.{moved-largest}
 
@@ -85,39 +83,6 @@ located (g ∷ gs) (frame ∷ frames) long v h = by (leb v (g .dimension)) refl 
 -- ---- the size rule
 
 -- what a call names are counts of q and the vertices
-pub by-replace : (gs : List Group) (i : ℕ) (es : List (List ℕ)) → List·Memᴰ es (namedByReplace gs i) → Named gs es
-unfolding namedByReplace
-by-replace [] i es m = absurd (List·Memᴰ·not-nil m)
-by-replace (g ∷ gs) zero es m =
-    let r = of-pairs (counts (suc (g .dimension)) (g .degree)) (map noneOfQ (countsOver gs)) m in
-    let t = counts-total (suc (g .dimension)) (g .degree) (r .0) (r .2) in
-    let k = Memᴰ·of-map noneOfQ (countsOver gs) (r .3) in
-    subst (Named (g ∷ gs)) (r .4) (t .0, t .1, subst (Named gs) (k .2) (named-none gs (k .0) (counts-over gs (k .0) (k .1))))
-by-replace (g ∷ gs) (suc i) es m =
-    let r = of-pairs (noneOfQ (counts (g .dimension) (g .degree))) (namedByReplace gs i) m in
-    let k = Memᴰ·of-map (λ (e : List ℕ). 0 ∷ e) (counts (g .dimension) (g .degree)) (r .2) in
-    let t = counts-total (g .dimension) (g .degree) (k .0) (k .1) in
-    let own : total (0 ∷ k .0) ≡ g .degree = native.Mathlib.Nat.zero-add (total (k .0)) ∙ t .1 in
-    subst (Named (g ∷ gs)) (r .4)
-    (subst (λ e. (length e ≡ suc (suc (g .dimension))) × (total e ≡ g .degree) × Named gs (r .1)) (k .2) (ap suc (t .0), own, by-replace gs i (r .1) (r .3)))
-
-pub by-point : (gs : List Group) (es : List (List ℕ)) → List·Memᴰ es (namedByPoint gs) → Named gs es
-unfolding namedByPoint
-by-point [] es m = absurd (List·Memᴰ·not-nil m)
-by-point (g ∷ gs) es m = by (by-point gs) (List·Memᴰ·append-cases (namedByReplace (g ∷ gs) 0) m)
-  where
-    all-q : List ℕ
-    all-q = g .degree ∷ replicate (suc (g .dimension)) 0
-
-    by : ((rest : List (List ℕ)) → List·Memᴰ rest (namedByPoint gs) → Named gs rest)
-        → List·Memᴰ es (namedByReplace (g ∷ gs) 0) ⊎ List·Memᴰ es (pairs (all-q ∷ []) (namedByPoint gs)) → Named (g ∷ gs) es
-    by later (inl k) = by-replace (g ∷ gs) 0 es k
-    by later (inr k) =
-        let r = of-pairs (all-q ∷ []) (namedByPoint gs) k in
-        let q = named-only (g ∷ gs) in
-        subst (Named (g ∷ gs)) (r .4)
-        (subst (λ e. (length e ≡ suc (suc (g .dimension))) × (total e ≡ g .degree) × Named gs (r .1)) (sym (List·Memᴰ·eq-of-singleton (r .2))) (q .0, q .1, later (r .1) (r .3)))
-
 pub by-call : (gs : List Group) (c : Call) (es : List (List ℕ)) → List·Memᴰ es (namedBy gs c) → Named gs es
 unfolding namedBy
 by-call gs (call.Move operation vertex weights) es m = by (eqb operation 1) m
@@ -126,19 +91,6 @@ by-call gs (call.Move operation vertex weights) es m = by (eqb operation 1) m
     by true k = by-replace gs (groupAt gs (pred vertex)) es k
     by false k = absurd (List·Memᴰ·not-nil k)
 by-call gs (call.Point weights) es m = by-point gs es m
-
--- an entry whose copies of a vertex are q's is named by the replace of that vertex
-as-named : (gs : List Group) (i v : ℕ) (es : List (List ℕ)) → i < length gs → Counted gs es → List·Memᴰ (asQ i v es) (namedByReplace gs i)
-unfolding namedByReplace
-as-named [] i v es h counted = absurd (not-suc-le-zero h)
-as-named (g ∷ gs) i v [] h counted = absurd counted
-as-named (g ∷ gs) zero v (e ∷ es) h counted =
-    let n = named-as (g ∷ gs) 0 v (e ∷ es) counted in
-    in-pairs (counts (suc (g .dimension)) (g .degree)) (map noneOfQ (countsOver gs))
-    (member-counts (suc (g .dimension)) (g .degree) (getD e v 0 ∷ set e v 0) (n .0) (n .1)) (Memᴰ·map noneOfQ (member-over gs es (counted .2)))
-as-named (g ∷ gs) (suc i) v (e ∷ es) h counted =
-    in-pairs (noneOfQ (counts (g .dimension) (g .degree))) (namedByReplace gs i)
-    (Memᴰ·map (λ (r : List ℕ). 0 ∷ r) (member-counts (g .dimension) (g .degree) e (counted .0) (counted .1))) (as-named gs i v es (le-of-suc-le-suc h) (counted .2))
 
 -- functions that agree on the named values have the same sizes
 pub named-cong : (names : List (List (List ℕ))) (P Q : ℕ → List (List ℕ) → ℤ) → ((c : ℕ) (es : List (List ℕ)) → c < 4 → List·Memᴰ es names → P c es ≡ Q c es) → allNamed names P ≡ allNamed names Q

@@ -42,7 +42,10 @@ abbrev pub shares : List Group → List ℤ → List (List ℤ)
 shares [] ws = []
 shares (g ∷ gs) ws = take (suc (g .dimension)) ws ∷ shares gs (drop (suc (g .dimension)) ws)
 
--- the weights of a call by groups: those of a move belong to its vertex's group, and no other group's point is asked for
+-- The weights of a call by groups: 'a move's first two weights belong to its pair', whichever it is, and a
+-- point has weights for all vertices, group after group. A move hands its weights to every group, since only
+-- its vertex's group is asked for its q: no value that a move names, and no entry after it, takes q in
+-- another group (`NamedByReplace` in Names.antt, `asQ`).
 abbrev pub weightsFor : List Group → Call → List (List ℤ)
 weightsFor gs (Move operation vertex weights) = map (λ g. weightList weights) gs
 weightsFor gs (Point weights) = shares gs (weightList weights)

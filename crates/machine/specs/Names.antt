@@ -1,8 +1,11 @@
--- What the size rule names, in the papers' words and over any list of groups: 'some polar value of m points taken from the frame and q, any number of each', of a replace in a
--- pair 'its own pair's points from that pair and the new vertex, the other pair's from its frame', of a point 'first the same with q1, the first pair's point, then p copies of q1
--- with the second pair's points from that pair and its own point'. The lists of Sizes.antt, by which both machines refuse, name exactly these values and no others.
+-- What the size rule names, in the papers' words and over any list of groups: 'some polar value of m points
+-- taken from the frame and q, any number of each', of a replace in a pair 'its own pair's points from that
+-- pair and the new vertex, the other pair's from its frame', of a point 'first the same with q1, the first
+-- pair's point, then p copies of q1 with the second pair's points from that pair and its own point'. The
+-- lists of Sizes.antt, by which both machines refuse, name exactly these values and no others.
 --
--- A value is given by its counts, a list for each group: how often q is taken there, and then how often each vertex.
+-- A value is given by its counts, a list for each group: how often q is taken there, and then how often each
+-- vertex.
 use Prim.Native.Nat.{ℕ, suc, pred, _<_}
 use mathlib.Core.Path.{_≡_}
 use mathlib.Core.Logic.{_↔_}
@@ -23,7 +26,8 @@ pub record FromBoth (g : Group) (e : List ℕ) : Type 0 where
 abbrev pub copiesOfQ : List ℕ → ℕ
 copiesOfQ e = getD e 0 0
 
--- P holds of every group with its counts, and there are counts for each group and no more; the groups are counted from 0
+-- P holds of every group with its counts, and there are counts for each group and no more; the groups are
+-- counted from 0
 abbrev pub EachGroup : (ℕ → Group → List ℕ → Type 0) → List Group → List (List ℕ) → Type 0
 EachGroup P [] [] = Unit {0}
 EachGroup P [] (e ∷ es) = ⊥
@@ -37,7 +41,8 @@ ReplaceTakes i j g e = FromBoth g e × ((j ≡ i → ⊥) → copiesOfQ e ≡ 0)
 abbrev pub NamedByReplace : List Group → ℕ → List (List ℕ) → Type 0
 NamedByReplace gs i es = (i < length gs) × EachGroup (ReplaceTakes i) gs es
 
--- a point, at the stage of group k: in a group j before it every point is q, 'p copies of q1', and in one after it none is
+-- a point, at the stage of group k: in a group j before it every point is q, 'p copies of q1', and in one
+-- after it none is
 abbrev pub PointTakes : ℕ → ℕ → Group → List ℕ → Type 0
 PointTakes k j g e = FromBoth g e × (j < k → copiesOfQ e ≡ g .degree) × (k < j → copiesOfQ e ≡ 0)
 

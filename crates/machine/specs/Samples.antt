@@ -1,5 +1,7 @@
--- What the definitions must give, as two tables: the samples B1 to B10 (docs/SPECIFICATION.md, 'Samples') with the answers to further calls, and single instances. Both machines share the
--- tables of refusals and the names of the size rule, so these rows hold their order, and over two groups what no law holds. proofs/Samples.antt proves every row.
+-- What the definitions must give, as two tables: the samples B1 to B10 (docs/SPECIFICATION.md, 'Samples')
+-- with the answers to further calls, and single instances. Both machines share the tables of refusals and the
+-- names of the size rule, so these rows hold their order, and over two groups what no law holds.
+-- proofs/AllSamples.antt proves every row.
 use Prim.Native.Nat.{ℕ}
 use mathlib.Core.Path.{_≡_}
 use mathlib.Core.Bool.{Bool, cond}
@@ -7,12 +9,13 @@ use mathlib.Core.List.{List, [], _∷_, _++_, map}
 use lib.IntN.{ℤ, pos, negℤ}
 use lib.ListN.{getD, replicate}
 use Rattle.integers.specs.Sum.{upto}
+use Rattle.integers.specs.Instances.{Instance, _is_}
 use Rattle.polar.specs.Order.{joined}
 use Rattle.polar.specs.Groups.{Group, monomialsOver}
 use Rattle.polar.specs.Polar.{polarOver, terms}
 use Rattle.entries.specs.Frame.{entryPointsOver, pointsOver, framesWithQ}
-use Rattle.entries.specs.Entries.{listedOver}
-use Rattle.kinds.specs.Kinds.{group}
+use Rattle.entries.specs.Entries.{entryOver, listedOver, fixedOver}
+use Rattle.kinds.specs.Kinds.{group, groupsOf}
 use Rattle.machine.specs.Steps.{Answer, refusalNumber, answerValues, answers}
 use Rattle.machine.specs.Comparison.{Polynomials, groups, machineStep, netOver}
 use Rattle.kinds.specs.Frames.{Frames, framesOf, framesAllowed, numbersOf}
@@ -334,17 +337,36 @@ samples =
       largest = 1;
       answers = replicate 4 taken ++ (refused 12 ∷ taken ∷ refused 12 ∷ []);
     }
+    ∷  -- a triangular patch: a replace of each vertex with three weights of its own, a flip of each, a point, and a fourth weight, which no vertex has
+    record {
+      polynomials = saddle;
+      frame = pos 1 ∷ pos 0 ∷ pos 1 ∷ pos 0 ∷ pos 1 ∷ pos 1 ∷ pos 0 ∷ pos 0 ∷ pos 1 ∷ [];
+      calls =
+          move 1 1 (four 2 1 3 0)
+          ∷ flip 2
+          ∷ move 1 3 (fourSigned (pos 1) (minus 1) (pos 2) (pos 0))
+          ∷ flip 3
+          ∷ move 1 2 (fourSigned (minus 1) (pos 2) (pos 1) (pos 0))
+          ∷ flip 1
+          ∷ point (pos 1) (pos 2) (minus 1) (pos 0)
+          ∷ point (pos 1) (pos 2) (minus 1) (pos 1)
+          ∷ [];
+      reached = minus 2 ∷ minus 1 ∷ minus 6 ∷ minus 4 ∷ minus 5 ∷ minus 17 ∷ minus 2 ∷ minus 2 ∷ minus 9 ∷ [];
+      net =
+          four 24 12 4 72
+          ∷ four 58 47 14 204
+          ∷ four 30 21 6 108
+          ∷ four 136 170 40 578
+          ∷ four 70 79 18 306
+          ∷ four 36 36 8 162
+          ∷ [];
+      largest = 578;
+      -- 248/961, 279/961 and 72/961
+      answers = replicate 6 taken ++ (found (four 496 558 144 1922) (finite 0x3fd0842108421084 0x3fd294a5294a5295 0x3fb32e15d80aa7d3) ∷ refused 8 ∷ []);
+    }
     ∷ []
 
 -- ---- single instances
-
-infix 70 _is_
--- what the definitions give, and what it must be
-pub data Instance : Type 0 where
-  _is_ : List ℤ → List ℤ → Instance
-
-abbrev pub Right : Instance → Type 0
-Right (given is must) = given ≡ must
 
 -- the refusals 7, 6, 5 and 4 of a first net, each with those of the rows before it: x of the first entry is 2520 times 2 to the 38th; a coefficient is outside;
 -- the determinant is 0 or a number outside; there is a second degree, or the degree is 11
@@ -370,6 +392,14 @@ handed kind degree second x w weight =
     (record { kind = kind; degree = degree; second = second; frames = framesOf (group 1 1 ∷ []) (four 0 1 1 0); entries = four x 0 0 w ++ four 0 0 0 1; largest = minus 1 })
     (point weight (pos 1) (pos 0) (pos 0))))
 
+abbrev handedLast : List ℤ → List ℤ
+handedLast last =
+    refused
+    (firstFailed
+    (netTests
+    (record { kind = 1; degree = 1; second = 0; frames = framesOf (group 1 1 ∷ []) (four 0 1 1 0); entries = four 0 0 0 1 ++ last; largest = minus 1 })
+    (flip 1)))
+
 abbrev handedNets : List Instance
 handedNets =
     handed 1 1 0 281474976710656 1 (pos 1) is refused 0
@@ -383,6 +413,12 @@ handedNets =
     ∷ handed 3 1 6 281474976710657 1 (pos 4097) is refused 4
     ∷ handed 3 6 1 281474976710657 1 (pos 4097) is refused 4
     ∷ handed 4 1 1 281474976710657 1 (pos 4097) is refused 4
+    -- each number of the last entry too
+    ∷ handedLast (four 281474976710657 0 0 1) is refused 10
+    ∷ handedLast (four 0 281474976710657 0 1) is refused 10
+    ∷ handedLast (four 0 0 281474976710657 1) is refused 10
+    ∷ handedLast (fourSigned (pos 0) (pos 0) (pos 0) (minus 281474976710657)) is refused 10
+    ∷ handedLast (four 281474976710656 0 0 1) is refused 0
     ∷ []
 
 abbrev zeros : ℕ → List ℤ
@@ -397,6 +433,13 @@ handedFrame number component call =
     (record { kind = 1; degree = 1; second = 0; frames = framesOf (group 1 1 ∷ []) (fourSigned (pos 0) number (pos 1) (pos 0)); entries = component ∷ zeros 7; largest = minus 1 })
     call))
 
+-- a net of zeros, of degree 1 in each group, over a frame with these numbers, and the number of a call's
+-- refusal on it
+abbrev onZeros : ℕ → ℕ → List ℤ → Call → List ℤ
+onZeros kind second numbers call =
+    let gs = groupsOf kind 1 second in
+    refused (firstFailed (netTests (record { kind = kind; degree = 1; second = second; frames = framesOf gs numbers; entries = zeros 16; largest = minus 1 }) call))
+
 abbrev handedFrames : List Instance
 handedFrames =
     -- a number of 2 to the 48th passes, and one beyond is 12 for every call
@@ -409,6 +452,12 @@ handedFrames =
     ∷ handedFrame (pos 281474976710657) (pos 1) (replace 1 (pos 0) (pos 1)) is refused 9
     ∷ handedFrame (pos 281474976710657) (pos 1) (flip 3) is refused 8
     ∷ handedFrame (pos 281474976710657) (minus 281474976710657) (flip 3) is refused 10
+    -- the last number of a frame of each kind; one past the frame's numbers is not looked at
+    ∷ onZeros 1 0 (zeros 3 ++ (pos 281474976710657 ∷ [])) (flip 1) is refused 12
+    ∷ onZeros 1 0 (zeros 4 ++ (pos 281474976710657 ∷ [])) (flip 1) is refused 0
+    ∷ onZeros 2 0 (zeros 8 ++ (pos 281474976710657 ∷ [])) (flip 1) is refused 12
+    ∷ onZeros 3 1 (zeros 7 ++ (minus 281474976710657 ∷ [])) (flip 1) is refused 12
+    ∷ onZeros 3 1 (zeros 8 ++ (minus 281474976710657 ∷ [])) (flip 1) is refused 0
     ∷ []
 
 -- a curve of degree 1 and zero entries, in the nine places of whose frame a number stands at place k, counted from 0
@@ -428,6 +477,56 @@ lentNets =
     ∷ refused (madeNumber 3 0 0 (zeros 9) (zeros 179) (zeros 193)) is refused 11
     ∷ refused (madeNumber 3 0 0 (zeros 9) (zeros 180) (zeros 192)) is refused 11
     ∷ refused (madeNumber 3 0 0 (zeros 9) (zeros 180) (zeros 193)) is refused 4
+    -- coefficients past those of kind and degrees are not looked at
+    ∷ refused (madeNumber 1 1 0 (four 0 1 1 0 ++ zeros 5) (zeros 8 ++ replicate 172 (pos 1048577)) (zeros 193)) is refused 0
+    ∷ refused (madeNumber 1 1 0 (four 0 1 1 0 ++ zeros 5) (zeros 7 ++ replicate 173 (pos 1048577)) (zeros 193)) is refused 6
+    ∷ []
+
+-- ---- weights, place by place
+
+-- the refusals of four calls on a net of zeros over a frame of zeros: `x` is the first weight, the second,
+-- the third or the fourth, and the other weights are 0
+abbrev inEachPlace : ℕ → ℕ → (List ℤ → Call) → ℤ → List ℤ
+inEachPlace kind second call x = joined (λ k. onZeros kind second [] (call (zeros k ++ (x ∷ [])))) (upto 4)
+
+abbrev onCurve : (List ℤ → Call) → ℤ → List ℤ
+onCurve = inEachPlace 1 0
+
+abbrev onPatch : (List ℤ → Call) → ℤ → List ℤ
+onPatch = inEachPlace 2 0
+
+abbrev onRect : (List ℤ → Call) → ℤ → List ℤ
+onRect = inEachPlace 3 1
+
+abbrev pointBy : List ℤ → Call
+pointBy ws = point (getD ws 0 (pos 0)) (getD ws 1 (pos 0)) (getD ws 2 (pos 0)) (getD ws 3 (pos 0))
+
+-- A replace is taken where the weight is the vertex's own, 9 where it is another vertex's of its group, and 8
+-- where it is no vertex's; a flip uses none. A point uses as many as there are vertices; with one weight a
+-- rectangular patch has a pair all 0. The limit 4096 is each weight's, on both sides.
+abbrev weightPlaces : List Instance
+weightPlaces =
+    onCurve (move 1 1) (pos 1) is four 0 9 8 8
+    ∷ onCurve (move 1 2) (minus 4096) is four 9 0 8 8
+    ∷ onCurve (move 1 2) (minus 4097) is four 8 8 8 8
+    ∷ onCurve (move 2 1) (pos 1) is four 8 8 8 8
+    ∷ onCurve pointBy (pos 4096) is four 0 0 8 8
+    ∷ onCurve pointBy (pos 4097) is four 8 8 8 8
+    ∷ onPatch (move 1 1) (pos 1) is four 0 9 9 8
+    ∷ onPatch (move 1 2) (pos 4096) is four 9 0 9 8
+    ∷ onPatch (move 1 3) (minus 4096) is four 9 9 0 8
+    ∷ onPatch (move 1 3) (pos 4097) is four 8 8 8 8
+    ∷ onPatch (move 2 3) (minus 1) is four 8 8 8 8
+    ∷ onPatch pointBy (minus 4096) is four 0 0 0 8
+    ∷ onPatch pointBy (minus 4097) is four 8 8 8 8
+    ∷ onRect (move 1 1) (pos 1) is four 0 9 8 8
+    ∷ onRect (move 1 2) (minus 1) is four 9 0 8 8
+    ∷ onRect (move 1 3) (pos 4096) is four 0 9 8 8
+    ∷ onRect (move 1 4) (minus 4096) is four 9 0 8 8
+    ∷ onRect (move 1 4) (pos 4097) is four 8 8 8 8
+    ∷ onRect (move 2 4) (pos 1) is four 8 8 8 8
+    ∷ onRect pointBy (pos 4096) is four 9 9 9 9
+    ∷ onRect pointBy (minus 4097) is four 8 8 8 8
     ∷ []
 
 -- ---- the largest component of handed nets
@@ -463,6 +562,18 @@ claims =
     is lentLine (fourSigned (pos 0) (pos 1) (minus 2) (pos 1)) (fourSigned (minus 3) (pos 1) (pos 0) (pos 2) ++ fourSigned (minus 5) (minus 9) (pos 0) (pos 0)) (pos 9)
     ∷ lentAfter (flip 2) is lentLine (fourSigned (pos 0) (pos 1) (minus 1) (pos 0)) (fourSigned (minus 3) (pos 1) (pos 0) (pos 2) ++ fourSigned (minus 1) (minus 5) (pos 0) (minus 1)) (minus 1)
     ∷ lentAfter (replace 2 (pos 1) (pos 4097)) is lentLine (four 0 1 1 0) lineEntries (minus 1)
+    ∷ []
+
+-- ---- the polar values that entries fix
+
+-- the worked example at `fixedOver`: entries 1, 2 and 5 of a curve of degree 2, weights 2 and 3; q not taken,
+-- taken once with r, once with s, and twice
+abbrev example : List ℕ → ℤ
+example e = fixedOver (group 1 2 ∷ []) ((pos 2 ∷ pos 3 ∷ []) ∷ []) (λ es. entryOver (group 1 2 ∷ []) (pos 1 ∷ zeros 3 ++ (pos 2 ∷ zeros 3) ++ (pos 5 ∷ zeros 3)) 0 es) (e ∷ [])
+
+abbrev fixedValues : List Instance
+fixedValues =
+    (example (0 ∷ 1 ∷ 1 ∷ []) ∷ example (1 ∷ 1 ∷ 0 ∷ []) ∷ example (1 ∷ 0 ∷ 1 ∷ []) ∷ example (2 ∷ 0 ∷ 0 ∷ []) ∷ []) is four 2 8 19 73
     ∷ []
 
 -- ---- two groups of two vertices, as request E3 has them
@@ -529,6 +640,9 @@ twoGroups =
     ∷ tileNumber (point (pos 16) (pos 1) (pos 1) (pos 1)) is refused 0
     ∷ tileNumber (point (pos 16) (pos 1) (pos 2) (pos 1)) is refused 10
     ∷ tileNumber (point (pos 1) (pos 1) (pos 17) (pos 1)) is refused 10
+    -- the names of a replace on a curve of degree 3: q, r and s, any number of each
+    ∷ counted (namedByReplace (group 1 3 ∷ []) 0)
+    is map pos (3 ∷ 0 ∷ 0 ∷ 2 ∷ 1 ∷ 0 ∷ 2 ∷ 0 ∷ 1 ∷ 1 ∷ 2 ∷ 0 ∷ 1 ∷ 1 ∷ 1 ∷ 1 ∷ 0 ∷ 2 ∷ 0 ∷ 3 ∷ 0 ∷ 0 ∷ 2 ∷ 1 ∷ 0 ∷ 1 ∷ 2 ∷ 0 ∷ 0 ∷ 3 ∷ [])
     -- the names of a replace in the first pair, of one in the second, and of a point
     ∷ counted (namedByReplace tile 0) is joined (λ n. n) firstNames
     ∷ counted (namedByReplace tile 1)
@@ -537,4 +651,4 @@ twoGroups =
     ∷ []
 
 abbrev pub instances : List Instance
-instances = firstNets ++ handedNets ++ handedFrames ++ lentNets ++ claims ++ twoGroups
+instances = firstNets ++ handedNets ++ handedFrames ++ lentNets ++ weightPlaces ++ claims ++ fixedValues ++ twoGroups

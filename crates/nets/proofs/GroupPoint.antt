@@ -24,7 +24,7 @@ use Rattle.entries.proofs.Places.{placed, member-counts}
 use Rattle.entries.proofs.Listed.{digits-below}
 use Rattle.entries.proofs.ListedOver.{place-over}
 use Rattle.machine.specs.Sizes.{namedByReplace, namedByPoint, allNamed}
-use Rattle.machine.proofs.Over.{by-point}
+use Rattle.machine.proofs.Names.{by-point}
 use Rattle.nets.specs.Levels.{valuesOf, namedAt, allNamedAt}
 use Rattle.nets.proofs.GroupRows.{row-entry, named-rows}
 

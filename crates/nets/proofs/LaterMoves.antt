@@ -27,7 +27,7 @@ use Rattle.entries.proofs.ListedOver.{place-over, listed-over-cong}
 use Rattle.kinds.specs.Kinds.{group}
 use Rattle.machine.specs.Calls.{weightList, groupAt, ownAt}
 use Rattle.machine.specs.Sizes.{namedBy, namedByReplace, allNamed}
-use Rattle.machine.proofs.Over.{by-replace}
+use Rattle.machine.proofs.Names.{by-replace}
 use Rattle.machine.specs.declared.Weights.{Weights}
 use Rattle.machine.specs.declared.Call.the-variants.{Move}
 use Rattle.nets.specs.Parts.{partAt}

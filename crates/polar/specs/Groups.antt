@@ -10,7 +10,9 @@ pub record Group : Type 0 where
   pub dimension : ℕ
   pub degree : ℕ
 
--- the first group's member of a list, and the list of the groups after it
+-- Of a list with a member for each group, which is itself a list (counts, exponents, points, weights, a
+-- frame): the first group's member, and the list of those of the groups after it. They are for lists of lists
+-- only; where the list ends, both are empty.
 abbrev pub head : {A : Type 0} → List (List A) → List A
 head [] = []
 head (x ∷ xs) = x

@@ -1,12 +1,15 @@
--- The samples and the single instances: one test that is computed over each table, and a law that turns it into what each row says.
-use mathlib.Core.Path.{_≡_, refl, ap₂}
-use mathlib.Core.Bool.{Bool, true, false, _&&_}
-use mathlib.Core.List.{List, [], _∷_, map, List·Memᴰ}
+-- Every sample and every instance holds: one test that is computed over each table, and a law that turns it
+-- into what each row says.
+use mathlib.Core.Path.{_≡_, refl}
+use mathlib.Core.Bool.{Bool, true, _&&_}
+use mathlib.Core.List.{map, List·Memᴰ}
 use lib.Dec.{eqb}
 use lib.IntN.{pos}
 use borrow.Author.Tests.{eqb-true}
 use Rattle.integers.specs.Test.{eqZ, all}
+use Rattle.integers.specs.Instances.{AllRight}
 use Rattle.integers.proofs.Signed.{eqZ→eq}
+use Rattle.integers.proofs.Instances.{sameBy, same-lists, agrees, all-right}
 use Rattle.polar.specs.Sigma.{σ}
 use Rattle.polar.specs.Order.{joined, monomials, counts}
 use Rattle.polar.specs.Scale.{multinomial, leastCommonMultiple, scale}
@@ -14,7 +17,7 @@ use Rattle.polar.specs.Groups.{monomialsOver, countsOver}
 use Rattle.polar.specs.Polar.{polarOver, valueOver}
 use Rattle.entries.specs.Entries.{listedOver, fixed, fixedOver, entryOver}
 use Rattle.projection.specs.Projection.{projectionOf, coordinateBits}
-use Rattle.integers.proofs.All.{all-at, and-parts, clash}
+use Rattle.integers.proofs.All.{all-at, and-parts}
 use Rattle.kinds.specs.Frames.{frameOf, frameAllowed, framesOf, framesAllowed, numbersOf}
 use Rattle.machine.specs.Calls.{ownTests}
 use Rattle.machine.specs.Frames.{pointsOf, framesAfter, newNumbers}
@@ -24,22 +27,7 @@ use Rattle.machine.specs.Comparison.{groups, netOver, machineTests, mach
 use Rattle.machine.specs.Nets.{handedTests, judgedNumbers, netTests, netPolar, entriesAfter, largestAfter, accepted, stepOf}
 use Rattle.machine.specs.Lent.{netAt, putNet, callNumber, callPlaces, madeNumber}
 use Rattle.machine.specs.First.{firstTests, firstRefusal}
-use Rattle.machine.specs.Samples.{Sample, answerRow, netOf, SampleHolds, samples, Instance, _is_, Right, instances}
-
--- two lists are the same, by a test of their members
-abbrev sameBy : {A : Type 0} → (A → A → Bool) → List A → List A → Bool
-sameBy test [] [] = true
-sameBy test [] (y ∷ ys) = false
-sameBy test (x ∷ xs) [] = false
-sameBy test (x ∷ xs) (y ∷ ys) = test x y && sameBy test xs ys
-
-same-lists : {A : Type 0} (test : A → A → Bool) → ((x y : A) → test x y ≡ true → x ≡ y) → (xs ys : List A) → sameBy test xs ys ≡ true → xs ≡ ys
-same-lists test sound [] [] h = refl
-same-lists test sound [] (y ∷ ys) h = absurd (clash h refl)
-same-lists test sound (x ∷ xs) [] h = absurd (clash h refl)
-same-lists test sound (x ∷ xs) (y ∷ ys) h =
-    let both = and-parts (test x y) (sameBy test xs ys) h in
-    ap₂ _∷_ (sound x y (both .0)) (same-lists test sound xs ys (both .1))
+use Rattle.machine.specs.Samples.{Sample, answerRow, netOf, SampleHolds, samples, instances}
 
 module _ (s : Sample) where
   abbrev made : Bool
@@ -84,16 +72,10 @@ every-sample s m = checked-holds s (all-at checked samples table-checked s m)
 
 -- ---- single instances
 
-abbrev agrees : Instance → Bool
-agrees (given is must) = sameBy eqZ given must
-
-agrees-right : (i : Instance) → agrees i ≡ true → Right i
-agrees-right (given is must) h = same-lists eqZ eqZ→eq given must h
-
 instances-agree : all agrees instances ≡ true
 unfolding netOver polarOf pointsOf newNumbers ownTests beforeSize namedBy namedByReplace namedByPoint allNamed callTests firstRefusal firstTests frameOf frameAllowed framesOf framesAllowed σ monomials counts monomialsOver countsOver multinomial leastCommonMultiple scale polarOver listedOver netTests handedTests judgedNumbers netPolar fixedOver entryOver fixed callNumber madeNumber netAt entriesAfter largestAfter accepted stepBy stepOf framesAfter putNet callPlaces
 instances-agree = refl
 
 -- every instance is right
-pub every-instance : (i : Instance) → List·Memᴰ i instances → Right i
-every-instance i m = agrees-right i (all-at agrees instances instances-agree i m)
+pub every-instance : AllRight instances
+every-instance = all-right instances instances-agree
