@@ -9,7 +9,7 @@ use borrow.Author.Tests.{eqb-true}
 use Rattle.integers.specs.Test.{eqZ, all}
 use Rattle.integers.specs.Instances.{AllRight}
 use Rattle.integers.proofs.Signed.{eqZ→eq}
-use Rattle.integers.proofs.Instances.{sameBy, same-lists, agrees, all-right}
+use Rattle.integers.proofs.Instances.{sameBy, same-lists, agreesBy, all-right}
 use Rattle.polar.specs.Sigma.{σ}
 use Rattle.polar.specs.Order.{joined, monomials, counts}
 use Rattle.polar.specs.Scale.{multinomial, leastCommonMultiple, scale}
@@ -72,7 +72,7 @@ every-sample s m = checked-holds s (all-at checked samples table-checked s m)
 
 -- ---- single instances
 
-instances-agree : all agrees instances ≡ true
+instances-agree : all (agreesBy eqZ) instances ≡ true
 unfolding netOver polarOf pointsOf newNumbers ownTests beforeSize namedBy namedByReplace namedByPoint allNamed callTests firstRefusal firstTests frameOf frameAllowed framesOf framesAllowed σ monomials counts monomialsOver countsOver multinomial leastCommonMultiple scale polarOver listedOver netTests handedTests judgedNumbers netPolar fixedOver entryOver fixed callNumber madeNumber netAt entriesAfter largestAfter accepted stepBy stepOf framesAfter putNet callPlaces
 instances-agree = refl
 

@@ -373,7 +373,7 @@ samples =
 abbrev far : ℕ → ℕ → ℕ → Polynomials
 far degree second last = polynomials 1 degree second (joined (λ k. four 1048576 0 0 0 ∷ []) (upto degree) ++ (four 1048576 0 0 last ∷ []))
 
-abbrev firstNets : List Instance
+abbrev firstNets : List (Instance ℤ)
 firstNets =
     refused (firstRefusal (far 9 0 1048576) (fourSigned (pos 4) (pos 4) (minus 4) (pos 4))) is refused 7
     ∷ refused (firstRefusal (far 9 0 1048577) (fourSigned (pos 4) (pos 4) (minus 4) (pos 4))) is refused 6
@@ -400,7 +400,7 @@ handedLast last =
     (record { kind = 1; degree = 1; second = 0; frames = framesOf (group 1 1 ∷ []) (four 0 1 1 0); entries = four 0 0 0 1 ++ last; largest = minus 1 })
     (flip 1)))
 
-abbrev handedNets : List Instance
+abbrev handedNets : List (Instance ℤ)
 handedNets =
     handed 1 1 0 281474976710656 1 (pos 1) is refused 0
     ∷ handed 1 1 0 281474976710656 1 (pos 2) is refused 10
@@ -440,7 +440,7 @@ onZeros kind second numbers call =
     let gs = groupsOf kind 1 second in
     refused (firstFailed (netTests (record { kind = kind; degree = 1; second = second; frames = framesOf gs numbers; entries = zeros 16; largest = minus 1 }) call))
 
-abbrev handedFrames : List Instance
+abbrev handedFrames : List (Instance ℤ)
 handedFrames =
     -- a number of 2 to the 48th passes, and one beyond is 12 for every call
     handedFrame (minus 281474976710656) (pos 1) (flip 1) is refused 0
@@ -465,7 +465,7 @@ abbrev lentFrame : ℕ → ℕ → List ℤ
 lentFrame k number = pos 1 ∷ pos 1 ∷ pos 0 ∷ (zeros k ++ (pos number ∷ zeros 189))
 
 -- too few places are 11 before all else, and places past the frame's numbers are not looked at
-abbrev lentNets : List Instance
+abbrev lentNets : List (Instance ℤ)
 lentNets =
     refused (callNumber (flip 1) (lentFrame 3 281474976710657) []) is refused 12
     ∷ refused (callNumber (flip 1) (lentFrame 4 281474976710657) []) is refused 0
@@ -504,7 +504,7 @@ pointBy ws = point (getD ws 0 (pos 0)) (getD ws 1 (pos 0)) (getD ws 2 (pos 0)) (
 -- A replace is taken where the weight is the vertex's own, 9 where it is another vertex's of its group, and 8
 -- where it is no vertex's; a flip uses none. A point uses as many as there are vertices; with one weight a
 -- rectangular patch has a pair all 0. The limit 4096 is each weight's, on both sides.
-abbrev weightPlaces : List Instance
+abbrev weightPlaces : List (Instance ℤ)
 weightPlaces =
     onCurve (move 1 1) (pos 1) is four 0 9 8 8
     ∷ onCurve (move 1 2) (minus 4096) is four 9 0 8 8
@@ -552,7 +552,7 @@ abbrev lentAfter : Call → List ℤ
 lentAfter call = callPlaces call (lentLine (four 0 1 1 0) lineEntries (minus 1)) []
 
 -- a replace works it out from the entries that it leaves, not from what is claimed and not from places past the entries; a flip, a point and a refused replace hand on what is claimed
-abbrev claims : List Instance
+abbrev claims : List (Instance ℤ)
 claims =
     stored (replace 2 (pos 1) (minus 2)) is (pos 9 ∷ (fourSigned (minus 3) (pos 1) (pos 0) (pos 2) ++ fourSigned (minus 5) (minus 9) (pos 0) (pos 0)))
     ∷ stored (flip 2) is (minus 1 ∷ (fourSigned (minus 3) (pos 1) (pos 0) (pos 2) ++ fourSigned (minus 1) (minus 5) (pos 0) (minus 1)))
@@ -571,7 +571,7 @@ claims =
 abbrev example : List ℕ → ℤ
 example e = fixedOver (group 1 2 ∷ []) ((pos 2 ∷ pos 3 ∷ []) ∷ []) (λ es. entryOver (group 1 2 ∷ []) (pos 1 ∷ zeros 3 ++ (pos 2 ∷ zeros 3) ++ (pos 5 ∷ zeros 3)) 0 es) (e ∷ [])
 
-abbrev fixedValues : List Instance
+abbrev fixedValues : List (Instance ℤ)
 fixedValues =
     (example (0 ∷ 1 ∷ 1 ∷ []) ∷ example (1 ∷ 1 ∷ 0 ∷ []) ∷ example (1 ∷ 0 ∷ 1 ∷ []) ∷ example (2 ∷ 0 ∷ 0 ∷ []) ∷ []) is four 2 8 19 73
     ∷ []
@@ -618,7 +618,7 @@ firstNames = name 1 0 0 0 1 0 ∷ name 1 0 0 0 0 1 ∷ name 0 1 0 0 1 0 ∷ name
 abbrev isTrue : Bool → List ℤ
 isTrue b = cond b (pos 1 ∷ []) (pos 0 ∷ [])
 
-abbrev twoGroups : List Instance
+abbrev twoGroups : List (Instance ℤ)
 twoGroups =
     netNumbers strip stripCoefficients (framesOf strip (four 0 1 1 1 ++ four 1 2 1 1))
     is joined (λ numbers. numbers) (four 4 0 6 4 ∷ four 2 0 6 2 ∷ four 4 4 6 4 ∷ four 2 2 6 2 ∷ four 0 8 8 8 ∷ four 0 4 8 4 ∷ [])
@@ -650,5 +650,5 @@ twoGroups =
     ∷ counted (namedByPoint tile) is joined (λ n. n) (firstNames ++ (name 1 0 0 1 0 0 ∷ name 1 0 0 0 1 0 ∷ name 1 0 0 0 0 1 ∷ []))
     ∷ []
 
-abbrev pub instances : List Instance
+abbrev pub instances : List (Instance ℤ)
 instances = firstNets ++ handedNets ++ handedFrames ++ lentNets ++ weightPlaces ++ claims ++ fixedValues ++ twoGroups
