@@ -6,18 +6,19 @@ use mathlib.Core.List.{List, [], _∷_, _++_}
 use mathlib.Core.Logic.{_⊎_, inl, inr}
 use Prim.Native.Nat.{ℕ, zero, suc, _+_, _≤_, _<_}
 use native.Mathlib.Omega.{arith}
-use borrow.Author.Tests.{eqb-true, eqb-false, ltb-true, ltb-false, lt-ltb, ne-eqb}
+use borrow.Author.Tests.{eqb-true, eqb-false, ltb-true, ltb-false, lt-ltb, le-ltb, ne-eqb}
 use lib.ListN.{length, getD}
 use lib.Dec.{eqb, ltb}
 use Rattle.records.specs.Table.{slots, tagsIn, required, fieldRow}
 use Rattle.integers.proofs.All.{clash}
 use Rattle.machine.specs.Refusals.{firstFailed}
-use Rattle.records.specs.Reading.{bytesLeft, lengthAt, bytesAt, headOf, fieldNumber, tagAmong, isTag, standing, missingNumber, endExtent, extentAt, stay, readSlot, readEnd, concluded, onward, readingOf, readingNumber, readingValues}
-use Rattle.records.specs.Causes.{Begins, Comes, mayCome, anyRequired, Caused, TableVerdict}
+use Rattle.records.specs.Reading.{bytesLeft, lengthAt, bytesAt, headOf, fieldNumber, tagAmong, isTag, standing, missingNumber, endExtent, extentAt, stay, readSlot, readEnd, layoutOfExtents, concluded, onward, readingOf, readingNumber, readingValues}
+use Rattle.records.specs.Causes.{Begins, Comes, mayCome, anyRequired, Caused, TableVerdict, EachCause}
 use Rattle.records.specs.Causes.Begins.{first, after, without}
 use Rattle.records.specs.Causes.Comes.{comes}
 use Rattle.records.specs.Causes.Caused.{cutField, cutValue, wrongTag, absentTag, wrongLength, wrongValue}
 use Rattle.records.specs.declared.Extent.{Extent}
+use Rattle.records.specs.declared.Layout.{Layout}
 use Rattle.records.specs.declared.Slot.{Slot}
 use Rattle.records.specs.declared.Slot.the-variants.{KindSlot, FrameSlot, CoefficientsSlot, MovesSlot, PointSlot}
 use Rattle.records.specs.declared.Tag.{Tag}
@@ -249,6 +250,54 @@ table-verdict s = by-case (readingOf s) (outcome-of s)
     by-case : (r : Reading) → Outcome s r → TableVerdict s (readingNumber r) (readingValues r)
     by-case (Fields l) o = o
     by-case (Refused r) o = TableVerdict.refused o
+
+-- ---- each cause both ways
+
+module _ (s : List ℕ) where
+  abbrev NotRefused : Type 0
+  NotRefused = (l : Layout) × (readingOf s ≡ Fields l)
+
+  -- one reading is not two refusals, nor fields and a refusal
+  one-cause : {n m at place : ℕ} → Caused s n at → Caused s m place → (n ≡ m) × (at ≡ place)
+  one-cause {n} {m} {at} {place} c d =
+      let same : as-refused at n ≡ as-refused place m = sym (caused-refused c) ∙ caused-refused d in
+      (ap readingNumber same, ap (λ r. getD (readingValues r) 0 0) same)
+
+  no-cause : NotRefused → (number offset : ℕ) → Caused s number offset → ⊥
+  no-cause (l, e) number offset c =
+      let same : Fields l ≡ as-refused offset number = sym e ∙ caused-refused c in
+      let z : _≡_ {A = ℕ} 0 1 = cc in omega arith
+
+  -- the reading is one or the other, and a refusal has a cause
+  settled : ((number offset : ℕ) → Caused s number offset → ⊥) → NotRefused
+  settled none = by (readingOf s) refl
+    where
+      by : (r : Reading) → readingOf s ≡ r → NotRefused
+      by (Fields l) e = (l, e)
+      by (Refused r) e = absurd (none (r .number) (r .offset) (refused-caused s r e))
+
+  to-its-end : NotRefused → Begins s [] (length s)
+  to-its-end (l, e) = by (subst (Outcome s) e (outcome-of s))
+    where
+      by : {n : ℕ} {values : List ℕ} → TableVerdict s n values → Begins s [] (length s)
+      by (TableVerdict.accepted b) = b
+      by (TableVerdict.refused {number = n} {offset = at} c) = absurd (no-cause (l, e) n at c)
+
+  at-its-end : Begins s [] (length s) → NotRefused
+  unfolding readEnd concluded
+  at-its-end b =
+      let f = from-here b in
+      let none : ltb 0 (bytesLeft s (length s)) ≡ false = le-ltb 0 (bytesLeft s (length s)) (omega arith) in
+      (layoutOfExtents s (f .extents), f .is ∙ rw none refl)
+
+  pub each-cause : EachCause s
+  each-cause =
+      record {
+        refused = λ number offset. (λ e. refused-caused s (record { number = number; offset = offset }) e, caused-refused);
+        uncaused = (no-cause, settled);
+        whole = (to-its-end, at-its-end);
+        one = one-cause;
+      }
 
 -- a record of no bytes lacks tag 1, at its end, which is its beginning
 pub empty-record : readingOf [] ≡ Refused (record { number = 2; offset = 0 })

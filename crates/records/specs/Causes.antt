@@ -1,8 +1,8 @@
 -- The table of refusals (docs/SPECIFICATION.md, 'Refusals'), rows 1 to 6, as propositions about any bytes: where a field begins, and what is wrong there.
--- proofs/Causes.antt shows that a reading is refused with a number and an offset exactly where the row's cause is there.
+-- `EachCause` says both ways what they have to do with the reading; proofs/Causes.antt proves it.
 use Prim.Native.Nat.{ℕ, suc, _+_, _≤_, _<_}
 use mathlib.Core.Path.{_≡_}
-use mathlib.Core.Logic.{_⊎_}
+use mathlib.Core.Logic.{_⊎_, _↔_}
 use mathlib.Core.Bool.{Bool, true, false, not, _&&_, _||_}
 use mathlib.Core.List.{List, [], _∷_}
 use lib.ListN.{length, getD, drop}
@@ -13,11 +13,12 @@ use Rattle.kinds.specs.Frames.{framesAllowed}
 use Rattle.machine.specs.Refusals.{firstFailed}
 use Rattle.bytes.specs.Numbers.{frameNumbers}
 use Rattle.records.specs.Table.{slots, tagsIn, required, headLength, frameLength, coefficientsLength, pointLength, movesLengthAllowed, polynomialsOf, fieldRow}
-use Rattle.records.specs.Reading.{bytesLeft, lengthAt, bytesAt, headOf, fieldNumber, tagAmong, isTag, standing, extentIn, bytesOf, Inside}
+use Rattle.records.specs.Reading.{bytesLeft, lengthAt, bytesAt, headOf, fieldNumber, tagAmong, isTag, standing, extentIn, bytesOf, Inside, readingOf}
 use Rattle.records.specs.declared.Slot.{Slot}
 use Rattle.records.specs.declared.Tag.{Tag}
 use Rattle.records.specs.declared.Standing.the-variants.{Field, Nothing}
 use Rattle.records.specs.declared.Layout.{Layout}
+use Rattle.records.specs.declared.Reading.the-variants.{Fields, Refused}
 
 -- A field may begin at the offset: the fields before it are as they should be, and these slots have not had their turn yet.
 pub data Begins (s : List ℕ) : List Slot → ℕ → Type 0 where
@@ -65,7 +66,26 @@ pub data TableVerdict (s : List ℕ) : ℕ → List ℕ → Type 0 where
   accepted : Begins s [] (length s) → TableVerdict s 0 (headOf s .kind ∷ headOf s .degree ∷ headOf s .second ∷ [])
   refused : {number offset : ℕ} → Caused s number offset → TableVerdict s number (offset ∷ [])
 
--- the groups of vertices of an accepted record
+-- ---- each cause both ways
+
+-- What the causes have to do with the reading of any bytes. `Caused` is the first cause: `Begins` leads to its
+-- offset over fields that pass all their tests, and at that offset it is the first test that fails.
+pub record EachCause (s : List ℕ) : Type 0 where
+  -- refused with this number at this offset exactly if that cause is there
+  pub refused :
+      (number offset : ℕ)
+      → (readingOf s ≡ Refused (record { number = number; offset = offset })) ↔ Caused s number offset
+  -- not refused exactly if there is no cause
+  pub uncaused :
+      ((l : Layout) × (readingOf s ≡ Fields l)) ↔ ((number offset : ℕ) → Caused s number offset → ⊥)
+  -- and exactly if fields that pass all their tests go up to the record's very end, with no field lacking
+  pub whole : ((l : Layout) × (readingOf s ≡ Fields l)) ↔ Begins s [] (length s)
+  -- there are no two causes
+  pub one : {n m at place : ℕ} → Caused s n at → Caused s m place → (n ≡ m) × (at ≡ place)
+
+-- ---- what is known of a record that the reader does not refuse
+
+-- its groups of vertices
 abbrev pub layoutGroups : Layout → List Group
 layoutGroups l = groupsOf (l .kind) (l .degree) (l .second)
 
