@@ -1,3 +1,5 @@
 pub mod FirstNet
 pub mod Records
+pub mod Refusals
+pub mod Fields
 pub mod Demand3

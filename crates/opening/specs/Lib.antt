@@ -1,2 +1,4 @@
 pub mod Opening
+pub mod Refusals
+pub mod Fields
 pub mod Demand3
