@@ -1,4 +1,5 @@
--- What a lookup finds: in an accepted record the layout is the reader's, which has the fields by their bytes; in a refused one it is that of no fields.
+-- What a lookup finds: in an accepted record the layout is the reader's, which has the fields by their bytes;
+-- in a refused one it is that of no fields.
 use Prim.Native.Nat.{ℕ, zero, suc, _+_, _≤_, _<_}
 use native.Mathlib.Omega.{arith}
 use mathlib.Core.Path.{_≡_, refl, sym, ap, _∙_, subst}

@@ -1,5 +1,6 @@
--- Each refusal both ways. The first cause settles the refusal; and any bytes are either accepted or have a first cause: that of the reader, or the first net, by which alone a
--- record is judged that the reader does not refuse.
+-- Each refusal both ways. The first cause settles the refusal; and any bytes are either accepted or have a
+-- first cause: that of the reader, or the first net, by which alone a record is judged that the reader does
+-- not refuse.
 use Prim.Native.Nat.{ℕ, suc}
 use native.Mathlib.Omega.{arith}
 use mathlib.Core.Path.{_≡_, refl, sym, ap, _∙_, subst}

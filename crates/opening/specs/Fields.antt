@@ -1,6 +1,6 @@
--- What a lookup finds in any bytes (docs/RECORDS.md, 'The bytes'): 'hands back a field's value as part of the record
--- itself', and 'for an absent field or a refused record it is the empty part at the record's end'. It is said by the
--- bytes alone, for every tag number; which fields there can be does not matter.
+-- What a lookup finds in any bytes (docs/RECORDS.md, 'The bytes'): 'hands back a field's value as part of the
+-- record itself', and 'for an absent field or a refused record it is the empty part at the record's end'. It
+-- is said by the bytes alone, for every tag number; which fields there can be does not matter.
 use Prim.Native.Nat.{ℕ, _+_, _≤_}
 use mathlib.Core.Path.{_≡_}
 use mathlib.Core.Logic.{_↔_}
@@ -11,8 +11,8 @@ use Rattle.records.specs.Fields.{tagByte, lengthBytes, fieldEnd, FieldAt}
 use Rattle.records.specs.declared.Extent.{Extent}
 use Rattle.opening.specs.Opening.{refusalIn, fieldExtent}
 
--- The extent is that of the field which begins at the offset: the value begins after the tag and the two bytes of the
--- length, is as long as these say, and is all there. A field of length 0 has its place too.
+-- The extent is that of the field which begins at the offset: the value begins after the tag and the two
+-- bytes of the length, is as long as these say, and is all there. A field of length 0 has its place too.
 pub record Found (s : List ℕ) (at : ℕ) (e : Extent) : Type 0 where
   pub field : e .field ≡ at
   pub start : e .start ≡ at + 3

@@ -2,3 +2,4 @@ pub mod Opening
 pub mod Refusals
 pub mod Fields
 pub mod Demand3
+pub mod Samples

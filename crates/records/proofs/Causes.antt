@@ -298,7 +298,3 @@ module _ (s : List ℕ) where
         whole = (to-its-end, at-its-end);
         one = one-cause;
       }
-
--- a record of no bytes lacks tag 1, at its end, which is its beginning
-pub empty-record : readingOf [] ≡ Refused (record { number = 2; offset = 0 })
-empty-record = caused-refused (absentTag first refl)

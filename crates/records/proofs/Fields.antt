@@ -1,5 +1,6 @@
--- The fields by the bytes alone are those that the reader finds. The slots are followed from an offset on to the record's end, beside the fields from there on: each
--- slot that is filled has the next of them. A tag byte belongs to one slot, so the slot that a lookup stops at is the one that has the field.
+-- The fields by the bytes alone are those that the reader finds. The slots are followed from an offset on to
+-- the record's end, beside the fields from there on: each slot that is filled has the next of them. A tag
+-- byte belongs to one slot, so the slot that a lookup stops at is the one that has the field.
 use mathlib.Core.Path.{_≡_, refl, sym, _∙_, ap, subst}
 use mathlib.Core.Bool.{Bool, true, false, _||_, cond, or-true}
 use mathlib.Core.List.{List, [], _∷_}

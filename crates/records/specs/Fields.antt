@@ -1,5 +1,6 @@
--- The fields of a record by its bytes alone (docs/RECORDS.md, 'The bytes'): 'Fields follow each other: one tag byte,
--- a two-byte length, the value.' No table of fields is used here, so what is said with these words is said of any.
+-- The fields of a record by its bytes alone (docs/RECORDS.md, 'The bytes'): 'Fields follow each other: one
+-- tag byte, a two-byte length, the value.' No table of fields is used here, so what is said with these words
+-- is said of any.
 use Prim.Native.Nat.{ℕ, _+_, _*_, _<_}
 use mathlib.Core.List.{List}
 use lib.ListN.{length, getD}
@@ -16,8 +17,8 @@ lengthBytes s at = 256 * getD s (at + 1) 0 + getD s (at + 2) 0
 abbrev pub fieldEnd : List ℕ → ℕ → ℕ
 fieldEnd s at = at + 3 + lengthBytes s at
 
--- A field begins at the offset: the first one at 0, and each next one where the one before it ends, while bytes are
--- left.
+-- A field begins at the offset: the first one at 0, and each next one where the one before it ends, while
+-- bytes are left.
 pub data FieldAt (s : List ℕ) : ℕ → Type 0 where
   first : 0 < length s → FieldAt s 0
   next : {at : ℕ} → FieldAt s at → fieldEnd s at < length s → FieldAt s (fieldEnd s at)

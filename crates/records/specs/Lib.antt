@@ -2,3 +2,4 @@ pub mod Table
 pub mod Reading
 pub mod Fields
 pub mod Causes
+pub mod Samples
