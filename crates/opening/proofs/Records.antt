@@ -1,5 +1,6 @@
--- A record opened, by the reading: a refusal of the reader, a first net that is refused, and neither. Of a record that the reader accepts, kind, frame and coefficients are
--- accepted, so that only its first net is left to be judged.
+-- A record opened, by the reading: a refusal of the reader, a first net that is refused, and neither. Of a
+-- record that the reader does not refuse, kind, frame and coefficients are accepted, so that only its first
+-- net is left to be judged.
 use Prim.Native.Nat.{ℕ, zero, suc}
 use native.Mathlib.Omega.{arith}
 use mathlib.Core.Path.{_≡_, refl, sym, ap, ap₂, _∙_, subst}
@@ -119,7 +120,7 @@ pub reading-refused : (s : List ℕ) (lent : List ℤ) → enoughPlaces lent ≡
 unfolding refusalIn
 reading-refused s lent enough r e = opens-refused s lent r (refusal-wide s lent enough ∙ ap (λ x. refusalBy x s) e) (caused-some (refused-caused s r e))
 
--- ---- an accepted reading
+-- ---- a reading that is not refused
 
 module _ (s : List ℕ) (l : Layout) (e : readingOf s ≡ Fields l) where
   layout-is : layoutRead s ≡ l

@@ -1,6 +1,7 @@
 -- Demand 3 (docs/SPECIFICATION.md, 'The three demands') from the bytes of a record on.
 --
--- s are any bytes; they are an accepted record where `refusalIn` has number 0. The first net of its polynomials over its frame is what `open` puts into the lent places.
+-- s are any bytes; they are an accepted record where `refusalIn` has number 0. The first net of its
+-- polynomials over its frame is what `open` puts into the lent places.
 use Prim.Native.Nat.{ℕ}
 use mathlib.Core.Path.{_≡_}
 use mathlib.Core.List.{List}

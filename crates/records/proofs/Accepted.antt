@@ -1,4 +1,5 @@
--- What holds of an accepted record. The steps of the reader are followed back from the end: none was refused, so that what stands in each slot passed its tests.
+-- What holds of a record that the reader does not refuse. The steps of the reader are followed back from the
+-- end: none was refused, so that what stands in each slot passed its tests.
 use mathlib.Core.Path.{_≡_, refl, sym, _∙_, ap, ap₂, subst}
 use mathlib.Core.Bool.{Bool, true, false, cond}
 use mathlib.Core.List.{List, [], _∷_}

@@ -1,5 +1,5 @@
--- The table of refusals, both ways. The slots are followed from wherever a field begins: there a cause settles the reading, and a reading that is refused leads
--- back to its cause.
+-- The table of refusals, both ways. The slots are followed from wherever a field begins: there a cause
+-- settles the reading, and a reading that is refused leads back to its cause.
 use mathlib.Core.Path.{_≡_, refl, sym, _∙_, ap, subst}
 use mathlib.Core.Bool.{Bool, true, false, not, _&&_, _||_}
 use mathlib.Core.List.{List, [], _∷_, _++_}
@@ -65,7 +65,7 @@ from-here {s} (without {slot = slot} {rest = rest} {at = at} b h k) =
       is = f .is ∙ ap (onto rest s (f .extents)) (misses slot s (go at (f .last)) refl h k);
     }
 
--- a refusal is not readSlot back
+-- a refusal is not taken back
 refuses : (s : List ℕ) (step : Progress) (es : List Extent) → (step .number ≡ 0 → ⊥) → concluded s step es ≡ Refused (record { number = step .number; offset = step .at })
 unfolding concluded
 refuses s step es z = rw (ne-eqb (step .number) 0 z) refl
@@ -93,7 +93,7 @@ not-tag : (x : Standing) → isTag x ≡ false → x ≡ Nothing
 not-tag (Field tag) e = absurd (clash refl e)
 not-tag Nothing e = refl
 
--- no tag that may come, by the byte, stands here, and the record has not readEnd or a slot must still be filled
+-- no tag that may come, by the byte, stands here, and the record has not ended or a slot must still be filled
 module _ (s : List ℕ) (at byte : ℕ) (none : (slot : Slot) → isTag (tagAmong (tagsIn slot) byte) ≡ false → standing slot s at ≡ Nothing) where
   abbrev Stuck : List Slot → Type 0
   Stuck rest =
@@ -201,7 +201,7 @@ module _ {s : List ℕ} {tag : Tag} {at : ℕ} (c : Comes s tag at) where
           by-number zero v = absurd (z (by-value tag (headOf s) s at e r ∙ v))
           by-number (suc n) v = with-number (by-value tag (headOf s) s at e r ∙ v) (wrongValue c e r v)
 
--- what a reading tells: an accepted record is readSlot to its end, and a refused one has a cause
+-- what a reading tells: a record that is not refused is read to its end, and a refused one has a cause
 abbrev Outcome : List ℕ → Reading → Type 0
 Outcome s (Fields l) = TableVerdict s 0 (l .kind ∷ l .degree ∷ l .second ∷ [])
 Outcome s (Refused r) = Caused s (r .number) (r .offset)
@@ -214,7 +214,7 @@ at-rest {s} {at} e es b = by-case (ltb 0 (bytesLeft s at)) refl
     by-case true k =
         let some = ltb-true 0 (bytesLeft s at) k in
         subst (Outcome s) (sym (refuses s (stay (missingNumber true s at) s at) es (missing-refused s at))) (missing-caused b (λ h. refl) (λ z. absurd (omega arith)))
-    by-case false k = let none = ltb-false 0 (bytesLeft s at) k in let inside = reached b in TableVerdict.accepted (subst (Begins s []) (omega arith) b)
+    by-case false k = let none = ltb-false 0 (bytesLeft s at) k in let inside = reached b in TableVerdict.whole (subst (Begins s []) (omega arith) b)
 
 outcome : {s : List ℕ} (rest : List Slot) (at : ℕ) (e : Extent) (es : List Extent) → Begins s rest at → Outcome s (onward rest s (go at e) es)
 outcome [] at e es b = at-rest e es b
@@ -280,7 +280,7 @@ module _ (s : List ℕ) where
   to-its-end (l, e) = by (subst (Outcome s) e (outcome-of s))
     where
       by : {n : ℕ} {values : List ℕ} → TableVerdict s n values → Begins s [] (length s)
-      by (TableVerdict.accepted b) = b
+      by (TableVerdict.whole b) = b
       by (TableVerdict.refused {number = n} {offset = at} c) = absurd (no-cause (l, e) n at c)
 
   at-its-end : Begins s [] (length s) → NotRefused
