@@ -29,16 +29,19 @@ at-end is =
 
 module _ (s : List ℕ) (tag : ℕ) where
   -- the layout of an accepted record, and of another one
-  lookup-taken : (l : Layout) → readingOf s ≡ Fields l → refusalIn s .number ≡ 0 → fieldExtent s tag ≡ extentAmong slots s l tag
+  lookup-taken : (l : Layout) → readingOf s ≡ Fields l → refusalIn s .number ≡ 0
+      → fieldExtent s tag ≡ extentAmong slots s l tag
   unfolding fieldExtent openedLayout layoutRead
   lookup-taken l e none =
-      ap (λ k. extentAmong slots s (unlessRefused k (layoutRead s) (noFields s)) tag) none ∙ ap (λ r. extentAmong slots s (readingLayout r s) tag) e
+      ap (λ k. extentAmong slots s (unlessRefused k (layoutRead s) (noFields s)) tag) none
+      ∙ ap (λ r. extentAmong slots s (readingLayout r s) tag) e
 
   lookup-refused : (refusalIn s .number ≡ 0 → ⊥) → fieldExtent s tag ≡ endExtent s
   unfolding fieldExtent openedLayout
   lookup-refused some = by (refusalIn s .number) some
     where
-      by : (k : ℕ) → (k ≡ 0 → ⊥) → extentAmong slots s (unlessRefused k (layoutRead s) (noFields s)) tag ≡ endExtent s
+      by : (k : ℕ) → (k ≡ 0 → ⊥)
+          → extentAmong slots s (unlessRefused k (layoutRead s) (noFields s)) tag ≡ endExtent s
       by zero h = absurd (h refl)
       by (suc k) h = no-field s tag slots
 
@@ -47,7 +50,8 @@ module _ (s : List ℕ) (tag : ℕ) where
     found {at} f same =
         let read = accepted-read s accepted in
         let is : fieldExtent s tag ≡ record { field = at; start = at + 3; length = lengthBytes s at } =
-        lookup-taken (read .0) (read .1) accepted ∙ ap (extentAmong slots s (read .0)) (sym same) ∙ field-found s (read .0) (read .1) f in
+        lookup-taken (read .0) (read .1) accepted ∙ ap (extentAmong slots s (read .0)) (sym same)
+        ∙ field-found s (read .0) (read .1) f in
         record {
           field = ap (λ (e : Extent). e .field) is;
           start = ap (λ (e : Extent). e .start) is;
@@ -58,10 +62,12 @@ module _ (s : List ℕ) (tag : ℕ) where
 
     absent : ((at : ℕ) → FieldAt s at → tagByte s at ≡ tag → ⊥) → fieldExtent s tag ≡ endExtent s
     absent none =
-        let read = accepted-read s accepted in lookup-taken (read .0) (read .1) accepted ∙ field-absent s (read .0) (read .1) tag none
+        let read = accepted-read s accepted in lookup-taken (read .0) (read .1) accepted
+        ∙ field-absent s (read .0) (read .1) tag none
 
     not-both : AtEnd s (fieldExtent s tag) → (at : ℕ) → FieldAt s at → tagByte s at ≡ tag → ⊥
-    not-both end at f same = let h = found f same in let inside = field-inside f in omega (arith, end .field, h .field)
+    not-both end at f same =
+        let h = found f same in let inside = field-inside f in omega (arith, end .field, h .field)
 
   pub field-lookup : FieldLookup s tag
   field-lookup =

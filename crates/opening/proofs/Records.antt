@@ -193,10 +193,12 @@ accepted-read s none = by (readingOf s) refl
     by (Refused r) e = absurd (caused-some (refused-caused s r e) (sym (ap (λ x. refusalBy x s .number) e) ∙ none))
 
 -- and has numbers that are not refused
-pub accepted-numbers : (s : List ℕ) → refusalIn s .number ≡ 0 → firstRefusal (polynomialsIn s) (numbersIn s) ≡ 0
+pub accepted-numbers : (s : List ℕ) → refusalIn s .number ≡ 0
+    → firstRefusal (polynomialsIn s) (numbersIn s) ≡ 0
 accepted-numbers s none =
     let read = accepted-read s none in
-    sym (ap (λ r. r .number) (refusal-is s (read .0) (read .1)) ∙ refusal-number _ (read .0 .coefficients .field)) ∙ none
+    sym (ap (λ r. r .number) (refusal-is s (read .0) (read .1)) ∙ refusal-number _ (read .0 .coefficients .field))
+    ∙ none
 
 -- one that is opened has places enough, and is not refused
 pub opened-none : (s : List ℕ) (lent : List ℤ) → openedIn s lent .refusal .number ≡ 0 → (enoughPlaces lent ≡ true) × (refusalIn s .number ≡ 0)

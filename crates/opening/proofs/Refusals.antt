@@ -20,11 +20,13 @@ use Rattle.opening.specs.Refusals.FirstCause.{read, firstNet}
 use Rattle.opening.proofs.Records.{judged-before, refusal-is, caused-some}
 
 -- of a record that the reader does not refuse, the first net decides
-by-first-net : (s : List ℕ) (l : Layout) → readingOf s ≡ Fields l → {b : Bool} → netInRange (firstNetFrom s) ≡ b
+by-first-net : (s : List ℕ) (l : Layout) → readingOf s ≡ Fields l → {b : Bool}
+    → netInRange (firstNetFrom s) ≡ b
     → refusalIn s ≡ refusalAt (firstFailed (b else 7 ∷ [])) (l .coefficients .field)
 by-first-net s l e {b} is =
     refusal-is s l e
-    ∙ ap (λ k. refusalAt k (l .coefficients .field)) (judged-before s l e ∙ ap (λ b. firstFailed (b else 7 ∷ [])) is)
+    ∙ ap (λ k. refusalAt k (l .coefficients .field))
+    (judged-before s l e ∙ ap (λ b. firstFailed (b else 7 ∷ [])) is)
 
 abbrev at-number : ℕ → ℕ → Refusal
 at-number at n = record { number = n; offset = at }
@@ -61,7 +63,8 @@ module _ (s : List ℕ) where
       let same : at-number at n ≡ at-number place m = sym (cause-refuses c) ∙ cause-refuses d in
       (ap (λ (r : Refusal). r .number) same, ap (λ (r : Refusal). r .offset) same)
 
-  refused : (k offset : ℕ) → refusalIn s ≡ record { number = suc k; offset = offset } → FirstCause s (suc k) offset
+  refused : (k offset : ℕ) → refusalIn s ≡ record { number = suc k; offset = offset }
+      → FirstCause s (suc k) offset
   refused k offset e = by (outcome s)
     where
       by : Outcome s → FirstCause s (suc k) offset
@@ -77,10 +80,13 @@ module _ (s : List ℕ) where
       by (taken z) = z
       by (stopped {n = n} {at = at} c) = absurd (none n at c)
 
+  uncaused : refusalIn s .number ≡ 0 → (number offset : ℕ) → FirstCause s number offset → ⊥
+  uncaused z number offset c = cause-some c (sym (ap (λ (r : Refusal). r .number) (cause-refuses c)) ∙ z)
+
   pub each-refusal : EachRefusal s
   each-refusal =
       record {
         refused = λ k offset. (refused k offset, cause-refuses);
-        accepted = (λ z number offset c. cause-some c (sym (ap (λ (r : Refusal). r .number) (cause-refuses c)) ∙ z), accepted);
+        accepted = (uncaused, accepted);
         one = one-cause;
       }

@@ -16,7 +16,14 @@ use Rattle.bytes.specs.Numbers.{frameNumbers, coefficientsOf}
 use Rattle.records.specs.Reading.{readingOf}
 use Rattle.records.specs.Samples.{Instance, Right}
 use Rattle.records.proofs.Samples.{agrees, right-by-test}
-use Rattle.opening.specs.Opening.{layoutRead, polynomialsIn, numbersIn, refusalIn, openedLayout, fieldExtent}
+use Rattle.opening.specs.Opening.{
+  layoutRead,
+  polynomialsIn,
+  numbersIn,
+  refusalIn,
+  openedLayout,
+  fieldExtent,
+}
 use Rattle.opening.specs.Samples.{lookup, refusal, instances}
 
 instances-agree : all agrees instances ≡ true

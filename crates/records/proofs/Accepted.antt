@@ -86,9 +86,11 @@ not-stopped before next z = by (eqb (before .number) 0) refl z
     by true k z = eqb-true (before .number) 0 k
     by false k z = z
 
-pub earlier : (slot : Slot) (s : List ℕ) (before : Progress) → readSlot slot (headOf s) s before .number ≡ 0 → before .number ≡ 0
+pub earlier : (slot : Slot) (s : List ℕ) (before : Progress) → readSlot slot (headOf s) s before .number ≡ 0
+    → before .number ≡ 0
 unfolding readSlot
-earlier slot s before z = not-stopped before (readStanding (standing slot s (before .at)) slot (headOf s) s (before .at)) z
+earlier slot s before z =
+    not-stopped before (readStanding (standing slot s (before .at)) slot (headOf s) s (before .at)) z
 
 back : (slot : Slot) (s : List ℕ) (before : Progress) → readSlot slot (headOf s) s before .number ≡ 0
     → (before .number ≡ 0) × Went slot s (before .at) (readSlot slot (headOf s) s before .extent)
@@ -190,16 +192,19 @@ module _ (s : List ℕ) where
   -- a reading that is not refused: the steps gave its layout, and none of them was
   pub by-steps : (l : Layout) → readingOf s ≡ Fields l → (layout ≡ l) × (readEnd s step5 .number ≡ 0)
   unfolding concluded
-  by-steps l e = by (eqb (readEnd s step5 .number) 0) refl (sym (all-steps s refl refl refl refl refl refl refl) ∙ e)
+  by-steps l e =
+      by (eqb (readEnd s step5 .number) 0) refl (sym (all-steps s refl refl refl refl refl refl refl) ∙ e)
     where
       by : (b : Bool) → eqb (readEnd s step5 .number) 0 ≡ b
-          → cond b (Fields layout) (Refused (record { number = readEnd s step5 .number; offset = readEnd s step5 .at })) ≡ Fields l
+          → cond b (Fields layout) (Refused (record { number = readEnd s step5 .number; offset = readEnd s step5 .at }))
+          ≡ Fields l
           → (layout ≡ l) × (readEnd s step5 .number ≡ 0)
       by true z k = (cc, eqb-true (readEnd s step5 .number) 0 z)
       by false z k = let z : _≡_ {A = ℕ} 0 1 = cc in absurd (omega arith)
 
   pub accepted-sound : (l : Layout) → readingOf s ≡ Fields l → Sound s l
-  accepted-sound l e = let steps = by-steps l e in subst (Sound s) (steps .0) (whole-layout (at-end (steps .1)))
+  accepted-sound l e =
+      let steps = by-steps l e in subst (Sound s) (steps .0) (whole-layout (at-end (steps .1)))
 
 -- ---- every field's value lies within the record
 

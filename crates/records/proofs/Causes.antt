@@ -293,7 +293,8 @@ module _ (s : List ℕ) where
   pub each-cause : EachCause s
   each-cause =
       record {
-        refused = λ number offset. (λ e. refused-caused s (record { number = number; offset = offset }) e, caused-refused);
+        refused =
+            λ number offset. (refused-caused s (record { number = number; offset = offset }), caused-refused);
         uncaused = (no-cause, settled);
         whole = (to-its-end, at-its-end);
         one = one-cause;

@@ -25,13 +25,15 @@ same-equal [] [] h = refl
 same-equal [] (y ∷ ys) h = absurd (clash h refl)
 same-equal (x ∷ xs) [] h = absurd (clash h refl)
 same-equal (x ∷ xs) (y ∷ ys) h =
-    let both = and-parts (eqb x y) (same xs ys) h in ap₂ _∷_ (eqb-true x y (both .0)) (same-equal xs ys (both .1))
+    let both = and-parts (eqb x y) (same xs ys) h in
+    ap₂ _∷_ (eqb-true x y (both .0)) (same-equal xs ys (both .1))
 
 abbrev pub agrees : Instance → Bool
 agrees (given is must) = same given must
 
 -- a table is right if the test passes
-pub right-by-test : (rows : List Instance) → all agrees rows ≡ true → (i : Instance) → List·Memᴰ i rows → Right i
+pub right-by-test : (rows : List Instance) → all agrees rows ≡ true → (i : Instance) → List·Memᴰ i rows
+    → Right i
 right-by-test rows h i m = by i (all-at agrees rows h i m)
   where
     by : (i : Instance) → agrees i ≡ true → Right i

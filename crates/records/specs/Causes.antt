@@ -66,7 +66,9 @@ pub data Caused (s : List ℕ) : ℕ → ℕ → Type 0 where
 -- The table's verdict on any bytes, a number and the values with it: 0 with kind and degrees where the fields
 -- go up to the record's very end, or a row's number with the offset where its cause is there.
 pub data TableVerdict (s : List ℕ) : ℕ → List ℕ → Type 0 where
-  whole : Begins s [] (length s) → TableVerdict s 0 (headOf s .kind ∷ headOf s .degree ∷ headOf s .second ∷ [])
+  whole :
+      Begins s [] (length s)
+      → TableVerdict s 0 (headOf s .kind ∷ headOf s .degree ∷ headOf s .second ∷ [])
   refused : {number offset : ℕ} → Caused s number offset → TableVerdict s number (offset ∷ [])
 
 -- ---- each cause both ways

@@ -105,7 +105,8 @@ rectangle = degreesField ++ pairsField ++ productsField ++ (5 ∷ 0 ∷ 8 ∷ pa
 abbrev whole : List Instance
 whole =
     reading circle is (0 ∷ 1 ∷ 2 ∷ 0 ∷ (at 0 3 2 ++ at 5 8 8 ++ at 16 19 48 ++ at 74 74 0 ++ at 67 70 4))
-    ∷ reading fourFields is (0 ∷ 1 ∷ 2 ∷ 0 ∷ (at 0 3 2 ++ at 5 8 8 ++ at 16 19 48 ++ at 67 70 8 ++ at 78 78 0))
+    ∷ reading fourFields
+    is (0 ∷ 1 ∷ 2 ∷ 0 ∷ (at 0 3 2 ++ at 5 8 8 ++ at 16 19 48 ++ at 67 70 8 ++ at 78 78 0))
     ∷ reading (fourFields ++ pointField)
     is (0 ∷ 1 ∷ 2 ∷ 0 ∷ (at 0 3 2 ++ at 5 8 8 ++ at 16 19 48 ++ at 67 70 8 ++ at 78 81 4))
     ∷ reading rectangle
@@ -161,7 +162,8 @@ tags =
 -- a field behind others, at an offset, with other lengths: its own plus 0x0400, 0x8000 and 0xff00
 abbrev otherLengths : List ℕ → List ℕ → ℕ → List Instance
 otherLengths before field offset =
-    map (λ high. reading (before ++ (getD field 0 0 ∷ high ∷ drop 2 field)) is refused 3 offset) (4 ∷ 128 ∷ 255 ∷ [])
+    map (λ high. reading (before ++ (getD field 0 0 ∷ high ∷ drop 2 field)) is refused 3 offset)
+    (4 ∷ 128 ∷ 255 ∷ [])
 
 abbrev lengths : List Instance
 lengths =
@@ -186,6 +188,13 @@ lengths =
     ∷ reading (threeFields ++ (4 ∷ 1 ∷ 8 ∷ replicate 264 0)) is refused 3 67
     ∷ [])
 
+-- a frame with the number 5, and coefficients the first of which is 1048577
+abbrev wrongFrame : List ℕ
+wrongFrame = 2 ∷ 0 ∷ 8 ∷ 0 ∷ 5 ∷ 0 ∷ 1 ∷ 0 ∷ 1 ∷ 0 ∷ 1 ∷ []
+
+abbrev wrongCoefficients : List ℕ
+wrongCoefficients = 3 ∷ 0 ∷ 48 ∷ 0 ∷ 16 ∷ 0 ∷ 1 ∷ replicate 44 0
+
 abbrev values : List Instance
 values =
     -- a kind that is none, a degree outside, and a degree too many or too few
@@ -198,17 +207,18 @@ values =
     ∷ reading (1 ∷ 0 ∷ 3 ∷ 2 ∷ 2 ∷ 0 ∷ []) is refused 4 0
     ∷ reading (1 ∷ 0 ∷ 2 ∷ 3 ∷ 2 ∷ []) is refused 4 0
     -- a frame number of 5, one of -5, and a determinant of 0, also of the second pair alone
-    ∷ reading (kindField ++ (2 ∷ 0 ∷ 8 ∷ 0 ∷ 5 ∷ 0 ∷ 1 ∷ 0 ∷ 1 ∷ 0 ∷ 1 ∷ [])) is refused 5 5
+    ∷ reading (kindField ++ wrongFrame) is refused 5 5
     ∷ reading (kindField ++ (2 ∷ 0 ∷ 8 ∷ 255 ∷ 251 ∷ 0 ∷ 1 ∷ 0 ∷ 1 ∷ 0 ∷ 1 ∷ [])) is refused 5 5
     ∷ reading (kindField ++ (2 ∷ 0 ∷ 8 ∷ 0 ∷ 1 ∷ 0 ∷ 2 ∷ 0 ∷ 2 ∷ 0 ∷ 4 ∷ [])) is refused 5 5
     ∷ reading (degreesField ++ (2 ∷ 0 ∷ 16 ∷ (pair ++ replicate 8 0))) is refused 5 6
     -- a coefficient of 1048577, the first, and one in the last monomial
-    ∷ reading (twoFields ++ (3 ∷ 0 ∷ 48 ∷ 0 ∷ 16 ∷ 0 ∷ 1 ∷ replicate 44 0)) is refused 6 16
-    ∷ reading (degreesField ++ pairsField ++ (3 ∷ 0 ∷ 96 ∷ (replicate 92 0 ++ (0 ∷ 16 ∷ 0 ∷ 1 ∷ [])))) is refused 6 25
+    ∷ reading (twoFields ++ wrongCoefficients) is refused 6 16
+    ∷ reading (degreesField ++ pairsField ++ (3 ∷ 0 ∷ 96 ∷ (replicate 92 0 ++ (0 ∷ 16 ∷ 0 ∷ 1 ∷ []))))
+    is refused 6 25
     -- each before a length of the next field that is not allowed
     ∷ reading ((1 ∷ 0 ∷ 2 ∷ 4 ∷ 2 ∷ []) ++ (2 ∷ 4 ∷ 8 ∷ replicate 8 0)) is refused 4 0
-    ∷ reading (kindField ++ (2 ∷ 0 ∷ 8 ∷ 0 ∷ 5 ∷ 0 ∷ 1 ∷ 0 ∷ 1 ∷ 0 ∷ 1 ∷ []) ++ (3 ∷ 4 ∷ 48 ∷ [])) is refused 5 5
-    ∷ reading (twoFields ++ (3 ∷ 0 ∷ 48 ∷ 0 ∷ 16 ∷ 0 ∷ 1 ∷ replicate 44 0) ++ (4 ∷ 4 ∷ 8 ∷ [])) is refused 6 16
+    ∷ reading (kindField ++ wrongFrame ++ (3 ∷ 4 ∷ 48 ∷ [])) is refused 5 5
+    ∷ reading (twoFields ++ wrongCoefficients ++ (4 ∷ 4 ∷ 8 ∷ [])) is refused 6 16
     ∷ []
 
 abbrev pub instances : List Instance
