@@ -1,5 +1,6 @@
--- A record opened, by the reading: a refusal of the reader, a first net that is refused, and neither. Of a record that the reader accepts, kind, frame and coefficients are
--- accepted, so that only its first net is left to be judged.
+-- A record opened, by the reading: a refusal of the reader, a first net that is refused, and neither. Of a
+-- record that the reader does not refuse, kind, frame and coefficients are accepted, so that only its first
+-- net is left to be judged.
 use Prim.Native.Nat.{ℕ, zero, suc}
 use native.Mathlib.Omega.{arith}
 use mathlib.Core.Path.{_≡_, refl, sym, ap, ap₂, _∙_, subst}
@@ -106,7 +107,7 @@ opens-short s lent short =
 -- ---- a refused reading
 
 -- no cause has number 0
-caused-some : {s : List ℕ} {n at : ℕ} → Caused s n at → n ≡ 0 → ⊥
+pub caused-some : {s : List ℕ} {n at : ℕ} → Caused s n at → n ≡ 0 → ⊥
 caused-some (Caused.cutField b h k) z = omega arith
 caused-some (Caused.cutValue b h k) z = omega arith
 caused-some (Caused.wrongTag b h k) z = omega arith
@@ -119,7 +120,7 @@ pub reading-refused : (s : List ℕ) (lent : List ℤ) → enoughPlaces lent ≡
 unfolding refusalIn
 reading-refused s lent enough r e = opens-refused s lent r (refusal-wide s lent enough ∙ ap (λ x. refusalBy x s) e) (caused-some (refused-caused s r e))
 
--- ---- an accepted reading
+-- ---- a reading that is not refused
 
 module _ (s : List ℕ) (l : Layout) (e : readingOf s ≡ Fields l) where
   layout-is : layoutRead s ≡ l
@@ -182,14 +183,22 @@ module _ (s : List ℕ) (l : Layout) (e : readingOf s ≡ Fields l) where
 
 -- ---- any record
 
--- one that is not refused has numbers that are not
-pub accepted-numbers : (s : List ℕ) → refusalIn s .number ≡ 0 → firstRefusal (polynomialsIn s) (numbersIn s) ≡ 0
+-- one that is not refused is one that the reader does not refuse
+pub accepted-read : (s : List ℕ) → refusalIn s .number ≡ 0 → (l : Layout) × (readingOf s ≡ Fields l)
 unfolding refusalIn
-accepted-numbers s none = by (readingOf s) refl
+accepted-read s none = by (readingOf s) refl
   where
-    by : (r : Reading) → readingOf s ≡ r → firstRefusal (polynomialsIn s) (numbersIn s) ≡ 0
-    by (Fields l) e = sym (ap (λ r. r .number) (refusal-is s l e) ∙ refusal-number _ (l .coefficients .field)) ∙ none
+    by : (r : Reading) → readingOf s ≡ r → (l : Layout) × (readingOf s ≡ Fields l)
+    by (Fields l) e = (l, e)
     by (Refused r) e = absurd (caused-some (refused-caused s r e) (sym (ap (λ x. refusalBy x s .number) e) ∙ none))
+
+-- and has numbers that are not refused
+pub accepted-numbers : (s : List ℕ) → refusalIn s .number ≡ 0
+    → firstRefusal (polynomialsIn s) (numbersIn s) ≡ 0
+accepted-numbers s none =
+    let read = accepted-read s none in
+    sym (ap (λ r. r .number) (refusal-is s (read .0) (read .1)) ∙ refusal-number _ (read .0 .coefficients .field))
+    ∙ none
 
 -- one that is opened has places enough, and is not refused
 pub opened-none : (s : List ℕ) (lent : List ℤ) → openedIn s lent .refusal .number ≡ 0 → (enoughPlaces lent ≡ true) × (refusalIn s .number ≡ 0)
@@ -212,10 +221,14 @@ layout-inside s slot = by (refusalIn s .number) (readingOf s) refl
     by zero (Refused r) e = none-inside s slot
     by (suc k) r e = none-inside s slot
 
+pub extent-inside : (s : List ℕ) (tag : ℕ) → Inside s (fieldExtent s tag)
+unfolding fieldExtent
+extent-inside s tag = found-inside s (openedLayout s) (layout-inside s) tag slots
+
 -- what is found in the layout of a record opened in places enough
 pub extent-found : (s : List ℕ) (lent : List ℤ) (tag : ℕ) {o : Opened} {e : Extent} → enoughPlaces lent ≡ true → o ≡ openedIn s lent → e ≡ extentAmong slots s (o .layout) tag
     → (e ≡ fieldExtent s tag) × Inside s e
 unfolding fieldExtent openedLayout
 extent-found s lent tag {o} {e} enough opened found =
     let is : e ≡ fieldExtent s tag = found ∙ ap (λ x. extentAmong slots s (x .layout) tag) (opened ∙ opened-wide s lent enough) in
-    (is, subst (Inside s) (sym is) (found-inside s (openedLayout s) (layout-inside s) tag slots))
+    (is, subst (Inside s) (sym is) (extent-inside s tag))

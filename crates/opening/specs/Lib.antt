@@ -1,2 +1,5 @@
 pub mod Opening
+pub mod Refusals
+pub mod Fields
 pub mod Demand3
+pub mod Samples

@@ -1,4 +1,5 @@
--- What holds of an accepted record. The steps of the reader are followed back from the end: none was refused, so that what stands in each slot passed its tests.
+-- What holds of a record that the reader does not refuse. The steps of the reader are followed back from the
+-- end: none was refused, so that what stands in each slot passed its tests.
 use mathlib.Core.Path.{_≡_, refl, sym, _∙_, ap, ap₂, subst}
 use mathlib.Core.Bool.{Bool, true, false, cond}
 use mathlib.Core.List.{List, [], _∷_}
@@ -85,11 +86,15 @@ not-stopped before next z = by (eqb (before .number) 0) refl z
     by true k z = eqb-true (before .number) 0 k
     by false k z = z
 
+pub earlier : (slot : Slot) (s : List ℕ) (before : Progress) → readSlot slot (headOf s) s before .number ≡ 0
+    → before .number ≡ 0
+unfolding readSlot
+earlier slot s before z =
+    not-stopped before (readStanding (standing slot s (before .at)) slot (headOf s) s (before .at)) z
+
 back : (slot : Slot) (s : List ℕ) (before : Progress) → readSlot slot (headOf s) s before .number ≡ 0
     → (before .number ≡ 0) × Went slot s (before .at) (readSlot slot (headOf s) s before .extent)
-unfolding readSlot
-back slot s before z =
-    let none = not-stopped before (readStanding (standing slot s (before .at)) slot (headOf s) s (before .at)) z in (none, went (stepped slot s before none) z)
+back slot s before z = let none = earlier slot s before z in (none, went (stepped slot s before none) z)
 
 -- ---- what the tests of the fields say
 
@@ -121,22 +126,22 @@ coefficients-in {s} {e} h =
 -- ---- all slots
 
 module _ (s : List ℕ) where
-  abbrev step1 : Progress
+  abbrev pub step1 : Progress
   step1 = readSlot KindSlot (headOf s) s (stay 0 s 0)
 
-  abbrev step2 : Progress
+  abbrev pub step2 : Progress
   step2 = readSlot FrameSlot (headOf s) s step1
 
-  abbrev step3 : Progress
+  abbrev pub step3 : Progress
   step3 = readSlot CoefficientsSlot (headOf s) s step2
 
-  abbrev step4 : Progress
+  abbrev pub step4 : Progress
   step4 = readSlot MovesSlot (headOf s) s step3
 
-  abbrev step5 : Progress
+  abbrev pub step5 : Progress
   step5 = readSlot PointSlot (headOf s) s step4
 
-  abbrev layout : Layout
+  abbrev pub layout : Layout
   layout = layoutOfExtents s (step1 .extent ∷ step2 .extent ∷ step3 .extent ∷ step4 .extent ∷ step5 .extent ∷ [])
 
   whole-layout : step5 .number ≡ 0 → Sound s layout
@@ -180,18 +185,26 @@ module _ (s : List ℕ) where
       within-all l a b c d e PointSlot = e
 
   -- the end is not refused, nor then is the last slot
-  at-end : readEnd s step5 .number ≡ 0 → step5 .number ≡ 0
+  pub at-end : readEnd s step5 .number ≡ 0 → step5 .number ≡ 0
   unfolding readEnd
   at-end z = not-stopped step5 (stay (missingNumber (ltb 0 (bytesLeft s (step5 .at))) s (step5 .at)) s (step5 .at)) z
 
-  pub accepted-sound : (l : Layout) → readingOf s ≡ Fields l → Sound s l
+  -- a reading that is not refused: the steps gave its layout, and none of them was
+  pub by-steps : (l : Layout) → readingOf s ≡ Fields l → (layout ≡ l) × (readEnd s step5 .number ≡ 0)
   unfolding concluded
-  accepted-sound l e = by (eqb (readEnd s step5 .number) 0) refl (sym (all-steps s refl refl refl refl refl refl refl) ∙ e)
+  by-steps l e =
+      by (eqb (readEnd s step5 .number) 0) refl (sym (all-steps s refl refl refl refl refl refl refl) ∙ e)
     where
       by : (b : Bool) → eqb (readEnd s step5 .number) 0 ≡ b
-          → cond b (Fields layout) (Refused (record { number = readEnd s step5 .number; offset = readEnd s step5 .at })) ≡ Fields l → Sound s l
-      by true z k = subst (Sound s) (cc) (whole-layout (at-end (eqb-true (readEnd s step5 .number) 0 z)))
+          → cond b (Fields layout) (Refused (record { number = readEnd s step5 .number; offset = readEnd s step5 .at }))
+          ≡ Fields l
+          → (layout ≡ l) × (readEnd s step5 .number ≡ 0)
+      by true z k = (cc, eqb-true (readEnd s step5 .number) 0 z)
       by false z k = let z : _≡_ {A = ℕ} 0 1 = cc in absurd (omega arith)
+
+  pub accepted-sound : (l : Layout) → readingOf s ≡ Fields l → Sound s l
+  accepted-sound l e =
+      let steps = by-steps l e in subst (Sound s) (steps .0) (whole-layout (at-end (steps .1)))
 
 -- ---- every field's value lies within the record
 

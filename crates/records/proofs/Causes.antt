@@ -1,23 +1,24 @@
--- The table of refusals, both ways. The slots are followed from wherever a field begins: there a cause settles the reading, and a reading that is refused leads
--- back to its cause.
+-- The table of refusals, both ways. The slots are followed from wherever a field begins: there a cause
+-- settles the reading, and a reading that is refused leads back to its cause.
 use mathlib.Core.Path.{_≡_, refl, sym, _∙_, ap, subst}
 use mathlib.Core.Bool.{Bool, true, false, not, _&&_, _||_}
 use mathlib.Core.List.{List, [], _∷_, _++_}
 use mathlib.Core.Logic.{_⊎_, inl, inr}
 use Prim.Native.Nat.{ℕ, zero, suc, _+_, _≤_, _<_}
 use native.Mathlib.Omega.{arith}
-use borrow.Author.Tests.{eqb-true, eqb-false, ltb-true, ltb-false, lt-ltb, ne-eqb}
+use borrow.Author.Tests.{eqb-true, eqb-false, ltb-true, ltb-false, lt-ltb, le-ltb, ne-eqb}
 use lib.ListN.{length, getD}
 use lib.Dec.{eqb, ltb}
 use Rattle.records.specs.Table.{slots, tagsIn, required, fieldRow}
 use Rattle.integers.proofs.All.{clash}
 use Rattle.machine.specs.Refusals.{firstFailed}
-use Rattle.records.specs.Reading.{bytesLeft, lengthAt, bytesAt, headOf, fieldNumber, tagAmong, isTag, standing, missingNumber, endExtent, extentAt, stay, readSlot, readEnd, concluded, onward, readingOf, readingNumber, readingValues}
-use Rattle.records.specs.Causes.{Begins, Comes, mayCome, anyRequired, Caused, TableVerdict}
+use Rattle.records.specs.Reading.{bytesLeft, lengthAt, bytesAt, headOf, fieldNumber, tagAmong, isTag, standing, missingNumber, endExtent, extentAt, stay, readSlot, readEnd, layoutOfExtents, concluded, onward, readingOf, readingNumber, readingValues}
+use Rattle.records.specs.Causes.{Begins, Comes, mayCome, anyRequired, Caused, TableVerdict, EachCause}
 use Rattle.records.specs.Causes.Begins.{first, after, without}
 use Rattle.records.specs.Causes.Comes.{comes}
 use Rattle.records.specs.Causes.Caused.{cutField, cutValue, wrongTag, absentTag, wrongLength, wrongValue}
 use Rattle.records.specs.declared.Extent.{Extent}
+use Rattle.records.specs.declared.Layout.{Layout}
 use Rattle.records.specs.declared.Slot.{Slot}
 use Rattle.records.specs.declared.Slot.the-variants.{KindSlot, FrameSlot, CoefficientsSlot, MovesSlot, PointSlot}
 use Rattle.records.specs.declared.Tag.{Tag}
@@ -64,7 +65,7 @@ from-here {s} (without {slot = slot} {rest = rest} {at = at} b h k) =
       is = f .is ∙ ap (onto rest s (f .extents)) (misses slot s (go at (f .last)) refl h k);
     }
 
--- a refusal is not readSlot back
+-- a refusal is not taken back
 refuses : (s : List ℕ) (step : Progress) (es : List Extent) → (step .number ≡ 0 → ⊥) → concluded s step es ≡ Refused (record { number = step .number; offset = step .at })
 unfolding concluded
 refuses s step es z = rw (ne-eqb (step .number) 0 z) refl
@@ -92,7 +93,7 @@ not-tag : (x : Standing) → isTag x ≡ false → x ≡ Nothing
 not-tag (Field tag) e = absurd (clash refl e)
 not-tag Nothing e = refl
 
--- no tag that may come, by the byte, stands here, and the record has not readEnd or a slot must still be filled
+-- no tag that may come, by the byte, stands here, and the record has not ended or a slot must still be filled
 module _ (s : List ℕ) (at byte : ℕ) (none : (slot : Slot) → isTag (tagAmong (tagsIn slot) byte) ≡ false → standing slot s at ≡ Nothing) where
   abbrev Stuck : List Slot → Type 0
   Stuck rest =
@@ -200,7 +201,7 @@ module _ {s : List ℕ} {tag : Tag} {at : ℕ} (c : Comes s tag at) where
           by-number zero v = absurd (z (by-value tag (headOf s) s at e r ∙ v))
           by-number (suc n) v = with-number (by-value tag (headOf s) s at e r ∙ v) (wrongValue c e r v)
 
--- what a reading tells: an accepted record is readSlot to its end, and a refused one has a cause
+-- what a reading tells: a record that is not refused is read to its end, and a refused one has a cause
 abbrev Outcome : List ℕ → Reading → Type 0
 Outcome s (Fields l) = TableVerdict s 0 (l .kind ∷ l .degree ∷ l .second ∷ [])
 Outcome s (Refused r) = Caused s (r .number) (r .offset)
@@ -213,7 +214,7 @@ at-rest {s} {at} e es b = by-case (ltb 0 (bytesLeft s at)) refl
     by-case true k =
         let some = ltb-true 0 (bytesLeft s at) k in
         subst (Outcome s) (sym (refuses s (stay (missingNumber true s at) s at) es (missing-refused s at))) (missing-caused b (λ h. refl) (λ z. absurd (omega arith)))
-    by-case false k = let none = ltb-false 0 (bytesLeft s at) k in let inside = reached b in TableVerdict.accepted (subst (Begins s []) (omega arith) b)
+    by-case false k = let none = ltb-false 0 (bytesLeft s at) k in let inside = reached b in TableVerdict.whole (subst (Begins s []) (omega arith) b)
 
 outcome : {s : List ℕ} (rest : List Slot) (at : ℕ) (e : Extent) (es : List Extent) → Begins s rest at → Outcome s (onward rest s (go at e) es)
 outcome [] at e es b = at-rest e es b
@@ -250,6 +251,51 @@ table-verdict s = by-case (readingOf s) (outcome-of s)
     by-case (Fields l) o = o
     by-case (Refused r) o = TableVerdict.refused o
 
--- a record of no bytes lacks tag 1, at its end, which is its beginning
-pub empty-record : readingOf [] ≡ Refused (record { number = 2; offset = 0 })
-empty-record = caused-refused (absentTag first refl)
+-- ---- each cause both ways
+
+module _ (s : List ℕ) where
+  abbrev NotRefused : Type 0
+  NotRefused = (l : Layout) × (readingOf s ≡ Fields l)
+
+  -- one reading is not two refusals, nor fields and a refusal
+  one-cause : {n m at place : ℕ} → Caused s n at → Caused s m place → (n ≡ m) × (at ≡ place)
+  one-cause {n} {m} {at} {place} c d =
+      let same : as-refused at n ≡ as-refused place m = sym (caused-refused c) ∙ caused-refused d in
+      (ap readingNumber same, ap (λ r. getD (readingValues r) 0 0) same)
+
+  no-cause : NotRefused → (number offset : ℕ) → Caused s number offset → ⊥
+  no-cause (l, e) number offset c =
+      let same : Fields l ≡ as-refused offset number = sym e ∙ caused-refused c in
+      let z : _≡_ {A = ℕ} 0 1 = cc in omega arith
+
+  -- the reading is one or the other, and a refusal has a cause
+  settled : ((number offset : ℕ) → Caused s number offset → ⊥) → NotRefused
+  settled none = by (readingOf s) refl
+    where
+      by : (r : Reading) → readingOf s ≡ r → NotRefused
+      by (Fields l) e = (l, e)
+      by (Refused r) e = absurd (none (r .number) (r .offset) (refused-caused s r e))
+
+  to-its-end : NotRefused → Begins s [] (length s)
+  to-its-end (l, e) = by (subst (Outcome s) e (outcome-of s))
+    where
+      by : {n : ℕ} {values : List ℕ} → TableVerdict s n values → Begins s [] (length s)
+      by (TableVerdict.whole b) = b
+      by (TableVerdict.refused {number = n} {offset = at} c) = absurd (no-cause (l, e) n at c)
+
+  at-its-end : Begins s [] (length s) → NotRefused
+  unfolding readEnd concluded
+  at-its-end b =
+      let f = from-here b in
+      let none : ltb 0 (bytesLeft s (length s)) ≡ false = le-ltb 0 (bytesLeft s (length s)) (omega arith) in
+      (layoutOfExtents s (f .extents), f .is ∙ rw none refl)
+
+  pub each-cause : EachCause s
+  each-cause =
+      record {
+        refused =
+            λ number offset. (refused-caused s (record { number = number; offset = offset }), caused-refused);
+        uncaused = (no-cause, settled);
+        whole = (to-its-end, at-its-end);
+        one = one-cause;
+      }

@@ -2,4 +2,5 @@ pub mod Heads
 pub mod Slots
 pub mod Causes
 pub mod Accepted
+pub mod Fields
 pub mod Samples

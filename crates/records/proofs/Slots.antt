@@ -72,7 +72,7 @@ module _ (tag : Tag) (h : Head) (s : List ℕ) (at : ℕ) where
       by-length true e = by-room (leb (lengthAt s at) (bytesLeft s (at + 3))) refl e
       by-length false e = badLength e
 
-  -- not refused: every test field-passes
+  -- not refused: every test passes
   pub record Passes : Type 0 where
     pub long : fieldRow tag .lengthAllowed h (lengthAt s at) ≡ true
     pub room : lengthAt s at ≤ bytesLeft s (at + 3)
@@ -86,7 +86,7 @@ module _ (tag : Tag) (h : Head) (s : List ℕ) (at : ℕ) where
       by (badRoom e r) = let k = sym z ∙ cut-short e r in absurd (omega arith)
       by (whole e r) = record { long = e; room = r; good = sym (by-value e r) ∙ z }
 
-  -- a field is readSlot or refused
+  -- a field is taken or refused
   module _ (slot : Slot) where
     pub goes-past : fieldNumber tag h s at ≡ 0 → readStanding (Field tag) slot h s at ≡ past s at
     unfolding readStanding

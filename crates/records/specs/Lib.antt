@@ -1,3 +1,5 @@
 pub mod Table
 pub mod Reading
+pub mod Fields
 pub mod Causes
+pub mod Samples

@@ -1,5 +1,7 @@
--- What the reader makes of any bytes at all (docs/RECORDS.md, 'The bytes' and 'Refusals'): the layout of an accepted record,
--- or the number and the offset of the first cause of refusal. The reader goes from slot to slot; `at` is the offset where it stands.
+-- What the reader makes of any bytes at all (docs/RECORDS.md, 'The bytes' and 'Refusals'): the layout of its
+-- fields, or the number and the offset of the first cause of refusal, 1 to 6. A record that has a layout may
+-- still be refused 7, by its first net. The reader goes from slot to slot; `at` is the offset where it
+-- stands.
 use Prim.Native.Nat.{ℕ, _+_, _-_, _≤_}
 use mathlib.Core.Bool.{Bool, true, false, _||_, not, cond}
 use mathlib.Core.List.{List, [], _∷_, _++_}
@@ -65,12 +67,14 @@ tagAmong (tag ∷ more) byte = cond (eqb byte (fieldRow tag .byte)) (Field tag) 
 unfoldable pub standing : Slot → List ℕ → ℕ → Standing
 standing slot s at = cond (leb 3 (bytesLeft s at)) (tagAmong (tagsIn slot) (getD s at 0)) Nothing
 
--- The tests where the reader stands at no tag that may come next: none fails unless a field is due. At the end of the record the offset is the record's length.
+-- The tests where the reader stands at no tag that may come next: none fails unless a field is due. At the
+-- end of the record the offset is the record's length.
 abbrev pub missingTests : Bool → List ℕ → ℕ → List Test
 missingTests due s at =
     -- '1 or 2 bytes left where a field begins'
     (not due || (eqb (bytesLeft s at) 0 || leb 3 (bytesLeft s at))) else 1
-    -- 'tag unknown, repeated, lower than the last, or before a required lower one; or required one absent at the end'
+    -- 'tag unknown, repeated, lower than the last, or before a required lower one; or required one absent at
+    -- the end'
     ∷ not due else 2
     ∷ []
 
@@ -93,7 +97,8 @@ past s at = record { number = 0; at = at + 3 + lengthAt s at; extent = extentAt 
 abbrev pub stay : ℕ → List ℕ → ℕ → Progress
 stay number s at = record { number = number; at = at; extent = endExtent s }
 
--- a field of the slot is taken, or refused; where there is none, a slot that must be filled is refused and another one is left empty
+-- a field of the slot is taken, or refused; where there is none, a slot that must be filled is refused and
+-- another one is left empty
 unfoldable pub readStanding : Standing → Slot → Head → List ℕ → ℕ → Progress
 unfolding fieldNumber lengthAt extentAt
 readStanding (Field tag) slot h s at = let n = fieldNumber tag h s at in cond (eqb n 0) (past s at) (stay n s at)
@@ -141,14 +146,14 @@ abbrev pub readingNumber : Reading → ℕ
 readingNumber (Fields l) = 0
 readingNumber (Refused r) = r .number
 
--- the values: kind and degrees of an accepted record; what is returned with a refusal's number, the offset
+-- the values: kind and degrees with a layout; what is returned with a refusal's number, the offset
 abbrev pub readingValues : Reading → List ℕ
 readingValues (Fields l) = l .kind ∷ l .degree ∷ l .second ∷ []
 readingValues (Refused r) = r .offset ∷ []
 
 -- ---- a field's value: where it stands, and its bytes
 
--- the extent of what stands in a slot, in an accepted record
+-- the extent of what stands in a slot, by a layout
 abbrev pub extentIn : Slot → Layout → Extent
 extentIn KindSlot l = l .head
 extentIn FrameSlot l = l .frame

@@ -1,8 +1,8 @@
 // The reader of records (docs/RECORDS.md, 'The bytes'). `read` says of any bytes at all whether they are a record, and
 // gives its layout or the refusal's number and offset; `value` gives a field's value, a slice of the
 // record, by where the layout says that it stands. All of them are defined for every input. A record that
-// the reader accepts may still be refused, 7, by its first net: the fields of any bytes are handed out by
-// the crate opening.
+// the reader does not refuse may still be refused, 7, by its first net: the fields of any bytes are handed
+// out by the crate opening.
 //
 // The reader goes from slot to slot, and one function takes every slot. The definitions are those of
 // specs/: Table (the slots, and a row for each field: tag, lengths, tests), Reading (one slot, and then
@@ -65,8 +65,8 @@ pub struct Extent {
     pub length: usize,
 }
 
-// An accepted record: kind and degrees, and where what stands in each slot is. A kind of one group has
-// the second degree 0.
+// The layout of a record that the reader does not refuse: kind and degrees, and where what stands in each
+// slot is. A kind of one group has the second degree 0.
 pub struct Layout {
     pub kind: u8,
     pub degree: u8,

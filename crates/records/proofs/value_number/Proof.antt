@@ -1,4 +1,4 @@
--- `value_number` meets its contract: each arm is the fieldRow of its field.
+-- `value_number` meets its contract: each arm is the row of its field.
 use mathlib.Core.Bool.{Bool, true}
 use mathlib.Core.List.{[], _∷_}
 use mathlib.Core.Path.{_≡_, _∙_, ap, subst}
