@@ -1,18 +1,17 @@
 -- What a lookup finds: in an accepted record the layout is the reader's, which has the fields by their bytes;
 -- in a refused one it is that of no fields.
-use Prim.Native.Nat.{ℕ, zero, suc, _+_, _≤_, _<_}
+use Prim.Native.Nat.{ℕ, zero, suc, _+_, _≤_}
 use native.Mathlib.Omega.{arith}
 use mathlib.Core.Path.{_≡_, refl, sym, ap, _∙_, subst}
 use mathlib.Core.List.{List}
-use lib.ListN.{length, take, drop}
+use lib.ListN.{length}
 use Rattle.machine.specs.Lent.{unlessRefused}
 use Rattle.records.specs.Table.{slots}
 use Rattle.records.specs.Reading.{endExtent, extentAmong, noFields, bytesOf, readingOf}
-use Rattle.records.specs.Fields.{tagByte, lengthBytes, fieldEnd, FieldAt}
+use Rattle.records.specs.Fields.{tagByte, lengthBytes, FieldAt}
 use Rattle.records.specs.declared.Extent.{Extent}
 use Rattle.records.specs.declared.Layout.{Layout}
-use Rattle.records.specs.declared.Reading.{Reading}
-use Rattle.records.specs.declared.Reading.the-variants.{Fields, Refused}
+use Rattle.records.specs.declared.Reading.the-variants.{Fields}
 use Rattle.records.proofs.Fields.{field-found, field-absent, no-field, field-inside}
 use Rattle.opening.specs.Opening.{readingLayout, layoutRead, openedLayout, refusalIn, fieldExtent}
 use Rattle.opening.specs.Fields.{Found, AtEnd, FieldLookup}

@@ -3,4 +3,4 @@ pub mod Records
 pub mod Refusals
 pub mod Fields
 pub mod Demand3
-pub mod Samples
+pub mod AllSamples

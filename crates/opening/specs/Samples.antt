@@ -1,14 +1,15 @@
 -- What a lookup must find and what a record must be refused with (docs/RECORDS.md, 'The bytes' and
 -- 'Refusals'), as one table: every tag and some numbers that are none, in records with and without each field
 -- that may be absent, and in refused ones. Definition and code choose a field by its tag alike, so these rows
--- hold which one. proofs/Samples.antt proves every row.
+-- hold which one. proofs/AllSamples.antt proves every row.
 use Prim.Native.Nat.{ℕ}
 use mathlib.Core.List.{List, [], _∷_, _++_, map}
 use lib.ListN.{drop, replicate}
 use Rattle.integers.specs.Sum.{upto}
+use Rattle.integers.specs.Instances.{Instance, _is_}
 use Rattle.polar.specs.Order.{joined}
 use Rattle.records.specs.Reading.{bytesOf}
-use Rattle.records.specs.Samples.{Instance, _is_, place, at, small, movesField, pointField}
+use Rattle.records.specs.Samples.{place, at, small, movesField, pointField}
 use Rattle.records.specs.declared.Extent.{Extent}
 use Rattle.opening.specs.Opening.{refusalIn, fieldExtent}
 
@@ -69,7 +70,7 @@ far =
 
 -- all tags of a record of the line, of so many bytes, by what is found for 4 and 5; and numbers that are no
 -- tags
-abbrev lookups : List ℕ → ℕ → List ℕ → List ℕ → List Instance
+abbrev lookups : List ℕ → ℕ → List ℕ → List ℕ → List (Instance ℕ)
 lookups s size moves point =
     lookup s 1 is (at 0 3 2 ++ kindValue)
     ∷ lookup s 2 is (at 5 8 8 ++ frameValue)
@@ -84,10 +85,10 @@ lookups s size moves point =
     ∷ []
 
 -- none is found in a refused record of so many bytes
-abbrev noLookups : List ℕ → ℕ → List Instance
+abbrev noLookups : List ℕ → ℕ → List (Instance ℕ)
 noLookups s size = map (λ tag. lookup s tag is absent size) (1 ∷ 2 ∷ 3 ∷ 4 ∷ 5 ∷ 0 ∷ 6 ∷ 255 ∷ [])
 
-abbrev pub instances : List Instance
+abbrev pub instances : List (Instance ℕ)
 instances =
     lookups line 51 (absent 51) (absent 51)
     ++ lookups (line ++ movesField) 62 (at 51 54 8 ++ movesValue) (absent 62)

@@ -3,4 +3,4 @@ pub mod Slots
 pub mod Causes
 pub mod Accepted
 pub mod Fields
-pub mod Samples
+pub mod AllSamples

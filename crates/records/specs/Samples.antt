@@ -1,23 +1,15 @@
 -- What the reading of some bytes must be (docs/RECORDS.md, 'The bytes' and 'Refusals'), as one table: two
 -- records whole, and refusals, a line or more for each row of the table of causes. Definition, causes and
 -- code all go by one test of the tag byte and one reading of the length, so these rows hold which bytes are
--- tags and which lengths are meant. proofs/Samples.antt proves every row.
+-- tags and which lengths are meant. proofs/AllSamples.antt proves every row.
 use Prim.Native.Nat.{ℕ, _+_}
-use mathlib.Core.Path.{_≡_}
 use mathlib.Core.List.{List, [], _∷_, _++_, map}
 use lib.ListN.{getD, drop, replicate}
+use Rattle.integers.specs.Instances.{Instance, _is_}
 use Rattle.records.specs.Reading.{readingOf}
 use Rattle.records.specs.declared.Extent.{Extent}
 use Rattle.records.specs.declared.Reading.{Reading}
 use Rattle.records.specs.declared.Reading.the-variants.{Fields, Refused}
-
-infix 70 _is_
--- what the definitions give, and what it must be
-pub data Instance : Type 0 where
-  _is_ : List ℕ → List ℕ → Instance
-
-abbrev pub Right : Instance → Type 0
-Right (given is must) = given ≡ must
 
 -- ---- how the table is written
 
@@ -102,7 +94,7 @@ rectangle = degreesField ++ pairsField ++ productsField ++ (5 ∷ 0 ∷ 8 ∷ pa
 
 -- ---- the table
 
-abbrev whole : List Instance
+abbrev whole : List (Instance ℕ)
 whole =
     reading circle is (0 ∷ 1 ∷ 2 ∷ 0 ∷ (at 0 3 2 ++ at 5 8 8 ++ at 16 19 48 ++ at 74 74 0 ++ at 67 70 4))
     ∷ reading fourFields
@@ -114,7 +106,7 @@ whole =
     ∷ []
 
 -- bytes left where a field begins, behind each field, and values cut short
-abbrev cut : List Instance
+abbrev cut : List (Instance ℕ)
 cut =
     reading (1 ∷ []) is refused 1 0
     ∷ reading (1 ∷ 0 ∷ []) is refused 1 0
@@ -133,13 +125,13 @@ cut =
 
 -- a field behind others, at an offset, with other tag bytes: 0, 7, 8, its own plus 16 and plus 128, and
 -- 255
-abbrev otherTags : List ℕ → List ℕ → ℕ → List Instance
+abbrev otherTags : List ℕ → List ℕ → ℕ → List (Instance ℕ)
 otherTags before field offset =
     let own = getD field 0 0 in
     map (λ tag. reading (before ++ (tag ∷ drop 1 field)) is refused 2 offset)
     (0 ∷ 7 ∷ 8 ∷ (own + 16) ∷ (own + 128) ∷ 255 ∷ [])
 
-abbrev tags : List Instance
+abbrev tags : List (Instance ℕ)
 tags =
     otherTags [] kindField 0
     ++ otherTags kindField frameField 5
@@ -160,12 +152,12 @@ tags =
     ∷ [])
 
 -- a field behind others, at an offset, with other lengths: its own plus 0x0400, 0x8000 and 0xff00
-abbrev otherLengths : List ℕ → List ℕ → ℕ → List Instance
+abbrev otherLengths : List ℕ → List ℕ → ℕ → List (Instance ℕ)
 otherLengths before field offset =
     map (λ high. reading (before ++ (getD field 0 0 ∷ high ∷ drop 2 field)) is refused 3 offset)
     (4 ∷ 128 ∷ 255 ∷ [])
 
-abbrev lengths : List Instance
+abbrev lengths : List (Instance ℕ)
 lengths =
     otherLengths [] kindField 0
     ++ otherLengths kindField frameField 5
@@ -195,7 +187,7 @@ wrongFrame = 2 ∷ 0 ∷ 8 ∷ 0 ∷ 5 ∷ 0 ∷ 1 ∷ 0 ∷ 1 ∷ 0 ∷ 1 ∷ [
 abbrev wrongCoefficients : List ℕ
 wrongCoefficients = 3 ∷ 0 ∷ 48 ∷ 0 ∷ 16 ∷ 0 ∷ 1 ∷ replicate 44 0
 
-abbrev values : List Instance
+abbrev values : List (Instance ℕ)
 values =
     -- a kind that is none, a degree outside, and a degree too many or too few
     reading (1 ∷ 0 ∷ 2 ∷ 4 ∷ 2 ∷ []) is refused 4 0
@@ -221,5 +213,5 @@ values =
     ∷ reading (twoFields ++ wrongCoefficients ++ (4 ∷ 4 ∷ 8 ∷ [])) is refused 6 16
     ∷ []
 
-abbrev pub instances : List Instance
+abbrev pub instances : List (Instance ℕ)
 instances = whole ++ cut ++ tags ++ lengths ++ values

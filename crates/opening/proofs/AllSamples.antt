@@ -1,8 +1,10 @@
--- The samples: one test that is computed over the table, by the law of such tables.
+-- Every lookup and refusal of the table is right: one test that is computed over its rows.
 use mathlib.Core.Path.{_≡_, refl}
 use mathlib.Core.Bool.{true}
-use mathlib.Core.List.{List·Memᴰ}
+use lib.Dec.{eqb}
 use Rattle.integers.specs.Test.{all}
+use Rattle.integers.specs.Instances.{AllRight}
+use Rattle.integers.proofs.Instances.{agreesBy, all-right-natural}
 use Rattle.polar.specs.Sigma.{σ}
 use Rattle.polar.specs.Order.{monomials, counts}
 use Rattle.polar.specs.Scale.{multinomial, leastCommonMultiple, scale}
@@ -14,8 +16,6 @@ use Rattle.machine.specs.Comparison.{netOver, polarOf}
 use Rattle.machine.specs.First.{firstTests, firstRefusal}
 use Rattle.bytes.specs.Numbers.{frameNumbers, coefficientsOf}
 use Rattle.records.specs.Reading.{readingOf}
-use Rattle.records.specs.Samples.{Instance, Right}
-use Rattle.records.proofs.Samples.{agrees, right-by-test}
 use Rattle.opening.specs.Opening.{
   layoutRead,
   polynomialsIn,
@@ -26,10 +26,9 @@ use Rattle.opening.specs.Opening.{
 }
 use Rattle.opening.specs.Samples.{lookup, refusal, instances}
 
-instances-agree : all agrees instances ≡ true
+instances-agree : all (agreesBy eqb) instances ≡ true
 unfolding lookup refusal readingOf layoutRead polynomialsIn numbersIn refusalIn openedLayout fieldExtent firstRefusal firstTests netOver polarOf σ monomials counts monomialsOver countsOver multinomial leastCommonMultiple scale polarOver listedOver frameOf frameAllowed framesOf framesAllowed frameNumbers coefficientsOf
 instances-agree = refl
 
--- every lookup and refusal is right
-pub every-instance : (i : Instance) → List·Memᴰ i instances → Right i
-every-instance i m = right-by-test instances instances-agree i m
+pub every-instance : AllRight instances
+every-instance = all-right-natural instances instances-agree
