@@ -3,3 +3,4 @@ pub mod Slots
 pub mod Causes
 pub mod Accepted
 pub mod Samples
+pub mod Longest
