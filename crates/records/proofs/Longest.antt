@@ -28,7 +28,7 @@ use Rattle.records.specs.Causes.{Begins, Comes, mayCome, Caused, TableVe
 use Rattle.records.specs.Causes.Begins.{first, after, without}
 use Rattle.records.specs.Causes.Comes.{comes}
 use Rattle.records.specs.Causes.Caused.{cutField, cutValue, wrongTag, absentTag, wrongLength, wrongValue}
-use Rattle.records.specs.Longest.{longestRecord, NoneLonger, longRecord, OneAsLong, FirstBytes, NearRefusal, RefusedNear}
+use Rattle.records.specs.Longest.{longestRecord, NoLongerRecord, longRecord, OneAsLong, ReadByFirstBytes, NearRefusal, RefusedNear}
 use Rattle.records.specs.declared.Head.{Head}
 use Rattle.records.specs.declared.Slot.{Slot}
 use Rattle.records.specs.declared.Slot.the-variants.{KindSlot, FrameSlot, CoefficientsSlot, MovesSlot, PointSlot}
@@ -208,8 +208,8 @@ refused-near s r e = caused-near (refused-caused s r e)
 
 -- ---- the longest record
 
-pub none-longer : NoneLonger
-none-longer s l e = by (subst (λ r. TableVerdict s (readingNumber r) (readingValues r)) e (table-verdict s)) refl
+pub no-longer-record : NoLongerRecord
+no-longer-record s l e = by (subst (λ r. TableVerdict s (readingNumber r) (readingValues r)) e (table-verdict s)) refl
   where
     by : {n : ℕ} {values : List ℕ} → TableVerdict s n values → n ≡ 0 → length s ≤ longestRecord
     by (TableVerdict.accepted b) z = begins-near b
@@ -318,8 +318,8 @@ module _ (n : ℕ) (wide : longestRecord + 3 ≤ n) (s : List ℕ) (more : n < l
       let whole : at + 3 + lengthAt s at ≤ n = omega (arith, near) in
       wrongValue (comes-same c) (allowed-same tag at (omega (arith, near)) e) (room-same at whole) (tests-same tag at whole ∙ v)
 
-pub first-bytes : FirstBytes
-first-bytes n wide s = by-length (leb (length s) n) refl
+pub read-by-first-bytes : ReadByFirstBytes
+read-by-first-bytes n wide s = by-length (leb (length s) n) refl
   where
     by-length : (b : Bool) → leb (length s) n ≡ b → readingOf (take n s) ≡ readingOf s
     by-length true e = ap readingOf (take-all n s (leb-true (length s) n e))
@@ -329,5 +329,5 @@ first-bytes n wide s = by-length (leb (length s) n) refl
         more = leb-false (length s) n e
 
         by : (r : Reading) → readingOf s ≡ r → readingOf (take n s) ≡ r
-        by (Fields l) is = let short = none-longer s l is in absurd (omega (arith, short, more))
+        by (Fields l) is = let short = no-longer-record s l is in absurd (omega (arith, short, more))
         by (Refused r) is = caused-refused (caused-same n wide s more (refused-caused s r is))

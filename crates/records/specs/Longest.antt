@@ -13,8 +13,8 @@ use Rattle.records.specs.declared.Reading.the-variants.{Fields, Refused}
 abbrev pub longestRecord : ℕ
 longestRecord = 1017
 
-abbrev pub NoneLonger : Type 0
-NoneLonger = (s : List ℕ) (l : Layout) → readingOf s ≡ Fields l → length s ≤ longestRecord
+abbrev pub NoLongerRecord : Type 0
+NoLongerRecord = (s : List ℕ) (l : Layout) → readingOf s ≡ Fields l → length s ≤ longestRecord
 
 -- A record that has as many: a patch of degree 8 over (1, 0, 0), (0, 1, 0), (0, 0, 1), all its 180 coefficients 0, with 32
 -- moves of no known operation and a point.
@@ -32,8 +32,8 @@ pub record OneAsLong : Type 0 where
 
 -- What the reader says depends on the first bytes only: on as many as the longest record has, and on three more, the tag and
 -- the length of a field that comes after it.
-abbrev pub FirstBytes : Type 0
-FirstBytes = (n : ℕ) → longestRecord + 3 ≤ n → (s : List ℕ) → readingOf (take n s) ≡ readingOf s
+abbrev pub ReadByFirstBytes : Type 0
+ReadByFirstBytes = (n : ℕ) → longestRecord + 3 ≤ n → (s : List ℕ) → readingOf (take n s) ≡ readingOf s
 
 -- a refusal of the reader: a number from 1 to 6, at an offset where a field may begin or the record may end
 pub record NearRefusal (r : Refusal) : Type 0 where

@@ -8,3 +8,4 @@ pub mod Standing
 pub mod Calls
 pub mod Room
 pub mod Whole
+pub mod Longest
