@@ -25,6 +25,16 @@ pub record Stopped (stop : Stop) (input : List ℕ) : Type 0 where
   pub counted : Counts (stop .bytes) input
   pub full : gave (stop .last) ≡ true → stop .bytes ≡ length input
 
+-- 'It reads at most 2048 bytes of standard input, which suffice': how many places there are for them
+abbrev pub mostRead : ℕ
+mostRead = 2048
+
+-- What was read is of this whole input: the bytes that were read are its first ones, and all of them where the last read
+-- answered 0, the end of the input.
+pub record ReadOf (stop : Stop) (input whole : List ℕ) : Type 0 where
+  pub first : take (stop .bytes) input ≡ take (stop .bytes) whole
+  pub ended : stop .last ≡ pos 0 → stop .bytes ≡ length whole
+
 -- for standard output: the text of the bytes that were read, and nothing where a read failed
 abbrev pub outputBy : Bool → List ℕ → List ℕ
 outputBy true s = []
@@ -32,6 +42,10 @@ outputBy false s = textOf s
 
 abbrev pub outputFor : Stop → List ℕ → List ℕ
 outputFor stop input = outputBy (failed (stop .last)) (take (stop .bytes) input)
+
+-- so much is read that this is the text of the whole input, however long it is; nothing where a read failed
+abbrev pub OutputOfWhole : Stop → List ℕ → Type 0
+OutputOfWhole stop input = (whole : List ℕ) → ReadOf stop input whole → outputFor stop input ≡ outputBy (failed (stop .last)) whole
 
 -- for standard error: the line `unread` where a read failed, the line `unwritten` where a write failed, else nothing
 abbrev pub errorBy : Bool → Bool → List ℕ → List ℕ → List ℕ

@@ -3,3 +3,4 @@ pub mod Text
 pub mod Parts
 pub mod Told
 pub mod Longest
+pub mod Samples
