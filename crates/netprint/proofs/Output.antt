@@ -1,5 +1,5 @@
--- What stands in the buffer for standard output where a read failed, and what stands there where none did; and that it is the
--- text of the whole input.
+-- What stands in the buffer for standard output where a read failed, and what stands there where none did;
+-- and that it is the text of the whole input.
 use Prim.Native.Nat.{ℕ, zero, suc, _≤_}
 use native.Mathlib.Omega.{arith}
 use mathlib.Core.Path.{_≡_, refl, sym, ap, subst, _∙_}
@@ -32,28 +32,37 @@ module _ (s out : List ℕ) where
     has-room = le-leb (length (textOf s)) (length out) (omega (arith, no-longer-text s))
 
     -- every text fits, so it is written
-    whole : (w : Written) (left : List ℕ) → w ≡ writtenOf (textOf s) out → left ≡ bufferOf (textOf s) out → Output false (writtenBytes w) left
+    whole : (w : Written) (left : List ℕ) → w ≡ writtenOf (textOf s) out → left ≡ bufferOf (textOf s) out
+        → Output false (writtenBytes w) left
     unfolding writtenOf bufferOf
     whole w left answered stands =
         let n = length (textOf s) in
-        let is : writtenBytes w ≡ n = ap writtenBytes (answered ∙ ap (λ b. cond b (Bytes n) (Refused 11)) has-room) in (
+        let bytes = ap (λ b. cond b (Bytes n) (Refused 11)) has-room in
+        let is : writtenBytes w ≡ n = ap writtenBytes (answered ∙ bytes) in (
           is,
-          stands ∙ ap (λ b. cond b (textOf s ++ drop n out) out) has-room ∙ ap (λ k. textOf s ++ drop k out) (sym is),
+          stands
+              ∙ ap (λ b. cond b (textOf s ++ drop n out) out) has-room
+              ∙ ap (λ k. textOf s ++ drop k out) (sym is),
         )
 
-    pub output-text : {f : Bool} (w : Written) (left : List ℕ) → false ≡ f → w ≡ writtenOf (textOf s) out → left ≡ bufferOf (textOf s) out
-        → Output f (writtenBytes w) left
-    output-text w left at answered stands = subst (λ f. Output f (writtenBytes w) left) at (whole w left answered stands)
+    pub output-text : {f : Bool} (w : Written) (left : List ℕ) → false ≡ f → w ≡ writtenOf (textOf s) out
+        → left ≡ bufferOf (textOf s) out → Output f (writtenBytes w) left
+    output-text w left at answered stands =
+        subst (λ f. Output f (writtenBytes w) left) at (whole w left answered stands)
 
 -- ---- the whole input
 
--- by what the last read answered: the input is all there, or the buffer is full and has more bytes than a text comes from
-pub output-of-whole : (stop : Stop) (input : List ℕ) → Stopped stop input → length input ≡ mostRead → OutputOfWhole stop input
+-- by what the last read answered: the input is all there, or the buffer is full, with all that a text needs
+pub output-of-whole : (stop : Stop) (input : List ℕ) → Stopped stop input → length input ≡ mostRead
+    → OutputOfWhole stop input
 output-of-whole stop input stopped places all of = by (stop .last) refl
   where
-    by : (last : ℤ) → stop .last ≡ last → outputBy (failed last) (take (stop .bytes) input) ≡ outputBy (failed last) all
+    by : (last : ℤ) → stop .last ≡ last
+        → outputBy (failed last) (take (stop .bytes) input) ≡ outputBy (failed last) all
     by (negsuc n) is = refl
-    by (pos zero) is = ap textOf (of .first ∙ take-all (stop .bytes) all (let ends = of .ended is in omega (arith, ends)))
+    by (pos zero) is =
+        let ends = of .ended is in
+        ap textOf (of .first ∙ take-all (stop .bytes) all (omega (arith, ends)))
     by (pos (suc n)) is =
         let full = stopped .full (ap gave is) in
         ap textOf (of .first) ∙ text-by-first-bytes (stop .bytes) (omega (arith, full, places)) all

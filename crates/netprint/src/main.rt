@@ -10,17 +10,14 @@
 // is 0 in each case, since a Rattle program has no other.
 ghost use mathlib.Core.Path.{_≡_};
 ghost use Prim.Native.Nat.{_-_, _≤_};
-ghost use mathlib.Core.List.{_++_};
-ghost use lib.ListN.{length, take, drop};
-ghost use Rattle.io.specs.Counts.{Counts};
+ghost use lib.ListN.{length, take};
 ghost use Rattle.libc.specs.Io.{Moved};
 ghost use Rattle.text.specs.Longest.{longestText};
 ghost use Rattle.netprint.specs.Process.{
   Stopped,
   failed,
   mostRead,
-  outputFor,
-  OutputOfWhole,
+  OutputReady,
   errorFor,
 };
 use libc::STDERR_FILENO;
@@ -85,10 +82,7 @@ fn answer(stop: Stop, input: &[u8], out: &mut [u8]) -> usize
     requires stopped { ⌜ Stopped stop (now input) ⌝ }
     requires input { ⌜ length (now input) ≡ mostRead ⌝ }
     requires out { ⌜ longestText ≤ length (now out) ⌝ }
-    ensures bytes { λ r. ⌜ r ≡ length (outputFor stop (now (input .entry))) ⌝ }
-    ensures within { λ r. ⌜ Counts r (now (out .exit)) ⌝ }
-    ensures buffer { λ r. ⌜ now (out .exit) ≡ outputFor stop (now (input .entry)) ++ drop r (now (out .entry)) ⌝ }
-    ensures whole { λ _. ⌜ OutputOfWhole stop (now (input .entry)) ⌝ }
+    ensures { λ r. ⌜ OutputReady stop (now (input .entry)) (now (out .entry)) (now (out .exit)) r ⌝ }
 {
     if is_failed(stop.last) {
         return 0;

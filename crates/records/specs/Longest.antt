@@ -1,5 +1,5 @@
--- How many bytes the reader needs: 'a whole record has at most 1017' (docs/RECORDS.md, 'The bytes'), and what the reader
--- says of a longer input it says of that input's first bytes. proofs/Longest.antt proves the four statements.
+-- How many bytes the reader needs (docs/RECORDS.md, 'The bytes'): 'a whole record has at most 1017', and what
+-- it says of a longer input it says of that input's first bytes. proofs/Longest.antt proves the statements.
 use Prim.Native.Nat.{ℕ, _+_, _≤_}
 use mathlib.Core.Path.{_≡_}
 use mathlib.Core.List.{List, [], _∷_, _++_}
@@ -16,8 +16,8 @@ longestRecord = 1017
 abbrev pub NoLongerRecord : Type 0
 NoLongerRecord = (s : List ℕ) (l : Layout) → readingOf s ≡ Fields l → length s ≤ longestRecord
 
--- A record that has as many: a patch of degree 8 over (1, 0, 0), (0, 1, 0), (0, 0, 1), all its 180 coefficients 0, with 32
--- moves of no known operation and a point.
+-- A record that has as many: a patch of degree 8 over (1, 0, 0), (0, 1, 0), (0, 0, 1), with 180 coefficients
+-- 0, 32 moves of no known operation and a point.
 abbrev pub longRecord : List ℕ
 longRecord =
     (1 ∷ 0 ∷ 2 ∷ 2 ∷ 8 ∷ [])
@@ -30,8 +30,8 @@ pub record OneAsLong : Type 0 where
   pub long : length longRecord ≡ longestRecord
   pub accepted : readingNumber (readingOf longRecord) ≡ 0
 
--- What the reader says depends on the first bytes only: on as many as the longest record has, and on three more, the tag and
--- the length of a field that comes after it.
+-- What the reader says depends on the first bytes only: on as many as the longest record has, and on three
+-- more, the tag and the length of a field that comes after it.
 abbrev pub ReadByFirstBytes : Type 0
 ReadByFirstBytes = (n : ℕ) → longestRecord + 3 ≤ n → (s : List ℕ) → readingOf (take n s) ≡ readingOf s
 

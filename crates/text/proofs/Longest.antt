@@ -1,5 +1,6 @@
--- Every text has room, and comes from the first bytes of its input. A reading that is refused has a small number and an offset
--- within the longest record, both of them told by the first bytes; an accepted record is no longer than these.
+-- Every text has room, and comes from the first bytes of its input. A reading that is refused has a small
+-- number and an offset within the longest record, which the first bytes tell; an accepted record is no longer
+-- than these.
 use Prim.Native.Nat.{ℕ, zero, suc, _+_, _^_, _≤_, _<_}
 use native.Mathlib.Omega.{arith}
 use mathlib.Core.Path.{_≡_, refl, sym, ap, _∙_, subst}
@@ -35,15 +36,19 @@ by-number : (s : List ℕ) (n : ℕ) → 1 ≤ n → textBy n s ≡ refusedLine 
 by-number s zero h = absurd (omega arith)
 by-number s (suc k) h = refl
 
-refused-is : (s : List ℕ) (r : Refusal) → refusalIn s ≡ r → 1 ≤ r .number → textOf s ≡ refusedLine (r .number) (r .offset)
+refused-is : (s : List ℕ) (r : Refusal) → refusalIn s ≡ r → 1 ≤ r .number
+    → textOf s ≡ refusedLine (r .number) (r .offset)
 unfolding textOf
 refused-is s r is some =
-    ap (λ (x : Refusal). textBy (x .number) s) is ∙ by-number s (r .number) some ∙ ap (λ (x : Refusal). refusedLine (r .number) (x .offset)) is
+    ap (λ (x : Refusal). textBy (x .number) s) is
+    ∙ by-number s (r .number) some
+    ∙ ap (λ (x : Refusal). refusedLine (r .number) (x .offset)) is
 
 -- ---- room
 
 -- a number of one byte at an offset within the longest record
-near-room : (s : List ℕ) → refusalIn s .number < 256 → refusalIn s .offset ≤ longestRecord → length (textOf s) ≤ longestText
+near-room : (s : List ℕ) → refusalIn s .number < 256 → refusalIn s .offset ≤ longestRecord
+    → length (textOf s) ≤ longestText
 near-room s few near = by (refusalIn s .number) refl
   where
     by : (n : ℕ) → refusalIn s .number ≡ n → length (textOf s) ≤ longestText
@@ -53,7 +58,8 @@ near-room s few near = by (refusalIn s .number) refl
         (refused-room (refusalIn s .number) (refusalIn s .offset) few (omega (arith, near)))
 
 -- of an accepted reading the first net may be refused, at the offset of field 3
-net-refusal : (b : Bool) (offset : ℕ) → offset ≤ longestRecord → let r = refusalAt (firstFailed (b else 7 ∷ [])) offset in
+net-refusal : (b : Bool) (offset : ℕ) → offset ≤ longestRecord →
+    let r = refusalAt (firstFailed (b else 7 ∷ [])) offset in
     (r .number < 256) × (r .offset ≤ longestRecord)
 net-refusal true offset h = (omega arith, omega arith)
 net-refusal false offset h = (omega arith, h)
@@ -71,7 +77,8 @@ no-longer-text s = by (readingOf s) refl
         let sound = accepted-sound s l is in
         let inside = sound .within CoefficientsSlot in
         let short = no-longer-record s l is in
-        let net = net-refusal (netInRange (firstNetFrom s)) (l .coefficients .field) (omega (arith, sound .coefficientsField, inside, short)) in
+        let near : l .coefficients .field ≤ longestRecord = omega (arith, sound .coefficientsField) in
+        let net = net-refusal (netInRange (firstNetFrom s)) (l .coefficients .field) near in
         let all = refusal-is s l is ∙ ap (λ k. refusalAt k (l .coefficients .field)) (judged-before s l is) in
         near-room s (subst (λ (x : Refusal). x .number < 256) (sym all) (net .0))
         (subst (λ (x : Refusal). x .offset ≤ longestRecord) (sym all) (net .1))
@@ -82,7 +89,9 @@ pub text-by-first-bytes : TextByFirstBytes
 text-by-first-bytes n wide s = by (readingOf s) refl
   where
     by : (r : Reading) → readingOf s ≡ r → textOf (take n s) ≡ textOf s
-    by (Fields l) is = let short = no-longer-record s l is in ap textOf (take-all n s (omega (arith, short, wide)))
+    by (Fields l) is =
+        let short = no-longer-record s l is in
+        ap textOf (take-all n s (omega (arith, short, wide)))
     by (Refused r) is =
         let some = refused-near s r is .some in
         refused-is (take n s) r (refusal-read (take n s) r (read-by-first-bytes n wide s ∙ is)) some

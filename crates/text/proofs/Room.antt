@@ -71,12 +71,14 @@ spaced-append (w ∷ a) b = omega (arith, spaced-append a b)
 
 -- ---- a refused record
 
-pub refused-room : (number offset : ℕ) → number < 256 → offset < 2 ^ 64 → length (refusedLine number offset) ≤ longestText
+pub refused-room : (number offset : ℕ) → number < 256 → offset < 2 ^ 64
+    → length (refusedLine number offset) ≤ longestText
 unfolding refusedLine
 refused-room number offset small fits =
     let n = length-decimal number 3 (omega arith) (omega arith) in
     let o = length-u64 offset fits in
-    line-room longestText (word "refused" ∷ decimal number ∷ word "at" ∷ decimal offset ∷ []) (omega arith) (omega arith)
+    let words = word "refused" ∷ decimal number ∷ word "at" ∷ decimal offset ∷ [] in
+    line-room longestText words (omega arith) (omega arith)
 
 -- ---- the first line
 

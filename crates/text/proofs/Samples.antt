@@ -22,14 +22,46 @@ use Rattle.machine.specs.Calls.{ownTests}
 use Rattle.machine.specs.Frames.{pointsOf, framesAfter, newNumbers}
 use Rattle.machine.specs.Sizes.{namedByReplace, namedByPoint, namedBy, allNamed, beforeSize, callTests}
 use Rattle.machine.specs.Steps.{foundAt, stepBy, after, answers}
-use Rattle.machine.specs.Comparison.{netOver, machineTests, machineStep, machineAccepted, machinePolar, polarOf, scaledValue}
+use Rattle.machine.specs.Comparison.{
+  netOver,
+  machineTests,
+  machineStep,
+  machineAccepted,
+  machinePolar,
+  polarOf,
+  scaledValue,
+}
 use Rattle.machine.specs.First.{firstTests, firstRefusal}
 use Rattle.bytes.specs.Numbers.{frameNumbers, coefficientsOf}
 use Rattle.bytes.specs.Moves.{callAt}
 use Rattle.records.specs.Reading.{readingOf}
-use Rattle.opening.specs.Opening.{layoutRead, polynomialsIn, numbersIn, refusalIn, openedLayout, movesIn, pointIn}
+use Rattle.opening.specs.Opening.{
+  layoutRead,
+  polynomialsIn,
+  numbersIn,
+  refusalIn,
+  openedLayout,
+  movesIn,
+  pointIn,
+}
 use Rattle.text.specs.Words.{decimal, decimalBy, signedDecimal, hexBits, line}
-use Rattle.text.specs.Text.{refusedLine, headLine, moveLine, moveLines, frameLine, entryLine, entryLines, netLines, pointRefusedLine, projectionLine, pointLine, acceptedText, textOf, writtenOf, bufferOf}
+use Rattle.text.specs.Text.{
+  refusedLine,
+  headLine,
+  moveLine,
+  moveLines,
+  frameLine,
+  entryLine,
+  entryLines,
+  netLines,
+  pointRefusedLine,
+  projectionLine,
+  pointLine,
+  acceptedText,
+  textOf,
+  writtenOf,
+  bufferOf,
+}
 use Rattle.text.specs.Told.{written, refused}
 use Rattle.text.specs.Samples.{Instance, _is_, Right, BufferVerdicts, instances}
 
@@ -63,4 +95,9 @@ pub every-instance : (i : Instance) → List·Memᴰ i instances → Right i
 every-instance i m = agrees-right i (all-at agrees instances instances-agree i m)
 
 pub buffer-verdicts : BufferVerdicts
-buffer-verdicts = record { short = refused (omega arith); exact = written (omega arith); longer = written (omega arith) }
+buffer-verdicts =
+    record {
+      short = refused (omega arith);
+      exact = written (omega arith);
+      longer = written (omega arith);
+    }

@@ -1,6 +1,6 @@
--- How much room a text needs, and how much of an input it comes from (docs/RECORDS.md, 'The text of netprint'): 'It reads at
--- most 2048 bytes of standard input, which suffice: a whole record has at most 1017', and no text is longer than 4183 bytes.
--- proofs/Longest.antt proves both statements.
+-- How much room a text needs, and how much of an input it comes from (docs/RECORDS.md, 'The text of
+-- netprint'): 'It reads at most 2048 bytes of standard input, which suffice: a whole record has at most
+-- 1017', and no text is longer than 4183 bytes. proofs/Longest.antt proves both statements.
 use Prim.Native.Nat.{ℕ, _+_, _≤_}
 use mathlib.Core.Path.{_≡_}
 use mathlib.Core.List.{List}

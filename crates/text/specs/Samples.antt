@@ -1,6 +1,7 @@
--- What the definitions of the text must give, as a table of single instances. The writer and the text are both stated by these
--- definitions, so that no theorem compares them with anything else: what a word, a number or a line looks like, in which order
--- lines stand, and which buffer is long enough is held by these rows. proofs/Samples.antt proves every row.
+-- What the definitions of the text must give, as a table of single instances. Writer and text are both stated
+-- by these definitions, so that no theorem compares them with anything else: what a word, a number or a line
+-- looks like, in which order lines stand, and which buffer is long enough is held by these rows.
+-- proofs/Samples.antt proves every row.
 use Prim.Native.Nat.{ℕ, suc, _*_}
 use mathlib.Core.Path.{_≡_}
 use mathlib.Core.List.{List, [], _∷_, _++_, map}
@@ -14,7 +15,25 @@ use Rattle.kinds.specs.Kinds.{groupsOf}
 use Rattle.machine.specs.Steps.{Taken, Found, Refused}
 use Rattle.machine.specs.Nets.{Net}
 use Rattle.text.specs.Words.{decimal, signedDecimal, hexBits, line}
-use Rattle.text.specs.Text.{word, refusedLine, kindWord, headLine, moveLine, moveLines, frameLine, entryLines, netLines, pointRefusedLine, projectionLine, pointLine, textOf, writtenOf, bufferOf, writtenNumber, writtenBytes}
+use Rattle.text.specs.Text.{
+  word,
+  refusedLine,
+  kindWord,
+  headLine,
+  moveLine,
+  moveLines,
+  frameLine,
+  entryLines,
+  netLines,
+  pointRefusedLine,
+  projectionLine,
+  pointLine,
+  textOf,
+  writtenOf,
+  bufferOf,
+  writtenNumber,
+  writtenBytes,
+}
 use Rattle.text.specs.Told.{BufferVerdict}
 
 infix 70 _is_
@@ -94,8 +113,8 @@ lines =
     ∷ moveLine 1 0 is []
     ∷ moveLine 32 10 is word "move 32 refused 10\n"
     ∷ moveLines 1 (Refused 8 ∷ Taken ∷ Refused 12 ∷ []) is word "move 1 refused 8\nmove 3 refused 12\n"
-    -- of a curve the copies of s, rising; of a patch those of r, s and t, i falling and then j falling; of a rectangular patch
-    -- those of s1 and of s2, i rising and then j rising
+    -- of a curve the copies of s, rising; of a patch those of r, s and t, i falling and then j falling; of a
+    -- rectangular patch those of s1 and of s2, i rising and then j rising
     ∷ entries 1 2 0 3 is word "0 1 2 3 4\n1 5 6 7 8\n2 9 10 11 12\n"
     ∷ entries 2 1 0 3 is word "1 0 0 1 2 3 4\n0 1 0 5 6 7 8\n0 0 1 9 10 11 12\n"
     ∷ entries 3 1 2 6
@@ -112,7 +131,8 @@ points =
     pointRefusedLine 9 is word "point refused 9\n"
     ∷ projectionLine (Finite (coordsOf (pos 6) (pos 8) (pos 0) (pos 10)))
     is word "at 3fe3333333333333 3fe999999999999a 0000000000000000\n"
-    ∷ projectionLine (Direction (record { x = pos 1; y = negsuc 1; z = pos 0; length = pos 9 })) is word "far 1 -2 0 9\n"
+    ∷ projectionLine (Direction (record { x = pos 1; y = negsuc 1; z = pos 0; length = pos 9 }))
+    is word "far 1 -2 0 9\n"
     ∷ projectionLine Nowhere is word "nowhere\n"
     ∷ projectionLine OutOfRange is word "point refused 10\n"
     ∷ pointLine Taken is []
@@ -134,7 +154,7 @@ flipped =
     ++ (4 ∷ 0 ∷ 16 ∷ 3 ∷ 1 ∷ 0 ∷ 0 ∷ 0 ∷ 0 ∷ 0 ∷ 0 ∷ 2 ∷ 1 ∷ 0 ∷ 0 ∷ 0 ∷ 0 ∷ 0 ∷ 0 ∷ [])
     ++ (5 ∷ 0 ∷ 4 ∷ 0 ∷ 1 ∷ 0 ∷ 1 ∷ [])
 
--- the first line, the refused moves, the net that the others reach, and the point; and a refused record, of no bytes
+-- the first line, the refused moves, the net that the others reach and the point; and a record of no bytes
 abbrev wholeTexts : List Instance
 wholeTexts =
     textOf flipped
@@ -152,8 +172,8 @@ lent n =
     let out : List ℕ = replicate n 7 in
     writtenNumber (writtenOf text out) ∷ writtenBytes (writtenOf text out) ∷ bufferOf text out
 
--- a buffer of exactly the text's length is long enough, one of a byte less is left as it was, and one of a byte more keeps its
--- last byte
+-- a buffer of exactly the text's length is long enough, one of a byte less is left as it was, and one of a
+-- byte more keeps its last byte
 abbrev buffers : List Instance
 buffers =
     lent 2 is (11 ∷ 0 ∷ 7 ∷ 7 ∷ [])

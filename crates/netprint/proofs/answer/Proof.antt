@@ -1,4 +1,4 @@
--- `answer` meets its contract: nothing where a read failed, else the text, which write_text writes whole as every text has room.
+-- `answer` meets its contract: nothing where a read failed, else the text, which has room.
 use mathlib.Core.Path.{_≡_, sym, ap, subst, _∙_}
 use mathlib.Core.Bool.{Bool}
 use borrow.Author.Needs.{needs}
@@ -22,9 +22,10 @@ whole c = output-of-whole (c .args .stop) (c .args .input .now) (c .pre .0) (c .
 
 returns : tie.Need-returns
 returns c =
-    let a = c .before .before .before .before .before .args in
+    let start = c .before .before .before .before .before in
+    let a = start .args in
     let s = output-none (take (a .stop .bytes) (a .input .now)) (a .out .now) (tested (c .before) (c .if1 .taken)) in
-    (s .0, (search needs, (s .1, whole (c .before .before .before .before .before))))
+    record { counted = s .0; within = search needs; buffer = s .1; whole = whole start }
 
 -- where write_text was called, its answer and what it left are those of the contract
 wrote : (c : tie.After-write-text) (w : Written) → c .write-text .result ≡ w →
@@ -34,24 +35,28 @@ wrote : (c : tie.After-write-text) (w : Written) → c .write-text .result ≡ w
 wrote c w is =
     let start = c .before .before .before .before .before .before .before .before in
     let a = start .args in
-    output-text (take (a .stop .bytes) (a .input .now)) (a .out .now) (start .pre .1 .1) w (c .write-text .last .1 .0)
-    (tested (c .before .before .before .before) (c .before .before .before .if1 .left)) (sym is ∙ c .write-text .ensures .0)
-    (c .write-text .ensures .1 .1)
+    let at = tested (c .before .before .before .before) (c .before .before .before .if1 .left) in
+    let left = c .write-text .last .1 .0 in
+    output-text (take (a .stop .bytes) (a .input .now)) (a .out .now) (start .pre .1 .1) w left at
+    (sym is ∙ c .write-text .ensures .0) (c .write-text .ensures .1 .1)
 
 returns-2 : tie.Need-returns-2
 returns-2 c =
     let called = c .before .before .before .before .before in
     let is = c .before .k .given .1 in
+    let start = called .before .before .before .before .before .before .before .before in
     let s = wrote called _ is in
     let left = called .write-text .last .1 .0 in
-    let within = subst (λ (w : Written). Counts (writtenBytes w) left) is (called .write-text .ensures .1 .0 .within) in
-    (s .0, (within, (s .1, whole (called .before .before .before .before .before .before .before .before))))
+    let told = called .write-text .ensures .1 .0 in
+    let within = subst (λ (w : Written). Counts (writtenBytes w) left) is (told .within) in
+    record { counted = s .0; within = within; buffer = s .1; whole = whole start }
 
 returns-3 : tie.Need-returns-3
 returns-3 c =
     let called = c .before .before .before .before in
+    let start = called .before .before .before .before .before .before .before .before in
     let s = wrote called _ (c .enum-told .given .1) in
-    (s .0, (search needs, (s .1, whole (called .before .before .before .before .before .before .before .before))))
+    record { counted = s .0; within = search needs; buffer = s .1; whole = whole start }
 
 pub answer-spec : {M : Type 1} → statement M
 answer-spec =
