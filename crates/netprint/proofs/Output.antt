@@ -14,7 +14,7 @@ use Rattle.text.specs.declared.Written.the-variants.{Bytes, Refused}
 use Rattle.text.specs.Text.{textOf, fits, writtenOf, writtenBytes, bufferOf}
 use Rattle.text.specs.Longest.{longestText}
 use Rattle.text.proofs.Longest.{no-longer-text, text-by-first-bytes}
-use Rattle.netprint.specs.Process.{failed, gave, Stopped, mostRead, ReadOf, outputBy, OutputOfWhole}
+use Rattle.netprint.specs.Process.{failed, gave, Stopped, mostRead, outputBy, OutputOfWhole}
 use Rattle.netprint.specs.declared.Stop.{Stop}
 
 -- ---- the buffer

@@ -1,10 +1,10 @@
 -- No accepted record is longer than `longestRecord`, and the reader looks no further. From wherever a field
 -- may begin, what the slots that are left can take stays within that bound, by the kind and the degrees; so
 -- where the bytes are more, a cause that is there in all of them is there in the first ones.
-use Prim.Native.Nat.{ℕ, zero, suc, _+_, _*_, _%_, _≤_, _<_, max}
+use Prim.Native.Nat.{ℕ, _+_, _%_, _≤_, _<_, max}
 use native.Mathlib.Omega.{arith}
-use mathlib.Core.Path.{_≡_, refl, sym, _∙_, ap, ap₂, subst}
-use mathlib.Core.Bool.{Bool, true, false, _&&_, _||_, cond}
+use mathlib.Core.Path.{_≡_, refl, sym, _∙_, ap, subst}
+use mathlib.Core.Bool.{Bool, true, false, _||_, cond}
 use mathlib.Core.List.{List, [], _∷_}
 use borrow.Author.Tests.{eqb-true, leb-true, leb-false, ltb-true, ltb-false}
 use lib.Dec.{eqb, leb, ltb}
@@ -70,7 +70,6 @@ use Rattle.records.specs.Causes.Caused.{
 use Rattle.records.specs.Longest.{
   longestRecord,
   NoLongerRecord,
-  longRecord,
   OneAsLong,
   ReadByFirstBytes,
   NearRefusal,
@@ -87,10 +86,7 @@ use Rattle.records.specs.declared.Slot.the-variants.{
 }
 use Rattle.records.specs.declared.Tag.{Tag}
 use Rattle.records.specs.declared.Tag.the-variants.{Kind, Frame, Coefficients, Moves, Point}
-use Rattle.records.specs.declared.Standing.{Standing}
 use Rattle.records.specs.declared.Standing.the-variants.{Field, Nothing}
-use Rattle.records.specs.declared.Layout.{Layout}
-use Rattle.records.specs.declared.Refusal.{Refusal}
 use Rattle.records.specs.declared.Reading.{Reading}
 use Rattle.records.specs.declared.Reading.the-variants.{Fields, Refused}
 use Rattle.records.proofs.Slots.{long-enough, stands-there, by-value, field-passes}

@@ -1,7 +1,7 @@
 -- Every text has room, and comes from the first bytes of its input. A reading that is refused has a small
 -- number and an offset within the longest record, which the first bytes tell; an accepted record is no longer
 -- than these.
-use Prim.Native.Nat.{ℕ, zero, suc, _+_, _^_, _≤_, _<_}
+use Prim.Native.Nat.{ℕ, zero, suc, _≤_, _<_}
 use native.Mathlib.Omega.{arith}
 use mathlib.Core.Path.{_≡_, refl, sym, ap, _∙_, subst}
 use mathlib.Core.Bool.{Bool, true, false}
