@@ -47,7 +47,9 @@ pub item-lacking : (n : ℕ) (part : List ℕ) (k : ℕ) → length part / n ≤
 unfolding item
 item-lacking n part k h = rw (le-ltb k (length part / n) h) refl
 
-take-drop-take : (l : List ℕ) (a n m : ℕ) → a + n ≤ m → m ≤ length l → take n (drop a (take m l)) ≡ take n (drop a l)
+-- bytes of the first m are bytes of the whole
+pub take-drop-take : (l : List ℕ) (a n m : ℕ) → a + n ≤ m → m ≤ length l
+    → take n (drop a (take m l)) ≡ take n (drop a l)
 take-drop-take l a n m h k =
     let split : m ≡ a + (m - a) = omega arith in
     ap (λ (j : ℕ). take n (drop a (take j l))) split

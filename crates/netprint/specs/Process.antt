@@ -2,9 +2,9 @@
 use Prim.Native.Nat.{ℕ, zero, suc}
 use mathlib.Core.Path.{_≡_}
 use mathlib.Core.Bool.{Bool, true, false}
-use mathlib.Core.List.{List, []}
+use mathlib.Core.List.{List, [], _++_}
 use lib.IntN.{ℤ, pos, negsuc}
-use lib.ListN.{length, take}
+use lib.ListN.{length, take, drop}
 use Rattle.io.specs.Counts.{Counts}
 use Rattle.text.specs.Text.{textOf}
 use Rattle.netprint.specs.declared.Stop.{Stop}
@@ -25,6 +25,16 @@ pub record Stopped (stop : Stop) (input : List ℕ) : Type 0 where
   pub counted : Counts (stop .bytes) input
   pub full : gave (stop .last) ≡ true → stop .bytes ≡ length input
 
+-- 'It reads at most 2048 bytes of standard input, which suffice': how many places there are for them
+abbrev pub mostRead : ℕ
+mostRead = 2048
+
+-- What was read is of this whole input: the bytes that were read are its first ones, and all of them where
+-- the last read answered 0, the end of the input.
+pub record ReadOf (stop : Stop) (input whole : List ℕ) : Type 0 where
+  pub first : take (stop .bytes) input ≡ take (stop .bytes) whole
+  pub ended : stop .last ≡ pos 0 → stop .bytes ≡ length whole
+
 -- for standard output: the text of the bytes that were read, and nothing where a read failed
 abbrev pub outputBy : Bool → List ℕ → List ℕ
 outputBy true s = []
@@ -32,6 +42,19 @@ outputBy false s = textOf s
 
 abbrev pub outputFor : Stop → List ℕ → List ℕ
 outputFor stop input = outputBy (failed (stop .last)) (take (stop .bytes) input)
+
+-- it is the text of the whole input, however long that is
+abbrev pub OutputOfWhole : Stop → List ℕ → Type 0
+OutputOfWhole stop input =
+    (whole : List ℕ) → ReadOf stop input whole → outputFor stop input ≡ outputBy (failed (stop .last)) whole
+
+-- It is in the buffer from its first byte to its last, none left out for want of room, and so many bytes are
+-- counted; behind it the buffer is as it was.
+pub record OutputReady (stop : Stop) (input old new : List ℕ) (bytes : ℕ) : Type 0 where
+  pub counted : bytes ≡ length (outputFor stop input)
+  pub within : Counts bytes new
+  pub buffer : new ≡ outputFor stop input ++ drop bytes old
+  pub whole : OutputOfWhole stop input
 
 -- for standard error: the line `unread` where a read failed, the line `unwritten` where a write failed, else nothing
 abbrev pub errorBy : Bool → Bool → List ℕ → List ℕ → List ℕ

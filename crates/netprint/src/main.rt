@@ -11,10 +11,15 @@
 ghost use mathlib.Core.Path.{_≡_};
 ghost use Prim.Native.Nat.{_-_, _≤_};
 ghost use lib.ListN.{length, take};
-ghost use Rattle.io.specs.Counts.{Counts};
 ghost use Rattle.libc.specs.Io.{Moved};
-ghost use Rattle.text.specs.Text.{writtenOf, writtenBytes, bufferOf};
-ghost use Rattle.netprint.specs.Process.{Stopped, failed, outputFor, errorFor};
+ghost use Rattle.text.specs.Longest.{longestText};
+ghost use Rattle.netprint.specs.Process.{
+  Stopped,
+  failed,
+  mostRead,
+  OutputReady,
+  errorFor,
+};
 use libc::STDERR_FILENO;
 use libc::STDIN_FILENO;
 use libc::STDOUT_FILENO;
@@ -71,12 +76,13 @@ fn is_failed(last: isize) -> bool
 }
 
 // Puts what goes to standard output into `out` and answers how many bytes that is: the text of the
-// bytes that were read, and nothing where a read failed.
+// bytes that were read, and nothing where a read failed. So many bytes are read that this is the text
+// of the whole input, and `out` has room for every text, so that it is always there whole.
 fn answer(stop: Stop, input: &[u8], out: &mut [u8]) -> usize
-    requires { ⌜ Counts (stop .bytes) (now input) ⌝ }
-    ensures bytes { λ r. ⌜ r ≡ writtenBytes (writtenOf (outputFor stop (now (input .entry))) (now (out .entry))) ⌝ }
-    ensures within { λ r. ⌜ Counts r (now (out .exit)) ⌝ }
-    ensures buffer { λ _. ⌜ now (out .exit) ≡ bufferOf (outputFor stop (now (input .entry))) (now (out .entry)) ⌝ }
+    requires stopped { ⌜ Stopped stop (now input) ⌝ }
+    requires input { ⌜ length (now input) ≡ mostRead ⌝ }
+    requires out { ⌜ longestText ≤ length (now out) ⌝ }
+    ensures { λ r. ⌜ OutputReady stop (now (input .entry)) (now (out .entry)) (now (out .exit)) r ⌝ }
 {
     if is_failed(stop.last) {
         return 0;
@@ -102,9 +108,10 @@ fn complaint<'a>(last: isize, wrote: bool, unread: &'a [u8], unwritten: &'a [u8]
     unwritten
 }
 
-// The longest record that is accepted has 1017 bytes, so 2048 are enough to tell; what comes after
-// them is not read. Every text fits into 4183 bytes, so write_text does not answer 11 here; if it did,
-// there would be nothing to write. Of no bytes at all io::write_all makes no call and answers true.
+// `answer` gets the places that it demands. 2048 bytes suffice, what comes after them is not read: the text
+// of any input is that of its first bytes (crates/text/specs/Longest.antt). No text is longer than 4183
+// bytes, so write_text does not answer 11 here. Of no bytes at all io::write_all makes no call and answers
+// true.
 fn main() {
     let mut input = [0u8; 2048];
     let stop = read_input(&mut input);

@@ -4,3 +4,4 @@ pub mod Causes
 pub mod Accepted
 pub mod Fields
 pub mod AllSamples
+pub mod Longest

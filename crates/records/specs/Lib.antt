@@ -3,3 +3,4 @@ pub mod Reading
 pub mod Fields
 pub mod Causes
 pub mod Samples
+pub mod Longest

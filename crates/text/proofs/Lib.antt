@@ -1,6 +1,6 @@
 pub mod Decimal
 pub mod Over
-pub mod Samples
+pub mod AllSamples
 pub mod Then
 pub mod InParts
 pub mod NetRows
@@ -8,3 +8,4 @@ pub mod Standing
 pub mod Calls
 pub mod Room
 pub mod Whole
+pub mod Longest

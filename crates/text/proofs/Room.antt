@@ -44,6 +44,7 @@ use Rattle.machine.proofs.Over.{Reached}
 use Rattle.machine.proofs.Demand3.{along}
 use Rattle.text.specs.Words.{decimal, signedDecimal, line}
 use Rattle.text.specs.Text.{word, refusedLine, headLine, moveLine, moveLines, named, indices, entryLine, entryLines, frameLine, netLines, pointRefusedLine, coordinateWord, projectionLine, pointLine, acceptedText}
+use Rattle.text.specs.Longest.{longestText}
 use Rattle.text.proofs.Decimal.{length-decimal, length-u64, length-component, length-hexBits}
 
 -- ---- a line by its words
@@ -70,12 +71,14 @@ spaced-append (w ∷ a) b = omega (arith, spaced-append a b)
 
 -- ---- a refused record
 
-pub refused-room : (number offset : ℕ) → number < 256 → offset < 2 ^ 64 → length (refusedLine number offset) ≤ 4183
+pub refused-room : (number offset : ℕ) → number < 256 → offset < 2 ^ 64
+    → length (refusedLine number offset) ≤ longestText
 unfolding refusedLine
 refused-room number offset small fits =
     let n = length-decimal number 3 (omega arith) (omega arith) in
     let o = length-u64 offset fits in
-    line-room 4183 (word "refused" ∷ decimal number ∷ word "at" ∷ decimal offset ∷ []) (omega arith) (omega arith)
+    let words = word "refused" ∷ decimal number ∷ word "at" ∷ decimal offset ∷ [] in
+    line-room longestText words (omega arith) (omega arith)
 
 -- ---- the first line
 
@@ -351,7 +354,7 @@ reached-net-room f frames at =
 
 -- 14 + 608 + 159 + 3330 + 72 bytes at most
 pub accepted-room : (f : Polynomials) (frames : Frames) → Reached f frames → (moves points : List Call) → length moves ≤ 32 → length points ≤ 1
-    → length (acceptedText f frames moves points) ≤ 4183
+    → length (acceptedText f frames moves points) ≤ longestText
 unfolding acceptedText
 accepted-room f frames at moves points some one =
     let reached = after (machineStep f) frames moves in

@@ -2,3 +2,5 @@ pub mod Words
 pub mod Text
 pub mod Parts
 pub mod Told
+pub mod Longest
+pub mod Samples

@@ -10,6 +10,7 @@ ghost use Prim.Native.Nat.{_≤_};
 ghost use lib.ListN.{length};
 ghost use Rattle.machine.specs.Lent.{netAt};
 ghost use Rattle.opening.specs.Opening.{movesOf, pointOf};
+ghost use Rattle.text.specs.Longest.{longestText};
 ghost use Rattle.text.specs.Words.{Wrote};
 ghost use Rattle.text.specs.Told.{Told};
 ghost use Rattle.text.specs.Parts.{Stands, netText};
@@ -38,7 +39,7 @@ pub enum Written {
 
 // Makes the one line of a refused record.
 fn write_refusal(out: &mut [u8], refusal: Refusal) -> usize
-    requires { ⌜ 4183 ≤ length (now out) ⌝ }
+    requires { ⌜ longestText ≤ length (now out) ⌝ }
     ensures { λ r. ⌜ Wrote (now (out .entry)) 0 (refusedLine (refusal .number) (refusal .offset)) (now (out .exit)) r ⌝ }
 {
     put_pair(
@@ -65,7 +66,7 @@ fn write_accepted(out: &mut [u8], net: &mut [i64], moves: &[u8], point: &[u8]) -
 
 // Makes the text in a buffer that every text fits into.
 fn make_text(out: &mut [u8], input: &[u8]) -> usize
-    requires { ⌜ 4183 ≤ length (now out) ⌝ }
+    requires { ⌜ longestText ≤ length (now out) ⌝ }
     ensures { λ r. ⌜ Wrote (now (out .entry)) 0 (textOf (now (input .entry))) (now (out .exit)) r ⌝ }
 {
     let mut net = [0i64; NET];

@@ -9,6 +9,7 @@ use lib.ListN.{length, replicate}
 use Rattle.machine.specs.Lent.{netAt}
 use Rattle.opening.specs.Opening.{movesOf, pointOf}
 use Rattle.text.specs.Text.{textOf}
+use Rattle.text.specs.Longest.{longestText}
 use Rattle.text.specs.Parts.{netText}
 use Rattle.text.proofs.Whole.{opened-stands, opened-text, opened-room, refused-text}
 use Rattle.text.proofs.Then.{wrote-as}
@@ -40,7 +41,8 @@ write-accepted-requires c κs =
     let o = c .before .before .before .before .before .before .before .before in
     let ok = c .before .before .before .before .if1 .left in
     let size = s .pre in
-    let room = subst (λ t. length t ≤ 4183) (sym (made-is (c .before .before))) (opened-room (s .args .input .now) zeros refl (o .«open» .ensures) ok) in
+    let fits = opened-room (s .args .input .now) zeros refl (o .«open» .ensures) ok in
+    let room = subst (λ t. length t ≤ longestText) (sym (made-is (c .before .before))) fits in
     (opened-stands (s .args .input .now) zeros refl (o .«open» .ensures) ok, omega (arith, size, room))
 
 returns-2 : tie.Need-returns-2
