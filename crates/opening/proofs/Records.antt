@@ -197,7 +197,9 @@ pub accepted-numbers : (s : List ℕ) → refusalIn s .number ≡ 0
     → firstRefusal (polynomialsIn s) (numbersIn s) ≡ 0
 accepted-numbers s none =
     let read = accepted-read s none in
-    sym (ap (λ r. r .number) (refusal-is s (read .0) (read .1)) ∙ refusal-number _ (read .0 .coefficients .field))
+    sym
+    (ap (λ r. r .number) (refusal-is s (read .0) (read .1))
+    ∙ refusal-number _ (read .0 .coefficients .field))
     ∙ none
 
 -- one that is opened has places enough, and is not refused

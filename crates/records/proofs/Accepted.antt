@@ -196,7 +196,8 @@ module _ (s : List ℕ) where
       by (eqb (readEnd s step5 .number) 0) refl (sym (all-steps s refl refl refl refl refl refl refl) ∙ e)
     where
       by : (b : Bool) → eqb (readEnd s step5 .number) 0 ≡ b
-          → cond b (Fields layout) (Refused (record { number = readEnd s step5 .number; offset = readEnd s step5 .at }))
+          → cond b (Fields layout)
+          (Refused (record { number = readEnd s step5 .number; offset = readEnd s step5 .at }))
           ≡ Fields l
           → (layout ≡ l) × (readEnd s step5 .number ≡ 0)
       by true z k = (cc, eqb-true (readEnd s step5 .number) 0 z)
