@@ -1,6 +1,6 @@
--- No accepted record is longer than `longestRecord`, and the reader looks no further. From wherever a field
--- may begin, what the slots that are left can take stays within that bound, by the kind and the degrees; so
--- where the bytes are more, a cause that is there in all of them is there in the first ones.
+-- No record that the reader does not refuse is longer than `longestRecord`, and it looks no further. From
+-- wherever a field may begin, what the slots that are left can take stays within that bound, by the kind and
+-- the degrees; so where the bytes are more, a cause that is there in all of them is there in the first ones.
 use Prim.Native.Nat.{ℕ, _+_, _%_, _≤_, _<_, max}
 use native.Mathlib.Omega.{arith}
 use mathlib.Core.Path.{_≡_, refl, sym, _∙_, ap, subst}
@@ -292,7 +292,7 @@ no-longer-record s l e =
 
 pub one-as-long : OneAsLong
 unfolding readingOf framesAllowed frameAllowed frameNumbers frameOf monomialsOver monomials coefficientsOf
-one-as-long = record { long = refl; accepted = refl }
+one-as-long = record { long = refl; read = refl }
 
 -- ---- the first bytes of more than n, as many as the longest record has and three more
 

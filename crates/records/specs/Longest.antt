@@ -9,7 +9,7 @@ use Rattle.records.specs.declared.Layout.{Layout}
 use Rattle.records.specs.declared.Refusal.{Refusal}
 use Rattle.records.specs.declared.Reading.the-variants.{Fields, Refused}
 
--- the most bytes that an accepted record has
+-- the most bytes of a record that the reader does not refuse, and so of an accepted one
 abbrev pub longestRecord : ℕ
 longestRecord = 1017
 
@@ -28,7 +28,7 @@ longRecord =
 
 pub record OneAsLong : Type 0 where
   pub long : length longRecord ≡ longestRecord
-  pub accepted : readingNumber (readingOf longRecord) ≡ 0
+  pub read : readingNumber (readingOf longRecord) ≡ 0
 
 -- What the reader says depends on the first bytes only: on as many as the longest record has, and on three
 -- more, the tag and the length of a field that comes after it.

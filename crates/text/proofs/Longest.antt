@@ -1,6 +1,6 @@
 -- Every text has room, and comes from the first bytes of its input. A reading that is refused has a small
--- number and an offset within the longest record, which the first bytes tell; an accepted record is no longer
--- than these.
+-- number and an offset within the longest record, which the first bytes tell; a record that the reader does
+-- not refuse is no longer than these.
 use Prim.Native.Nat.{ℕ, zero, suc, _≤_, _<_}
 use native.Mathlib.Omega.{arith}
 use mathlib.Core.Path.{_≡_, refl, sym, ap, _∙_, subst}
@@ -57,7 +57,7 @@ near-room s few near = by (refusalIn s .number) refl
         subst (λ t. length t ≤ longestText) (sym (refused-is s (refusalIn s) refl (omega (arith, is))))
         (refused-room (refusalIn s .number) (refusalIn s .offset) few (omega (arith, near)))
 
--- of an accepted reading the first net may be refused, at the offset of field 3
+-- of a reading that is not refused the first net may be, at the offset of field 3
 net-refusal : (b : Bool) (offset : ℕ) → offset ≤ longestRecord →
     let r = refusalAt (firstFailed (b else 7 ∷ [])) offset in
     (r .number < 256) × (r .offset ≤ longestRecord)
