@@ -807,6 +807,49 @@ static void test_fields(void) {
     test_field(bytes, size + 18, GADWEMOSH_FIELD_POINT, 0, size + 14, 4);
 }
 
+/* The fields of a record of these fields 1 to 3, with so many flips of r and with a point or without: moves and point
+ * each have their own place and length, and what is absent is the empty part at the end. */
+static void test_optional(const uint8_t *head, size_t size, int moves, int weights) {
+    uint8_t bytes[512];
+    uint8_t *at = bytes + size;
+    memcpy(bytes, head, size);
+    if (moves >= 0) {
+        at = put(put(at, 1, 4), 2, 8 * moves);
+        for (int i = 0; i < moves; i++)
+            at = put(at, 8, INT64_C(0x0201000000000000));
+    }
+    size_t moves_end = (size_t)(at - bytes);
+    if (weights > 0) {
+        at = put(put(at, 1, 5), 2, 2 * weights);
+        for (int i = 0; i < weights; i++)
+            at = put(at, 2, 1);
+    }
+    size_t end = (size_t)(at - bytes);
+    test_field(bytes, end, GADWEMOSH_FIELD_MOVES, 0, moves >= 0 ? size + 3 : end, moves > 0 ? 8 * (uint64_t)moves : 0);
+    test_field(bytes, end, GADWEMOSH_FIELD_POINT, 0, weights > 0 ? moves_end + 3 : end, 2 * (uint64_t)weights);
+}
+
+/* Neither of fields 4 and 5, each alone and both, for every kind; no move, one, two and 32. With one move of a
+ * rectangular patch both have eight bytes, elsewhere their lengths differ. */
+static void test_optional_fields(void) {
+    const int counts[] = {-1, 0, 1, 2, 32};
+    uint8_t triangle[125], rectangle[146], *at = triangle;
+    at = put(put(at, 5, INT64_C(0x0100020202)), 3, 0x020012);
+    for (int i = 0; i < 9; i++)
+        at = put(at, 2, patch_frame[i]);
+    at = put(at, 3, 0x030060);
+    for (int i = 0; i < 24; i++)
+        at = put(at, 4, patch[i]);
+    make_rect_record(rectangle);
+    EXPECT(at == triangle + 125);
+    for (size_t i = 0; i < sizeof counts / sizeof *counts; i++)
+        for (int point = 0; point <= 1; point++) {
+            test_optional(record, 67, counts[i], 2 * point);
+            test_optional(triangle, 125, counts[i], 3 * point);
+            test_optional(rectangle, 124, counts[i], 4 * point);
+        }
+}
+
 static void test_fields_rect(void) {
     uint8_t bytes[146];
     make_rect_record(bytes);
@@ -832,6 +875,22 @@ static void test_fields_rect(void) {
     test_no_fields(bytes, 146, 3);
 }
 
+/* The text into a buffer of every length up to a few bytes more than it has: shorter ones are refused 11 and left as
+ * they were, one of exactly its length is filled, and behind it every byte stays. */
+static void test_lengths(const uint8_t *bytes, size_t size, const char *text) {
+    size_t wanted = strlen(text);
+    for (size_t room = 0; room <= wanted + 3; room++) {
+        uint8_t out[300], old[300];
+        uint64_t told = 7777;
+        memset(old, '-', sizeof old);
+        memcpy(out, old, sizeof out);
+        if (room >= wanted)
+            memcpy(old, text, wanted);
+        EXPECT(gadwemosh_text(bytes, size, out, room, &told) == (room >= wanted ? 0 : 11));
+        EXPECT(told == (room >= wanted ? wanted : 0) && memcmp(out, old, sizeof out) == 0);
+    }
+}
+
 static void test_text(void) {
     const char *text = "curve 2 2\nframe 0 1 1 1\n0 2 0 0 2\n1 2 2 0 2\n2 0 4 0 4\n"
                        "at 3fe3333333333333 3fe999999999999a 0000000000000000\n";
@@ -845,6 +904,8 @@ static void test_text(void) {
     memset(out, '-', sizeof out);
     EXPECT(gadwemosh_text(record, length, out, strlen(text), &size) == 0);
     EXPECT(size == strlen(text) && memcmp(out, text, size) == 0 && out[size] == '-');
+    test_lengths(record, length, text);
+    test_lengths(record, 0, "refused 2 at 0\n");
     /* a refused record has a text too */
     memset(out, '-', sizeof out);
     EXPECT(gadwemosh_text(record, 0, out, 0, &size) == 11 && size == 0 && out[0] == '-');
@@ -864,6 +925,7 @@ static void test_text_rect(void) {
     EXPECT(gadwemosh_text(bytes, 146, out, strlen(text) - 1, &size) == 11 && size == 0 && out[0] == '-');
     EXPECT(gadwemosh_text(bytes, 146, out, strlen(text), &size) == 0);
     EXPECT(size == strlen(text) && memcmp(out, text, size) == 0 && out[size] == '-');
+    test_lengths(bytes, 146, text);
 }
 
 /* The zero curve of degree 1 with five moves: 4096 s four times, which is 2 to the 48th, and then 2 s. */
@@ -881,6 +943,7 @@ static void test_text_frame(void) {
     memset(out, '-', sizeof out);
     EXPECT(gadwemosh_text(bytes, sizeof bytes, out, sizeof out, &size) == 0);
     EXPECT(size == strlen(text) && memcmp(out, text, size) == 0 && out[size] == '-');
+    test_lengths(bytes, sizeof bytes, text);
 }
 
 /* The header's own arithmetic: the frame's numbers and the entries follow each other in order, four places for an
@@ -929,6 +992,7 @@ int main(void) {
     test_largest_along();
     test_project();
     test_fields();
+    test_optional_fields();
     test_fields_rect();
     test_text();
     test_text_rect();

@@ -271,6 +271,11 @@ class Refused(Exception):
         self.number, self.offset = number, offset
 
 
+def head_at(b, p):
+    """Tag and length of the field that begins at p."""
+    return struct.unpack(">BH", b[p:p + 3])
+
+
 def length_ok(tag, length, kind, degrees):
     """Whether the table allows this length; kind and degrees are those of field 1."""
     if tag == 1:
@@ -301,12 +306,11 @@ def read_record(b):
     while p < len(b):
         if len(b) - p < 3:                                   # three bytes present
             raise Refused(1, p)
-        tag = b[p]
+        tag, length = head_at(b, p)
         if tag not in (1, 2, 3, 4, 5) or tag <= last:        # unknown, repeated, lower
             raise Refused(2, p)
         if any(t < tag and t not in seen for t in (1, 2, 3)):   # before a required one
             raise Refused(2, p)
-        length = struct.unpack(">H", b[p + 1:p + 3])[0]
         if not length_ok(tag, length, kind, degrees):        # length
             raise Refused(3, p)
         if p + 3 + length > len(b):                          # value present

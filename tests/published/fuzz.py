@@ -3,15 +3,26 @@
 
     python3 fuzz.py PROGRAM [COUNT [SEED]]      stops at the first difference
     python3 fuzz.py - [COUNT [SEED]]            calculator only, prints a tally
+    python3 fuzz.py --rules [COUNT [SEED]]      wrong calculators against the right one
 
 The program reads a record on standard input.  A differing record is printed in
 hex with both texts.
+
+--rules shows that the records can tell right from wrong: the calculator is run on the
+samples and on generated records with size rules that leave named polar values out
+(sizes.py), and with tags and lengths read without their high bits.  For each it prints on
+how many of both the text is another one, and it fails if one of the two is 0.  With
+nothing left out no text may differ.
 """
+import os
 import random
+import re
 import subprocess
 import sys
 
 import calculator as calc
+import sizes
+from check import HERE, SAMPLES, hexbytes, load
 
 
 def whole(rnd):
@@ -81,7 +92,25 @@ def growing(rnd):
     return calc.record(kind, degrees, frame, coeffs, [move() for _ in range(rnd.randint(4, 32))], point)
 
 
+def high_bits(rnd, b):
+    """One tag or one length of a whole record with other high bits.  Who reads three bits of a tag, or ten
+    of a length, reads as before."""
+    b = bytearray(b)
+    heads, p = [], 0
+    while p < len(b):
+        heads.append(p)
+        p += 3 + int.from_bytes(b[p + 1:p + 3], "big")
+    p = rnd.choice(heads)
+    if rnd.random() < 0.5:
+        b[p] ^= rnd.choice((0x08, 0x10, 0x20, 0x40, 0x80, 8 * rnd.randint(1, 31)))
+    else:
+        b[p + 1] ^= rnd.choice((0x04, 0x08, 0x10, 0x20, 0x40, 0x80, 4 * rnd.randint(1, 63)))
+    return bytes(b)
+
+
 def broken(rnd, b):
+    if rnd.random() < 0.25:
+        return high_bits(rnd, b)
     b = bytearray(b)
     for _ in range(rnd.randint(1, 2)):
         way = rnd.randrange(5)
@@ -99,15 +128,82 @@ def broken(rnd, b):
     return bytes(b)
 
 
+def generated(rnd):
+    sort = rnd.random()
+    if sort < 0.15:
+        return sizes.one_beyond(rnd)
+    rec = growing(rnd) if sort < 0.3 else whole(rnd)
+    return broken(rnd, rec) if rnd.random() < 0.35 else rec
+
+
+class Reading:
+    """The calculator with another reading of tags and lengths, while it is open."""
+
+    def __init__(self, tags, lengths):
+        self.tags, self.lengths = tags, lengths
+
+    def head_at(self, b, p):
+        tag, length = self.right(b, p)
+        return tag % self.tags, length % self.lengths
+
+    def __enter__(self):
+        self.right, calc.head_at = calc.head_at, self.head_at
+
+    def __exit__(self, *_):
+        calc.head_at = self.right
+
+
+def wrong():
+    """(name, calculator, whether it may differ on a record with this text).  A size rule that leaves
+    something out differs only where its call is refused 10.  No accepted record has a tag beyond 5 or a
+    length beyond 768, so one without the high bits reads it alike."""
+    for name, call, kind, *rest in sizes.rules():
+        line = re.compile(r"%s (.*\n)*%s.* refused 10\n" % (calc.WORD[kind], "move" if call == "replace" else call))
+        yield name, sizes.Judging(call, kind, *rest), line.match
+    for bits in range(3, 8):
+        yield "tags modulo %d" % 2 ** bits, Reading(2 ** bits, 2 ** 16), re.compile("refused").match
+    for bits in range(10, 16):
+        yield "lengths modulo %d" % 2 ** bits, Reading(2 ** 8, 2 ** bits), re.compile("refused").match
+
+
+def told_apart(records):
+    """Calculator's name -> on how many of these records its text is another one."""
+    nothing, calculators = sizes.Judging("replace", 0, 0, None), list(wrong())
+    told = {name: 0 for name, _, _ in calculators}
+    for rec in records:
+        want = calc.netprint(rec)
+        with nothing:
+            if "refused 10" in want and calc.netprint(rec) != want:
+                raise SystemExit("differs where nothing is left out: " + rec.hex())
+        for name, calculator, may_differ in calculators:
+            if may_differ(want):
+                with calculator:
+                    told[name] += calc.netprint(rec) != want
+    return told
+
+
+def tell_apart(count, rnd):
+    names = sorted(f[:-4] for f in os.listdir(os.path.join(HERE, SAMPLES)) if f.endswith(".hex"))
+    samples = told_apart(hexbytes(load(SAMPLES, name, ".hex")) for name in names)
+    made = told_apart(generated(rnd) for _ in range(count))
+    print("told apart by %d samples and by %d generated records:" % (len(names), count))
+    for name in made:
+        print("%6d %6d  %s" % (samples[name], made[name], name))
+    missed = [name for name in made if 0 in (samples[name], made[name])]
+    print("%d wrong calculators, %d not told apart by the samples or by the generated records"
+          % (len(made), len(missed)))
+    return 1 if missed else 0
+
+
 def main(argv):
     prog = argv[0]
     count = int(argv[1]) if len(argv) > 1 else 1000
     rnd = random.Random(int(argv[2]) if len(argv) > 2 else 1)
+    if prog == "--rules":
+        return tell_apart(count, rnd)
     tally = {}
     for n in range(count):
-        rec = growing(rnd) if rnd.random() < 0.15 else whole(rnd)
-        if rnd.random() < 0.35:
-            rec = broken(rnd, rec)
+        rec = generated(rnd)
         want = calc.netprint(rec)
         for line in want.split("\n"):
             w = line.split()

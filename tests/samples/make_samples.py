@@ -6,8 +6,9 @@ E2 for the length of a direction; those of rectangular patches (request E3) are 
 rect_samples.py.  They stand here without the line `frame` (request E5), which
 published/frames.py puts in: the record's frame after the moves that the text does not
 call refused.  The samples of that request itself are in frame_samples.py, those of
-request E10 in order_samples.py; both have the line from the start.  The calculator is
-only asked afterwards whether it agrees, and a disagreement stops the run.
+request E10 in order_samples.py, those of the size rule's names in size_samples.py; all three
+have the line from the start.  reading_samples.py holds every bit of a tag and of a length.  The
+calculator is only asked afterwards whether it agrees, and a disagreement stops the run.
 """
 import math
 import os
@@ -21,7 +22,9 @@ import edge_samples
 import frame_samples
 import frames
 import order_samples
+import reading_samples
 import rect_samples
+import size_samples
 from fields import FLP, REPL, f1, f2, f3, f4, f5, field
 
 ALL = []
@@ -684,9 +687,9 @@ S("len-widest", f1(1, 1) + f2(1, 0, 0, 1) + f3((-1, 1, 2, 0), (1048576, -1048576
 
 
 def main():
-    old = ALL + edge_samples.samples() + rect_samples.samples()
+    old = ALL + edge_samples.samples() + reading_samples.samples() + rect_samples.samples()
     every = [(name, comment, rec, name and frames.with_frame(rec, text)) for name, comment, rec, text in old]
-    every += frame_samples.samples() + order_samples.samples()
+    every += frame_samples.samples() + order_samples.samples() + size_samples.samples()
     names = [s[0] for s in every if s[0]]
     assert len(names) == len(set(names)), [name for name in names if names.count(name) > 1]
     for f in os.listdir(OUT):
@@ -698,9 +701,10 @@ def main():
              "# line of text, comment.  Texts were written by hand from document 01, those of a",
              "# direction from request E2 too and those of rectangular patches from E3, the longer ones",
              "# by a rule that stands beside them in make_samples.py or rect_samples.py (scale-*: L",
-             "# divided by the multinomial) or order_samples.py (powers of linear forms), the line",
+             "# divided by the multinomial) or order_samples.py (powers of linear forms) or size_samples.py",
+             "# (a value with q in a place is the sum of those with a vertex there, times its weight), the line",
              "# `frame` of request E5 by hand in frame_samples.py and order_samples.py and by the rule",
-             "# in published/frames.py elsewhere, and then compared with calculator.py",
+             "# in size_samples.py or published/frames.py elsewhere, and then compared with calculator.py",
              "# (r7-edge-passes: 44 numbers from calculator.py).",
              "# Which refusal wins where several hold: the earlier field's; within a field a cut",
              "# header (1), then tag (2), length (3), a cut value (1), what the value says (4, 5,",

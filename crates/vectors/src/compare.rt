@@ -13,6 +13,7 @@ pub(crate) enum Verdict {
     DiffersAt(usize),
     PastTheText,
     ShortBuffer,
+    ExactBuffer,
 }
 
 // The first place where two lists of bytes differ; where one begins with the other, the length of
@@ -51,6 +52,14 @@ fn is_eleven(answer: Written) -> bool {
     }
 }
 
+// Whether the answer is that the text has n bytes.
+fn is_length(answer: Written, n: usize) -> bool {
+    match answer {
+        Written::Bytes(length) => length == n,
+        Written::Refused(_) => false,
+    }
+}
+
 // Whether a buffer one byte shorter than a text of n bytes is refused with 11 and left as it was.
 // The buffer is the front of `out`, which has only marks. No text is empty.
 fn short_is_refused(record: &[u8], n: usize, out: &mut [u8]) -> bool {
@@ -63,6 +72,17 @@ fn short_is_refused(record: &[u8], n: usize, out: &mut [u8]) -> bool {
     }
     let answer = write_text(record, &mut out[..short]);
     is_eleven(answer) && all_marks(out)
+}
+
+// Whether a buffer of exactly the expected text's length is filled with it and answered with that length. The
+// buffer is the front of `out`, which has only marks; what lies behind it keeps them.
+fn exact_is_filled(record: &[u8], expected: &[u8], out: &mut [u8]) -> bool {
+    let n = expected.len();
+    if out.len() < n {
+        return false;
+    }
+    let answer = write_text(record, &mut out[..n]);
+    is_length(answer, n) && first_difference(out, expected) == n && all_marks(&out[n..])
 }
 
 // The first n bytes of a buffer against the expected text, and the bytes past them against the mark.
@@ -79,6 +99,9 @@ fn judge_text(record: &[u8], out: &[u8], n: usize, expected: &[u8]) -> Verdict
     let mut other = [0u8; 4183];
     if !short_is_refused(record, n, &mut other) {
         return Verdict::ShortBuffer;
+    }
+    if !exact_is_filled(record, expected, &mut other) {
+        return Verdict::ExactBuffer;
     }
     Verdict::Equal
 }

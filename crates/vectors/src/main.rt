@@ -6,11 +6,12 @@
 // input and the output that it must give.
 //
 // For each vector there is a line `LABEL equal` or `LABEL differs at N`, N being the place of the
-// first byte that is not the expected one; a last line has both counts. `equal` says three things:
+// first byte that is not the expected one; a last line has both counts. `equal` says four things:
 // - in a buffer of 4183 bytes the text is the expected one, byte for byte;
 // - the rest of that buffer is as it was before;
-// - a buffer one byte shorter than the text is refused with 11, and not a byte of it is written.
-// Where the text is right and one of the other two fails, the line says which.
+// - a buffer one byte shorter than the text is refused with 11, and not a byte of it is written;
+// - a buffer of exactly the text's length is filled with the text, and the answer is that length.
+// Where the text is right and one of the other three fails, the line says which.
 mod compare;
 mod packed;
 
@@ -47,6 +48,10 @@ fn write_verdict(v: Verdict) -> bool {
         }
         Verdict::ShortBuffer => {
             io::write_all(STDOUT_FILENO, b" is not refused in a short buffer\n");
+            false
+        }
+        Verdict::ExactBuffer => {
+            io::write_all(STDOUT_FILENO, b" does not fill a buffer of its length\n");
             false
         }
     }

@@ -163,6 +163,9 @@ impl Run<'_> {
         if expected == Answer::Refused(12) {
             self.counts.twelve(&before, call);
         }
+        if let (Answer::Refused(10), Ok(shape)) = (expected, before.judged(call)) {
+            self.counts.refused_for_size(&before, shape, call);
+        }
         let given = answer(self.library, net, call, &mut found);
         self.counts.answer(before.kind(), &given);
         self.counts.claim(&before, call, &expected);
@@ -230,6 +233,9 @@ impl Run<'_> {
     fn check_fields(&mut self, bytes: &[u8], refusal: Option<Refusal>) -> Result<(), String> {
         let few = [0, 1, 2, 3, 4, 5, 6, 255, self.random.next() as u8];
         let tags = if self.random.once_in(ALL_TAGS_ONCE_IN) { (0..=255).collect() } else { few.to_vec() };
+        if refusal.is_none() {
+            self.counts.optional(field_of(bytes, None, 4).length, field_of(bytes, None, 5).length);
+        }
         for tag in tags {
             let (expected, given) = (field_of(bytes, refusal, tag), self.library.field(bytes, tag));
             self.counts.lookup(tag, &expected, bytes.len());

@@ -4,6 +4,7 @@
 use crate::calls::{Answer, Call, Weights, FLIP, REPLACE};
 use crate::closing::Closing;
 use crate::handed::{Net, ENTRIES, LARGEST, PLACES};
+use crate::named::{beyond, named, GROUPS};
 use crate::projection::{Projection, Room, COORDINATES, DIRECTION};
 use crate::record::{Lookup, Refusal};
 use crate::shape::{Kind, Shape, RANGE};
@@ -51,6 +52,11 @@ pub struct Counts {
     pub firsts: [u64; 12],
     /// Lookups of fields, as `LOOKUPS` names them.
     pub lookups: [u64; 6],
+    /// Accepted records in which fields were looked up, as `OPTIONAL` names them.
+    pub optional: [u64; 5],
+    /// Calls refused for one named polar value alone, that of q and of vertices, in the order of `GROUPS`: replaces
+    /// and points, in all and with every vertex of the group.
+    pub alone: [[[u64; 2]; 2]; 4],
     /// Projections into too few places, into just enough, and into more.
     pub rooms: [u64; 3],
     /// Points on rectangular patches, as `STAGES` names them.
@@ -99,6 +105,12 @@ const STAGES: [&str; 3] = ["refused with the first pair", "refused with the seco
 /// field has; and of refused records.
 const LOOKUPS: [&str; 6] =
     ["a value", "an empty value", "an absent field", "no field's tag", "a record refused 1 to 6", "a record refused 7"];
+
+/// By the bytes that fields 4 and 5 have.
+const OPTIONAL: [&str; 5] = ["neither moves nor a point", "moves alone", "a point alone", "both, of one length", "both, of two lengths"];
+
+/// In the order of `GROUPS`.
+const ALONE: [&str; 4] = ["a curve", "a patch", "the first pair", "the second pair"];
 
 impl Tally {
     fn refused(&mut self, number: u8) {
@@ -316,6 +328,31 @@ impl Counts {
         self.lookups[place] += 1;
     }
 
+    /// An accepted record in which fields are looked up, by the lengths of fields 4 and 5.
+    pub fn optional(&mut self, moves: usize, point: usize) {
+        let place = match (moves, point) {
+            (0, 0) => 0,
+            (1.., 0) => 1,
+            (0, 1..) => 2,
+            _ if moves == point => 3,
+            _ => 4,
+        };
+        self.optional[place] += 1;
+    }
+
+    /// A call that is refused for size, and is in order otherwise.
+    pub fn refused_for_size(&mut self, net: &Net, shape: Shape, call: &Call) {
+        let values = named(shape, &net.used(shape), call);
+        let [name] = values.map_or(Vec::new(), |values| beyond(&values))[..] else { return };
+        for (place, (kind, group)) in GROUPS.into_iter().enumerate() {
+            if kind == shape.kind && name.is_mixed(shape, group) {
+                let counted = &mut self.alone[place][usize::from(matches!(call, Call::Point { .. }))];
+                counted[0] += 1;
+                counted[1] += u64::from(name.has_every_vertex(shape, group));
+            }
+        }
+    }
+
     pub fn text(&mut self, kind: Option<Kind>, answer: &Result<usize, u8>) {
         self.calls += 1;
         if let Err(number) = answer {
@@ -380,7 +417,9 @@ impl Counts {
             [(format!("12 for the handed frame of a {word}"), tally.frames_beyond), (format!("12 for q of a {word}"), tally.qs_beyond())]
         });
         let all = firsts.into_iter().chain(runs).chain(second).chain(lookups).chain(rooms).chain(stages).chain(frames).chain(twelve);
-        let all = all.chain(self.counts_of_the_largest());
+        let all = all.chain(self.counts_of_the_largest()).chain(self.counts_of_size());
+        let optional = OPTIONAL.map(|word| format!("a lookup in a record with {word}")).into_iter().zip(self.optional);
+        let all = all.chain(optional);
         all.filter(|word| word.1 == 0).map(|word| word.0).collect()
     }
 
@@ -400,7 +439,26 @@ impl Counts {
         claims.chain(kinds).chain(worked_out).chain(firsts).collect()
     }
 
-    /// The same in two lines.
+    /// What is counted of calls refused for one value alone, each with its words.
+    fn counts_of_size(&self) -> Vec<(String, u64)> {
+        let of_call = |of: &str, call: &str, [mixed, every]: [u64; 2]| {
+            let what = format!("{call} on {of} refused for one value alone, of q");
+            [(format!("{what} and vertices"), mixed), (format!("{what} and every vertex"), every)]
+        };
+        let both = |(of, [replaces, points]): (&str, [[u64; 2]; 2])| [of_call(of, "a replace", replaces), of_call(of, "a point", points)];
+        ALONE.into_iter().zip(self.alone).flat_map(both).flatten().collect()
+    }
+
+    /// The same in a line.
+    fn line_of_size(&self) -> String {
+        let of = |(of, [[replaces, with_every], [points, at_every]]): (&str, [[u64; 2]; 2])| {
+            format!("{of}: replaces {replaces} ({with_every}) points {points} ({at_every})")
+        };
+        let all: Vec<String> = ALONE.into_iter().zip(self.alone).map(of).collect();
+        format!("\nrefused 10 for one value alone, of q and vertices (of q and every vertex): {}", all.join(", "))
+    }
+
+    /// The counts of the largest component in two lines.
     fn lines_of_the_largest(&self) -> String {
         let counted = |words: &[&str], counts: &[u64]| {
             words.iter().zip(counts).map(|(word, count)| format!("{word} {count}")).collect::<Vec<String>>().join(", ")
@@ -435,10 +493,13 @@ impl Counts {
             line += &format!(" refused{}", refused.collect::<String>());
             let lookups = LOOKUPS.iter().zip(self.lookups).map(|(word, count)| format!("{word} {count}"));
             line += &format!("\nlookups of {}", lookups.collect::<Vec<String>>().join(", "));
+            let optional = OPTIONAL.iter().zip(self.optional).map(|(word, count)| format!("{word} {count}"));
+            line += &format!("; in records with {}", optional.collect::<Vec<String>>().join(", "));
             let [short, exact, longer] = self.rooms;
             line += &format!("; projections into too few places {short} just enough {exact} more {longer}");
             let frames = FRAMES.iter().zip(self.frames).map(|(word, count)| format!("{word} {count}"));
             line += &format!("\nframes: {}", frames.collect::<Vec<String>>().join("; "));
+            line += &self.line_of_size();
             line += &self.lines_of_the_largest();
         }
         let kinds = Kind::ALL.map(|kind| format!("\n{}: {}", kind.word(), self.kinds[place(kind)].line(numbers)));

@@ -20,6 +20,7 @@ pub mod law_counts;
 pub mod laws;
 pub mod library;
 pub mod machine;
+pub mod named;
 pub mod polar;
 pub mod projection;
 pub mod random;

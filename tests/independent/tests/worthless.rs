@@ -1,11 +1,12 @@
 //! Libraries that are wrong in one place each, the paper's worthless boards among
 //! them. The comparison must find every one.
 
-use independent::calls::{place_of, Weights, FLIP, REPLACE};
+use independent::calls::{place_of, Call, Weights, FLIP, REPLACE};
 use independent::compare::compare_calls;
 use independent::first::Given;
 use independent::handed::{largest, Net, ENTRIES, FRAME, LARGEST, PLACES};
 use independent::library::{Library, Model};
+use independent::named::{is_beyond, named, Name, GROUPS};
 use independent::polar::scale;
 use independent::projection::{project, Projection, Room, COORDINATES, DIRECTION};
 use independent::record::{read_with_net, told_kind, Lookup, Refusal};
@@ -153,6 +154,95 @@ enum Fault {
     TextWithTheLargest,
     LargestJudgedByAPoint,
     LargestClearedByAFlip,
+    LeavesOut(LeftOut),
+    TagsModulo(u16),
+    LengthsModulo(u16),
+    FieldsFourAndFiveExchanged,
+    RefusesABufferOfTheTextsLength,
+}
+
+/// A size test that does not look at some of the values that a replace or a point names: in one group of one kind,
+/// those of q and these points.
+#[derive(Clone, Copy, Debug, PartialEq)]
+struct LeftOut {
+    point: bool,
+    kind: Kind,
+    group: usize,
+    with_q: WithQ,
+}
+
+/// Of a replace, `AnyVertex` leaves the value of q alone as the only one with q that is looked at, and
+/// `TheReplacedVertex` those that the new net has. Two vertices are every vertex but on a triangular patch.
+#[derive(Clone, Copy, Debug, PartialEq)]
+enum WithQ {
+    EveryVertex,
+    TwoVertices,
+    AnyVertex,
+    TheReplacedVertex,
+}
+
+impl LeftOut {
+    fn all() -> Vec<LeftOut> {
+        let mut all = Vec::new();
+        for (kind, group) in GROUPS {
+            for with_q in [WithQ::EveryVertex, WithQ::TwoVertices, WithQ::AnyVertex, WithQ::TheReplacedVertex] {
+                for point in [false, true] {
+                    let nothing_new = with_q == WithQ::TwoVertices && kind != Kind::Patch;
+                    if !nothing_new && !(point && with_q == WithQ::TheReplacedVertex) {
+                        all.push(LeftOut { point, kind, group, with_q });
+                    }
+                }
+            }
+        }
+        all
+    }
+
+    /// Whether this value of a call is not looked at.
+    fn has(self, shape: Shape, call: &Call, name: Name) -> bool {
+        let (is_point, replaced) = match *call {
+            Call::Move { vertex, .. } => (false, name.copies[place_of(vertex)] > 0),
+            Call::Point { .. } => (true, false),
+        };
+        let here = is_point == self.point && shape.kind == self.kind && name.is_mixed(shape, self.group);
+        here && match self.with_q {
+            WithQ::EveryVertex => name.has_every_vertex(shape, self.group),
+            WithQ::TwoVertices => name.different_vertices(shape, self.group) > 1,
+            WithQ::AnyVertex => true,
+            WithQ::TheReplacedVertex => replaced,
+        }
+    }
+
+    /// The values of a call that is refused for size, if each one that is beyond is not looked at.
+    fn overlooked(self, net: &Net, call: &Call) -> Option<Vec<(Name, [i128; 4])>> {
+        let shape = net.judged(call).ok()?;
+        let values = named(shape, &net.used(shape), call)?;
+        values.iter().all(|(name, value)| !is_beyond(value) || self.has(shape, call, *name)).then_some(values)
+    }
+
+    /// A replace that is refused for size, taken where nothing else is beyond.
+    fn take(self, net: &mut Net, vertex: u8, weights: Weights) -> Option<()> {
+        let call = Call::Move { operation: REPLACE, vertex, weights };
+        let values = self.overlooked(net, &call)?;
+        let (shape, at) = (net.shape()?, place_of(vertex));
+        let group = shape.kind.group_of(at);
+        let entry = |copies: Copies| {
+            let mut name = Name { q: [0; 2], copies };
+            (name.q[group], name.copies[at]) = (copies[at], 0);
+            values.iter().find(|(other, _)| *other == name).map(|(_, value)| *value)
+        };
+        let entries = shape.copies().into_iter().map(entry).collect::<Option<Vec<_>>>()?;
+        let new = net.new_vertex(shape, REPLACE, vertex, weights);
+        net.write(shape, &narrow(&entries));
+        net.write_vertex(shape, vertex, &new);
+        Some(())
+    }
+
+    /// A point that is refused for size, found where nothing else is beyond.
+    fn find(self, net: &Net, weights: Weights) -> Option<[i64; 4]> {
+        let values = self.overlooked(net, &Call::Point { weights })?;
+        let (_, last) = values.iter().find(|(name, _)| name.copies == [0; 4])?;
+        Some(last.map(|component| component as i64))
+    }
 }
 
 /// What a fault in the largest component does not touch.
@@ -444,6 +534,24 @@ impl Spoiled {
         value.iter().all(|c| i64::try_from(*c).is_ok()).then(|| value.map(|c| c as i64))
     }
 
+    /// The record as a library would see it that does not look at the high bits of tags or of lengths.
+    fn misread_record(&self, record: &[u8]) -> Option<Vec<u8>> {
+        let (tags, lengths) = match self.fault {
+            Fault::TagsModulo(tags) => (tags, None),
+            Fault::LengthsModulo(lengths) => (256, Some(lengths)),
+            _ => return None,
+        };
+        let (mut read, mut at) = (record.to_vec(), 0);
+        while let Some([tag, high, low]) = record.get(at..at + 3) {
+            let length = u16::from_be_bytes([*high, *low]);
+            let length = lengths.map_or(length, |lengths| length % lengths);
+            read[at] = (u16::from(*tag) % tags) as u8;
+            read[at + 1..at + 3].copy_from_slice(&length.to_be_bytes());
+            at += 3 + usize::from(length);
+        }
+        Some(read)
+    }
+
     /// The net as a library would see it that judges the head otherwise.
     fn misread(&self, net: &Net) -> Option<Net> {
         let mut read = net.clone();
@@ -578,6 +686,9 @@ impl Library for Spoiled {
         if let (Fault::ThreeBytesForACurve, [1, 0, 3, 1 | 2, degree, 0, rest @ ..]) = (self.fault, record) {
             return self.model.read(&[&[1, 0, 2, record[3], *degree], rest].concat(), net);
         }
+        if let Some(read) = self.misread_record(record) {
+            return self.model.read(&read, net);
+        }
         let lent = net.clone();
         let before = net.0.get(2).copied().unwrap_or(0);
         let answer = self.model.read(record, net);
@@ -688,6 +799,11 @@ impl Library for Spoiled {
                     }
                 }
             }
+            Fault::LeavesOut(left_out) if operation == REPLACE && answer == Err(10) => {
+                if left_out.take(net, vertex, weights).is_some() {
+                    return Ok(());
+                }
+            }
             Fault::SaysTenTooSoon if answer.is_ok() && net.0[ENTRIES..ENTRIES + 4].iter().any(|c| c.abs() > 1 << 40) => {
                 *net = before;
                 return Err(10);
@@ -738,6 +854,12 @@ impl Library for Spoiled {
                 if let Some(shape) = rect(net) {
                     let [r1, s1, r2, s2] = weights;
                     return self.model.find(&net.with_pairs_exchanged(shape), [r2, s2, r1, s1], &mut [0; 4]);
+                }
+            }
+            Fault::LeavesOut(left_out) if answer == Err(10) => {
+                if let Some(value) = left_out.find(net, weights) {
+                    found[..4].copy_from_slice(&value);
+                    return Ok(());
                 }
             }
             Fault::SecondPairIdle if answer == Err(9) && weights[..2] != [0, 0] => {
@@ -820,6 +942,9 @@ impl Library for Spoiled {
     }
 
     fn field(&mut self, record: &[u8], tag: u8) -> Lookup {
+        if let Some(read) = self.misread_record(record) {
+            return self.model.field(&read, tag);
+        }
         let lookup = self.model.field(record, tag);
         let wherever = |number| Lookup { number, ..walk(record, tag) };
         match (self.fault, lookup.number) {
@@ -833,6 +958,7 @@ impl Library for Spoiled {
             (Fault::AbsentFieldAtTheStart, 0) if lookup.start == record.len() => Lookup { start: 0, ..lookup },
             (Fault::EmptyFieldAtTheEnd, 0) if lookup.length == 0 => Lookup { start: record.len(), ..lookup },
             (Fault::TagByItsLowBits, 0) => self.model.field(record, tag % 128),
+            (Fault::FieldsFourAndFiveExchanged, 0) if tag == 4 || tag == 5 => self.model.field(record, 9 - tag),
             _ => lookup,
         }
     }
@@ -842,6 +968,12 @@ impl Library for Spoiled {
             let room = buffer.get_mut(..spoiled.len()).ok_or(11)?;
             room.copy_from_slice(spoiled.as_bytes());
             return Ok(spoiled.len());
+        }
+        if let Some(read) = self.misread_record(record) {
+            return self.model.text(&read, buffer);
+        }
+        if self.is(Fault::RefusesABufferOfTheTextsLength) && buffer.len() == text(record).len() {
+            return Err(11);
         }
         let answer = self.model.text(record, buffer);
         match (self.fault, answer) {
@@ -901,6 +1033,9 @@ fn every_fault_is_found() {
         LargestBeyondTheRangeRefused, LargestWrittenOnARefusal, LargestWrittenOnARefusalForSize, LargestLeftByAFirstNet,
         LargestLeftByARecordsNet, LargestOfTheCoefficients, LargestOfAFirstNetNeverFalling,
         LargestWrittenByARefusedFirstNet, TextWithTheLargest, LargestJudgedByAPoint, LargestClearedByAFlip,
+        FieldsFourAndFiveExchanged, RefusesABufferOfTheTextsLength, TagsModulo(8), TagsModulo(16), TagsModulo(32), TagsModulo(64),
+        TagsModulo(128), LengthsModulo(1024), LengthsModulo(2048), LengthsModulo(4096), LengthsModulo(8192),
+        LengthsModulo(16384), LengthsModulo(32768),
     ];
     // once in replaces alone and once in first nets alone
     let of_either = [
@@ -909,7 +1044,9 @@ fn every_fault_is_found() {
         LargestOverTheFrameToo, LargestInThirtyTwoBits, LargestAfterTheEntries, LargestInTheLastPlace, LargestCleared,
     ];
     let alone = |fault| [(fault, Spared::FirstNets), (fault, Spared::Replaces)];
-    for (fault, spared) in faults.map(|fault| (fault, Spared::Nothing)).into_iter().chain(of_either.into_iter().flat_map(alone)) {
+    let sizes = LeftOut::all().into_iter().map(LeavesOut);
+    let whole = faults.into_iter().chain(sizes).map(|fault| (fault, Spared::Nothing));
+    for (fault, spared) in whole.chain(of_either.into_iter().flat_map(alone)) {
         let mut library = Spoiled { fault, spared, model: Model };
         let answer = compare_calls(&mut library, 4000, 7);
         let what = answer.err().unwrap_or_else(|| panic!("{fault:?} was not found, {spared:?} spared"));

@@ -29,16 +29,29 @@ pub enum Mood {
     /// Entries of both signs at or near 2 to the 48th, so that a new net or a point is
     /// in range while another of the named polar values is not.
     Cancel,
+    /// Lists that begin with a call of which one named polar value alone is out of range, one
+    /// of q and of vertices.
+    Mixed,
 }
 
 impl Mood {
-    pub const ALL: [Mood; 8] =
-        [Mood::Plain, Mood::Units, Mood::Wide, Mood::Growth, Mood::Broken, Mood::Edge, Mood::Cancel, Mood::Frame];
+    pub const ALL: [Mood; 9] = [
+        Mood::Plain,
+        Mood::Units,
+        Mood::Wide,
+        Mood::Growth,
+        Mood::Broken,
+        Mood::Edge,
+        Mood::Cancel,
+        Mood::Frame,
+        Mood::Mixed,
+    ];
 
     pub fn length(self, random: &mut Random) -> usize {
         match self {
             Mood::Units => 50 + random.below(30),
             Mood::Growth | Mood::Frame => 8 + random.below(50),
+            Mood::Mixed => 9 + random.below(9),
             _ => random.below(40),
         }
     }
@@ -191,7 +204,7 @@ impl Caller {
 
     fn weight(&self, random: &mut Random) -> i64 {
         match self.mood {
-            Mood::Plain | Mood::Cancel => random.between(-3, 3),
+            Mood::Plain | Mood::Cancel | Mood::Mixed => random.between(-3, 3),
             Mood::Units | Mood::Growth | Mood::Frame => random.between(-1, 1),
             Mood::Wide | Mood::Broken => wide(random),
             Mood::Edge => random.sign() * random.pick(&[0, 0, 0, 0, 1, 1, 2, 16]),

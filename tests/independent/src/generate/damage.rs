@@ -20,7 +20,7 @@ pub fn everywhere(bytes: &[u8]) -> Vec<Vec<u8>> {
 /// One damage out of all.
 pub fn damaged(random: &mut Random, record: &Record) -> Vec<u8> {
     let mut bytes = encode(record);
-    match random.below(14) {
+    match random.below(15) {
         0 => change_a_byte(random, &mut bytes),
         1 => bytes.truncate(random.below(bytes.len() + 1)),
         2 => return rearranged(random, fields(record)),
@@ -34,6 +34,7 @@ pub fn damaged(random: &mut Random, record: &Record) -> Vec<u8> {
         10 => return many_moves(random, record),
         11 => return head_of_another_length(random, record),
         12 => return point_of_another_length(random, record),
+        13 => return high_bits(random, fields(record)),
         _ => (0..1 + random.below(4)).for_each(|_| change_a_byte(random, &mut bytes)),
     }
     bytes
@@ -57,6 +58,18 @@ fn rearranged(random: &mut Random, mut list: Vec<Vec<u8>>) -> Vec<u8> {
             let value = vec![0; random.pick(&[0, 0, 2, 4, 6, 8])];
             list.insert(random.below(list.len() + 1), field(tag, &value));
         }
+    }
+    list.concat()
+}
+
+/// A tag with bits that no tag has, or a length with bits that no length has; the value stays.
+fn high_bits(random: &mut Random, mut list: Vec<Vec<u8>>) -> Vec<u8> {
+    let place = random.below(list.len());
+    let bits = 1 + random.next() as u8 % 31;
+    if random.once_in(2) {
+        list[place][0] |= random.pick(&[0x08, 0x10, 0x20, 0x40, 0x80, bits << 3]);
+    } else {
+        list[place][1] |= random.pick(&[0x04, 0x08, 0x10, 0x20, 0x40, 0x80, bits << 3]);
     }
     list.concat()
 }

@@ -3,6 +3,7 @@
 pub mod caller;
 pub mod damage;
 pub mod first;
+pub mod mixed;
 pub mod nets;
 pub mod polynomials;
 pub mod records;

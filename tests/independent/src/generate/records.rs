@@ -2,6 +2,7 @@
 
 use super::caller::{Caller, Mood};
 use super::damage::damaged;
+use super::mixed::one_beyond;
 use super::polynomials::{any_sort, power_of_form, random_parameter, tame, without_coordinate, Aim};
 use crate::calls::{seats, Answer, Call, Weights, LARGEST_WEIGHT, NO_WEIGHTS, REPLACE};
 use crate::machine::Machine;
@@ -40,6 +41,7 @@ pub fn made(random: &mut Random, shape: Shape, mood: Mood) -> Made {
             Mood::Frame => full_frame(random, shape),
             Mood::Edge => Some(at_the_edge(random, shape)),
             Mood::Cancel => Some(cancelling(random, shape)),
+            Mood::Mixed => one_beyond(random, shape.kind),
             _ => Some(ordinary(random, shape)),
         };
         if let Some(made) = made.filter(|made| made.record.first_net().is_ok()) {
@@ -135,13 +137,13 @@ fn cancelling(random: &mut Random, shape: Shape) -> Made {
 }
 
 /// The call that replaces a vertex by a multiple of itself.
-fn times(kind: Kind, vertex: u8, by: i64) -> Call {
+pub fn times(kind: Kind, vertex: u8, by: i64) -> Call {
     let mut weights = NO_WEIGHTS;
     weights[seats(kind, vertex).1] = by;
     Call::Move { operation: REPLACE, vertex, weights }
 }
 
-fn built(shape: Shape, frame: Vec<[i64; 3]>, coefficients: Vec<[i64; 4]>, aims: Vec<Aim>, still: Vec<usize>) -> Made {
+pub fn built(shape: Shape, frame: Vec<[i64; 3]>, coefficients: Vec<[i64; 4]>, aims: Vec<Aim>, still: Vec<usize>) -> Made {
     let record = bare(shape, frame, coefficients);
     Made { record, aims, still, opening: Vec::new() }
 }
@@ -152,7 +154,7 @@ pub fn bare(shape: Shape, frame: Vec<[i64; 3]>, coefficients: Vec<[i64; 4]>) -> 
     Record { shape, frame, coefficients, moves: Vec::new(), point: None, coefficients_at }
 }
 
-fn unit_frame(kind: Kind) -> Vec<[i64; 3]> {
+pub fn unit_frame(kind: Kind) -> Vec<[i64; 3]> {
     let units = [[0, 0, 1], [1, 0, 0], [0, 1, 0]];
     kind.spans().into_iter().flat_map(|span| units[..span.len()].to_vec()).collect()
 }
@@ -327,6 +329,9 @@ fn own_moves(random: &mut Random, made: &mut Made, mood: Mood) {
     if made.record.first_net().is_err() {
         return idle_moves(random, &mut made.record, mood);
     }
+    if mood == Mood::Mixed {
+        return opening_moves(made);
+    }
     let mut machine = Machine::new(&made.record);
     let mut caller = Caller::new(made, mood, 16);
     let many = random.pick(&[0, 0, 1, 2, 3, 8, 31, 32]);
@@ -340,6 +345,16 @@ fn own_moves(random: &mut Random, made: &mut Made, mood: Mood) {
     if !random.once_in(5) {
         let weights = own_point(random, &caller, &machine);
         made.record.point = Some(point_in_record(made.record.shape.kind, weights));
+    }
+}
+
+/// The calls that a list on the record begins with: as its moves and its point.
+fn opening_moves(made: &mut Made) {
+    for call in made.opening.iter().rev() {
+        match *call {
+            Call::Move { .. } => made.record.moves.extend(moved_in_record(*call)),
+            Call::Point { weights } => made.record.point = Some(weights),
+        }
     }
 }
 
