@@ -808,8 +808,8 @@ static void test_fields(void) {
 }
 
 /* The fields of a record of these fields 1 to 3, with so many flips of r, or without field 4, and with a
- * point of so many weights, or without: moves and point each have their own place and length, and what is absent is
- * the empty part at the end. */
+ * point of so many weights, or without: moves and point each have their own place and length, and what is
+ * absent is the empty part at the end. */
 static void test_optional(const uint8_t *head, size_t size, int moves, int weights) {
     uint8_t bytes[512];
     uint8_t *at = bytes + size;
