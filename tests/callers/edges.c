@@ -807,8 +807,9 @@ static void test_fields(void) {
     test_field(bytes, size + 18, GADWEMOSH_FIELD_POINT, 0, size + 14, 4);
 }
 
-/* The fields of a record of these fields 1 to 3, with so many flips of r and with a point or without: moves and point
- * each have their own place and length, and what is absent is the empty part at the end. */
+/* The fields of a record of these fields 1 to 3, with so many flips of r, or without field 4, and with a
+ * point of so many weights, or without: moves and point each have their own place and length, and what is
+ * absent is the empty part at the end. */
 static void test_optional(const uint8_t *head, size_t size, int moves, int weights) {
     uint8_t bytes[512];
     uint8_t *at = bytes + size;
@@ -825,12 +826,13 @@ static void test_optional(const uint8_t *head, size_t size, int moves, int weigh
             at = put(at, 2, 1);
     }
     size_t end = (size_t)(at - bytes);
-    test_field(bytes, end, GADWEMOSH_FIELD_MOVES, 0, moves >= 0 ? size + 3 : end, moves > 0 ? 8 * (uint64_t)moves : 0);
-    test_field(bytes, end, GADWEMOSH_FIELD_POINT, 0, weights > 0 ? moves_end + 3 : end, 2 * (uint64_t)weights);
+    uint64_t moves_length = moves > 0 ? 8 * (uint64_t)moves : 0, point_length = 2 * (uint64_t)weights;
+    test_field(bytes, end, GADWEMOSH_FIELD_MOVES, 0, moves >= 0 ? size + 3 : end, moves_length);
+    test_field(bytes, end, GADWEMOSH_FIELD_POINT, 0, weights > 0 ? moves_end + 3 : end, point_length);
 }
 
-/* Neither of fields 4 and 5, each alone and both, for every kind; no move, one, two and 32. With one move of a
- * rectangular patch both have eight bytes, elsewhere their lengths differ. */
+/* Neither of fields 4 and 5, each alone and both, for every kind; no move, one, two and 32. With one move of
+ * a rectangular patch both have eight bytes, elsewhere their lengths differ. */
 static void test_optional_fields(void) {
     const int counts[] = {-1, 0, 1, 2, 32};
     uint8_t triangle[125], rectangle[146], *at = triangle;
@@ -875,8 +877,8 @@ static void test_fields_rect(void) {
     test_no_fields(bytes, 146, 3);
 }
 
-/* The text into a buffer of every length up to a few bytes more than it has: shorter ones are refused 11 and left as
- * they were, one of exactly its length is filled, and behind it every byte stays. */
+/* The text into a buffer of every length up to a few bytes more than it has: shorter ones are refused 11 and
+ * left as they were, one of exactly its length is filled, and behind it every byte stays. */
 static void test_lengths(const uint8_t *bytes, size_t size, const char *text) {
     size_t wanted = strlen(text);
     for (size_t room = 0; room <= wanted + 3; room++) {

@@ -158,7 +158,8 @@ def wrong():
     something out differs only where its call is refused 10.  No accepted record has a tag beyond 5 or a
     length beyond 768, so one without the high bits reads it alike."""
     for name, call, kind, *rest in sizes.rules():
-        line = re.compile(r"%s (.*\n)*%s.* refused 10\n" % (calc.WORD[kind], "move" if call == "replace" else call))
+        first = "move" if call == "replace" else call
+        line = re.compile(r"%s (.*\n)*%s.* refused 10\n" % (calc.WORD[kind], first))
         yield name, sizes.Judging(call, kind, *rest), line.match
     for bits in range(3, 8):
         yield "tags modulo %d" % 2 ** bits, Reading(2 ** bits, 2 ** 16), re.compile("refused").match

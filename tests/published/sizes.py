@@ -123,7 +123,7 @@ def grown(kind, degrees):
     return moves
 
 
-# where a wrong rule may be wrong: kind and group, and degrees at which values of q and vertices are found there
+# where a wrong rule may be wrong: kind and group, and degrees at which values of q and vertices are found
 PLACES = {"curves": (1, 0), "triangular patches": (2, 0), "the first pair": (3, 0), "the second pair": (3, 1)}
 DEGREES = {(1, 0): ((2,), (3,), (4,), (5,)), (2, 0): ((2,), (3,), (4,)),
            (3, 0): ((2, 1), (3, 1), (2, 2), (3, 2)), (3, 1): ((1, 2), (1, 3), (2, 2), (2, 3))}
@@ -240,8 +240,8 @@ class Judging:
 
     def replace_too_large(self, kind, degrees, coeffs, frame, own, q):
         qs = tuple(q if g == own else None for g in range(len(degrees)))
-        place = self.vertex - 1 - 2 * own
-        return self.refused("replace", place, kind, degrees, coeffs, frame, qs, of_replace(kind, degrees, own))
+        place, names = self.vertex - 1 - 2 * own, of_replace(kind, degrees, own)
+        return self.refused("replace", place, kind, degrees, coeffs, frame, qs, names)
 
     def point_too_large(self, kind, degrees, coeffs, frame, qs):
         return self.refused("point", 0, kind, degrees, coeffs, frame, tuple(qs), of_point(kind, degrees))

@@ -1,21 +1,21 @@
 """The samples of the size rule's names, used by make_samples.py.
 
-A replace and a point are refused 10 exactly when some polar value of m points taken from the frame and q,
-any number of each, is beyond 2 to the 48th.  In a refused record below one such value is beyond and all others
+A replace and a point are refused 10 exactly when some polar value of m points taken from the frame and q, any
+number of each, is beyond 2 to the 48th.  In a refused record below one such value is beyond and all others
 are in range; in the record beside it that value is 2 to the 48th itself, or 2^32 less, and the call is taken.
 
-How the numbers were found: on a curve of degree 3 with q = 2r + 2s, in units of which 2^48 has 262144, let the
-entries rrr, rrs, rss, sss be a, b, c, d.  Then qrr = 2(a + b), qrs = 2(b + c), qss = 2(c + d), qqr =
-2(qrr + qrs), qqs = 2(qrs + qss), qqq = 2(qqr + qqs).  With a = -262143, b = 131072, c = 13762 and d = -144810:
+How the numbers were found: on a curve of degree 3 with q = 2r + 2s, in units of which 2^48 has 262144, let
+the entries rrr, rrs, rss, sss be a, b, c, d.  Then qrr = 2(a + b), qrs = 2(b + c), qss = 2(c + d), qqr =
+2(qrr + qrs), qqs = 2(qrs + qss), qqq = 2(qqr + qqs).  With a = -262143, b = 131072, c = 13762, d = -144810:
 
     qrr -262142   qrs 289668   qss -262096   qqr 55052   qqs 55144   qqq 220392
 
 so that q r s alone is beyond.  With c = -2 and d = -129000 it is 262140, with c = 0 and the same d 262144.
-The nets of the triangular patches are a few small numbers, in units of which 2^48 has 2^20, 8 and 16; those of
-degree 3 and 4 were found by the search of published/sizes.py.  In each record `only` names the value that is
-beyond, and `most` the value that is the limit; both are held to all the named values, which are found here by
-the rule for handed nets: a value with q in a place is the sum of those with a vertex there, times its weight.
-The calculator has no net: it works them out from the polynomials and the frame.
+The nets of the triangular patches are a few small numbers, in units of which 2^48 has 2^20, 8 and 16; those
+of degree 3 and 4 were found by the search of published/sizes.py.  In each record `only` names the value that
+is beyond, and `most` the value that is the limit; both are held to all the named values, which are found here
+by the rule for handed nets: a value with q in a place is the sum of those with a vertex there, times its
+weight.  The calculator has no net: it works them out from the polynomials and the frame.
 """
 import struct
 from itertools import combinations_with_replacement as taken_of
@@ -132,7 +132,8 @@ class Net:
     def __init__(self, kind, degrees, L, x, w, times, steps):
         self.kind, self.degrees, self.times = kind, degrees, times
         self.head = "%s %s %d\n" % (WORD[kind], " ".join(map(str, degrees)), L)
-        self.bytes = f1(kind, *degrees) + f2(*(n for v in UNITS[kind] for n in v)) + made(kind, degrees, L, x, w)
+        frame = f2(*(n for v in UNITS[kind] for n in v))
+        self.bytes = f1(kind, *degrees) + frame + made(kind, degrees, L, x, w)
         self.net = grown(kind, degrees, x, w, times)
         self.moves = []
         for vertex, seat, *parts in steps:
@@ -179,26 +180,26 @@ class Net:
 
 # ------------------------------------------------------------------------------------------ the samples
 
-OUT.append((None, "Names of the size rule: one polar value of vertices and q is beyond, all others are in range",
+OUT.append((None, "Names of the size rule: one polar value of vertices and q is beyond, all others in range",
             None, None))
+TAKEN, FOUND = "the same at 2 to the 48th exactly: taken", "the same at 2 to the 48th exactly: found"
 
 
 def cubic(c, d):
     """The curve above: w = Z^3 + T^3, 1024 r and 1024 s in the places of r and s."""
-    return Net(1, (3,), 3, {"r r r": -262143, "r r s": 131072, "r s s": c, "s s s": d}, {"r r r": 3, "s s s": 3},
-               {"r": 1024, "s": 1024}, ((1, 0, 1024), (2, 1, 1024)))
+    x = {"r r r": -262143, "r r s": 131072, "r s s": c, "s s s": d}
+    return Net(1, (3,), 3, x, {"r r r": 3, "s s s": 3}, {"r": 1024, "s": 1024}, ((1, 0, 1024), (2, 1, 1024)))
 
 
 BEYOND, WITHIN, EDGE = (13762, -144810), (-2, -129000), (0, -129000)
-cubic(*BEYOND).replace("m10-mixed-cubic-refused", 1, (2, 2), "degree 3, q = 2r + 2s: q r s is beyond, and no other value",
-                       only="q r s")
+cubic(*BEYOND).replace("m10-mixed-cubic-refused", 1, (2, 2),
+                       "degree 3, q = 2r + 2s: q r s is beyond, and no other value", only="q r s")
 cubic(*WITHIN).replace("m10-mixed-cubic-taken", 1, (2, 2), "the same with q r s 2^32 below the limit: taken")
-cubic(*EDGE).replace("m10-mixed-cubic-edge", 1, (2, 2), "the same with q r s at 2 to the 48th exactly: taken",
-                     most="q r s")
+cubic(*EDGE).replace("m10-mixed-cubic-edge", 1, (2, 2), TAKEN, most="q r s")
 cubic(*BEYOND).replace("m10-mixed-cubic-s-refused", 2, (2, 2), "the same q in the place of s", only="q r s")
-cubic(*BEYOND).point("q10-mixed-cubic", (2, 2), "a point at the same q: its value q q q is in range, q r s is beyond",
-                     only="q r s")
-cubic(*EDGE).point("q10-mixed-cubic-edge", (2, 2), "the same with q r s at 2 to the 48th exactly: found", most="q r s")
+cubic(*BEYOND).point("q10-mixed-cubic", (2, 2),
+                     "a point at the same q: its value q q q is in range, q r s is beyond", only="q r s")
+cubic(*EDGE).point("q10-mixed-cubic-edge", (2, 2), FOUND, most="q r s")
 
 
 def first(c, d):
@@ -216,21 +217,19 @@ def second(c, d):
 
 
 first(*BEYOND).replace("m10-mixed-rect-cubic-refused", 1, (2, 2),
-                       "degrees 3 and 1, q = 2 r1 + 2 s1: q r1 s1, with s2, is beyond, and no other value", only="q r1 s1 s2")
-first(*EDGE).replace("m10-mixed-rect-cubic-edge", 1, (2, 2), "the same at 2 to the 48th exactly: taken", most="q r1 s1 s2")
-first(*BEYOND).point("q10-mixed-rect-cubic", (2, 2, 1, 1), "a point's first stage: q1 r1 s1, with s2, alone is beyond",
-                     only="q1 r1 s1 s2")
-first(*EDGE).point("q10-mixed-rect-cubic-edge", (2, 2, 1, 1), "the same at 2 to the 48th exactly: found",
-                   most="q1 r1 s1 s2")
+                       "degrees 3 and 1, q = 2 r1 + 2 s1: q r1 s1, with s2, is beyond, and no other value",
+                       only="q r1 s1 s2")
+first(*EDGE).replace("m10-mixed-rect-cubic-edge", 1, (2, 2), TAKEN, most="q r1 s1 s2")
+first(*BEYOND).point("q10-mixed-rect-cubic", (2, 2, 1, 1),
+                     "a point's first stage: q1 r1 s1, with s2, alone is beyond", only="q1 r1 s1 s2")
+first(*EDGE).point("q10-mixed-rect-cubic-edge", (2, 2, 1, 1), FOUND, most="q1 r1 s1 s2")
 second(*BEYOND).replace("m10-mixed-rect-second-cubic-refused", 3, (2, 2),
                         "degrees 1 and 3, q = 2 r2 + 2 s2: q r2 s2, with s1, is beyond, and no other value",
                         only="s1 q r2 s2")
-second(*EDGE).replace("m10-mixed-rect-second-cubic-edge", 3, (2, 2), "the same at 2 to the 48th exactly: taken",
-                      most="s1 q r2 s2")
+second(*EDGE).replace("m10-mixed-rect-second-cubic-edge", 3, (2, 2), TAKEN, most="s1 q r2 s2")
 second(*BEYOND).point("q10-mixed-rect-second-cubic", (1, 1, 2, 2),
                       "a point's second stage: q2 r2 s2, with q1, alone is beyond", only="q1 q2 r2 s2")
-second(*EDGE).point("q10-mixed-rect-second-cubic-edge", (1, 1, 2, 2), "the same at 2 to the 48th exactly: found",
-                    most="q1 q2 r2 s2")
+second(*EDGE).point("q10-mixed-rect-second-cubic-edge", (1, 1, 2, 2), FOUND, most="q1 q2 r2 s2")
 
 
 def quadratic(rr, rs):
@@ -239,15 +238,14 @@ def quadratic(rr, rs):
                ((1, 0, 4096, 4), (2, 1, 4096, 4)))
 
 
-quadratic(629146, 629146).replace("m10-mixed-patch-refused", 1, (1, 1, 0),
-                                  "patch of degree 2, q = r + s: q with the old r is beyond, and no other value",
-                                  only="q r")
-quadratic(524288, 524288).replace("m10-mixed-patch-edge", 1, (1, 1, 0), "the same at 2 to the 48th exactly: taken",
-                                  most="q r")
-quadratic(629146, 629146).point("q10-mixed-patch", (1, 1, 0), "a point at the same q: its value q q is in range, q r is beyond",
-                                only="q r")
-quadratic(524288, 524288).point("q10-mixed-patch-edge", (1, 1, 0), "the same with q r at 2 to the 48th exactly: found",
-                                most="q r")
+LARGE, HALF = (629146, 629146), (524288, 524288)
+quadratic(*LARGE).replace("m10-mixed-patch-refused", 1, (1, 1, 0),
+                          "patch of degree 2, q = r + s: q with the old r is beyond, and no other value",
+                          only="q r")
+quadratic(*HALF).replace("m10-mixed-patch-edge", 1, (1, 1, 0), TAKEN, most="q r")
+quadratic(*LARGE).point("q10-mixed-patch", (1, 1, 0),
+                        "a point at the same q: its value q q is in range, q r is beyond", only="q r")
+quadratic(*HALF).point("q10-mixed-patch-edge", (1, 1, 0), FOUND, most="q r")
 
 
 def of_units(numbers, unit):
@@ -263,22 +261,25 @@ def cubic_patch(rrs):
 
 def quartic_patch(rrst):
     """Units of 2^44.  q = r + s + t: q r s t is rrst + rsst + rstt = rrst + 7 + 4."""
-    x = {"r r r s": -3, "r r s s": -10, "r r s t": rrst, "r r t t": -8, "r s s s": -3, "r s s t": 7, "r s t t": 4,
-         "s s s s": -3, "s s t t": -9}
+    x = {"r r r s": -3, "r r s s": -10, "r r s t": rrst, "r r t t": -8, "r s s s": -3, "r s s t": 7,
+         "r s t t": 4, "s s s s": -3, "s s t t": -9}
     return Net(2, (4,), 12, of_units(x, 2 ** 16), {"t t t t": 12}, {"r": 128, "s": 128, "t": 128},
                ((1, 0, 128), (2, 1, 128), (3, 2, 128)))
 
 
-for degree, net, beyond, edge, points in (("3", cubic_patch, 5, 4, "q r s"), ("4", quartic_patch, 6, 5, "q r s t")):
+def of_a_patch(degree, net, beyond, edge, points):
     for vertex, letter in ((1, "r"), (2, "s"), (3, "t")):
-        net(beyond).replace("m10-mixed-patch-%s-%s-refused" % (degree, letter), vertex, (1, 1, 1),
-                            "patch of degree %s, %s at (1, 1, 1): %s is beyond, and no other value" % (degree, letter, points),
-                            only=points)
-        net(edge).replace("m10-mixed-patch-%s-%s-edge" % (degree, letter), vertex, (1, 1, 1),
-                          "the same at 2 to the 48th exactly: taken", most=points)
-    net(beyond).point("q10-mixed-patch-" + degree, (1, 1, 1), "a point at the same q: %s alone is beyond" % points,
-                      only=points)
-    net(edge).point("q10-mixed-patch-%s-edge" % degree, (1, 1, 1), "the same at 2 to the 48th exactly: found", most=points)
+        name = "m10-mixed-patch-%s-%s" % (degree, letter)
+        comment = "patch of degree %s, %s at (1, 1, 1): %s alone is beyond" % (degree, letter, points)
+        net(beyond).replace(name + "-refused", vertex, (1, 1, 1), comment, only=points)
+        net(edge).replace(name + "-edge", vertex, (1, 1, 1), TAKEN, most=points)
+    name, comment = "q10-mixed-patch-" + degree, "a point at the same q: %s alone is beyond" % points
+    net(beyond).point(name, (1, 1, 1), comment, only=points)
+    net(edge).point(name + "-edge", (1, 1, 1), FOUND, most=points)
+
+
+of_a_patch("3", cubic_patch, 5, 4, "q r s")
+of_a_patch("4", quartic_patch, 6, 5, "q r s t")
 
 
 def samples():

@@ -54,8 +54,8 @@ pub struct Counts {
     pub lookups: [u64; 6],
     /// Accepted records in which fields were looked up, as `OPTIONAL` names them.
     pub optional: [u64; 5],
-    /// Calls refused for one named polar value alone, that of q and of vertices, in the order of `GROUPS`: replaces
-    /// and points, in all and with every vertex of the group.
+    /// Calls refused for one named polar value alone, that of q and of vertices, in the order of
+    /// `GROUPS`: replaces and points, in all and with every vertex of the group.
     pub alone: [[[u64; 2]; 2]; 4],
     /// Projections into too few places, into just enough, and into more.
     pub rooms: [u64; 3],
@@ -107,7 +107,10 @@ const LOOKUPS: [&str; 6] =
     ["a value", "an empty value", "an absent field", "no field's tag", "a record refused 1 to 6", "a record refused 7"];
 
 /// By the bytes that fields 4 and 5 have.
-const OPTIONAL: [&str; 5] = ["neither moves nor a point", "moves alone", "a point alone", "both, of one length", "both, of two lengths"];
+const OPTIONAL: [&str; 5] = [
+    "neither moves nor a point", "moves alone", "a point alone", "both, of one length",
+    "both, of two lengths",
+];
 
 /// In the order of `GROUPS`.
 const ALONE: [&str; 4] = ["a curve", "a patch", "the first pair", "the second pair"];
@@ -418,8 +421,8 @@ impl Counts {
         });
         let all = firsts.into_iter().chain(runs).chain(second).chain(lookups).chain(rooms).chain(stages).chain(frames).chain(twelve);
         let all = all.chain(self.counts_of_the_largest()).chain(self.counts_of_size());
-        let optional = OPTIONAL.map(|word| format!("a lookup in a record with {word}")).into_iter().zip(self.optional);
-        let all = all.chain(optional);
+        let optional = OPTIONAL.map(|word| format!("a lookup in a record with {word}"));
+        let all = all.chain(optional.into_iter().zip(self.optional));
         all.filter(|word| word.1 == 0).map(|word| word.0).collect()
     }
 
@@ -445,7 +448,9 @@ impl Counts {
             let what = format!("{call} on {of} refused for one value alone, of q");
             [(format!("{what} and vertices"), mixed), (format!("{what} and every vertex"), every)]
         };
-        let both = |(of, [replaces, points]): (&str, [[u64; 2]; 2])| [of_call(of, "a replace", replaces), of_call(of, "a point", points)];
+        let both = |(of, [replaces, points]): (&str, [[u64; 2]; 2])| {
+            [of_call(of, "a replace", replaces), of_call(of, "a point", points)]
+        };
         ALONE.into_iter().zip(self.alone).flat_map(both).flatten().collect()
     }
 
@@ -455,7 +460,8 @@ impl Counts {
             format!("{of}: replaces {replaces} ({with_every}) points {points} ({at_every})")
         };
         let all: Vec<String> = ALONE.into_iter().zip(self.alone).map(of).collect();
-        format!("\nrefused 10 for one value alone, of q and vertices (of q and every vertex): {}", all.join(", "))
+        let what = "refused 10 for one value alone, of q and vertices (of q and every vertex)";
+        format!("\n{what}: {}", all.join(", "))
     }
 
     /// The counts of the largest component in two lines.

@@ -12,6 +12,9 @@ pub struct Name {
 
 pub type Value = (Name, [i128; 4]);
 
+/// The values of a stage, and those of them with q alone in its group.
+type Stage = (Vec<Value>, Vec<[i128; 4]>);
+
 /// Values beyond this are not worked out: with one of them no call has just one value beyond the range.
 const FAR: i128 = 1 << 100;
 
@@ -44,8 +47,8 @@ pub fn named(shape: Shape, entries: &[[i64; 4]], call: &Call) -> Option<Vec<Valu
     }
 }
 
-/// One group after the other: those before it have only their q, those after it their vertices. The values without
-/// a q of a later group are those of the stage before.
+/// One group after the other: those before it have only their q, those after it their vertices. The values
+/// without a q of a later group are those of the stage before.
 fn named_by_point(mut shape: Shape, entries: &[[i64; 4]], weights: Weights) -> Option<Vec<Value>> {
     let (mut all, mut q, mut entries) = (Vec::new(), [0; 2], wide(entries));
     for (group, weights) in shape.kind.grouped(&weights).iter().enumerate() {
@@ -57,8 +60,14 @@ fn named_by_point(mut shape: Shape, entries: &[[i64; 4]], weights: Weights) -> O
     Some(all)
 }
 
-/// The values with any number of q and of vertices of one group, and those with q alone in it.
-fn stage(shape: Shape, mut q: [usize; 2], entries: &[[i128; 4]], group: usize, weights: &[i64]) -> Option<(Vec<Value>, Vec<[i128; 4]>)> {
+/// The values with any number of q and of vertices of one group; of the groups before it q is taken so often.
+fn stage(
+    shape: Shape,
+    mut q: [usize; 2],
+    entries: &[[i128; 4]],
+    group: usize,
+    weights: &[i64],
+) -> Option<Stage> {
     let (mut all, mut level) = (Vec::new(), entries.to_vec());
     for left in (0..=shape.degrees[group]).rev() {
         q[group] = shape.degrees[group] - left;
@@ -74,7 +83,8 @@ fn stage(shape: Shape, mut q: [usize; 2], entries: &[[i128; 4]], group: usize, w
     Some((all, level))
 }
 
-/// The values with q in one place more of a net of this shape: the sums of those with a vertex there, times its weight.
+/// The values with q in one place more of a net of this shape: the sums of those with a vertex there, times
+/// its weight.
 fn one_more(shape: Shape, below: &[[i128; 4]], group: usize, weights: &[i64]) -> Vec<[i128; 4]> {
     let vertices = shape.groups()[group].span();
     let sum_at = |copies: Copies| {
@@ -110,12 +120,12 @@ pub const GROUPS: [(Kind, usize); 4] = [(Kind::Curve, 0), (Kind::Patch, 0), (Kin
 #[cfg(test)]
 mod tests {
     use super::*;
-    use crate::calls::NO_WEIGHTS;
+    use crate::calls::{Answer, NO_WEIGHTS};
     use crate::handed::Net;
-    use crate::calls::Answer;
 
     fn names(shape: Shape, call: Call) -> Vec<Name> {
-        named(shape, &vec![[0; 4]; shape.places()], &call).unwrap().into_iter().map(|(name, _)| name).collect()
+        let values = named(shape, &vec![[0; 4]; shape.places()], &call).unwrap();
+        values.into_iter().map(|(name, _)| name).collect()
     }
 
     /// m points of n, any number of each, are so many.
@@ -127,15 +137,17 @@ mod tests {
     fn every_number_of_each_point_is_named_once() {
         for shape in Shape::all() {
             let groups = shape.groups();
-            let of_group = |group: usize, more: usize| ways(groups[group].vertices + more, groups[group].degree);
+            let of_group = |group: usize, q: usize| ways(groups[group].vertices + q, groups[group].degree);
             for vertex in 1..=shape.vertices() as u8 {
                 let own = shape.kind.group_of(place_of(vertex));
-                let wanted: usize = (0..groups.len()).map(|group| of_group(group, usize::from(group == own))).product();
+                let of = |group: usize| of_group(group, usize::from(group == own));
+                let wanted: usize = (0..groups.len()).map(of).product();
                 let all = names(shape, Call::Move { operation: REPLACE, vertex, weights: [1; 4] });
                 assert_eq!(all.len(), wanted);
                 assert!(all.iter().enumerate().all(|(n, name)| !all[..n].contains(name)));
                 for name in all {
-                    let taken = |group: usize| name.q[group] + name.copies[groups[group].span()].iter().sum::<usize>();
+                    let vertices = |group: usize| name.copies[groups[group].span()].iter().sum::<usize>();
+                    let taken = |group: usize| name.q[group] + vertices(group);
                     assert!((0..groups.len()).all(|group| taken(group) == groups[group].degree));
                     assert!((0..groups.len()).all(|group| group == own || name.q[group] == 0));
                 }

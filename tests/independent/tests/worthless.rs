@@ -161,8 +161,8 @@ enum Fault {
     RefusesABufferOfTheTextsLength,
 }
 
-/// A size test that does not look at some of the values that a replace or a point names: in one group of one kind,
-/// those of q and these points.
+/// A size test that does not look at some of the values that a replace or a point names: in one group of one
+/// kind, those of q and these points.
 #[derive(Clone, Copy, Debug, PartialEq)]
 struct LeftOut {
     point: bool,
@@ -181,11 +181,16 @@ enum WithQ {
     TheReplacedVertex,
 }
 
+impl WithQ {
+    const ALL: [WithQ; 4] =
+        [WithQ::EveryVertex, WithQ::TwoVertices, WithQ::AnyVertex, WithQ::TheReplacedVertex];
+}
+
 impl LeftOut {
     fn all() -> Vec<LeftOut> {
         let mut all = Vec::new();
         for (kind, group) in GROUPS {
-            for with_q in [WithQ::EveryVertex, WithQ::TwoVertices, WithQ::AnyVertex, WithQ::TheReplacedVertex] {
+            for with_q in WithQ::ALL {
                 for point in [false, true] {
                     let nothing_new = with_q == WithQ::TwoVertices && kind != Kind::Patch;
                     if !nothing_new && !(point && with_q == WithQ::TheReplacedVertex) {
@@ -958,7 +963,9 @@ impl Library for Spoiled {
             (Fault::AbsentFieldAtTheStart, 0) if lookup.start == record.len() => Lookup { start: 0, ..lookup },
             (Fault::EmptyFieldAtTheEnd, 0) if lookup.length == 0 => Lookup { start: record.len(), ..lookup },
             (Fault::TagByItsLowBits, 0) => self.model.field(record, tag % 128),
-            (Fault::FieldsFourAndFiveExchanged, 0) if tag == 4 || tag == 5 => self.model.field(record, 9 - tag),
+            (Fault::FieldsFourAndFiveExchanged, 0) if (4..=5).contains(&tag) => {
+                self.model.field(record, 9 - tag)
+            }
             _ => lookup,
         }
     }
@@ -1033,9 +1040,9 @@ fn every_fault_is_found() {
         LargestBeyondTheRangeRefused, LargestWrittenOnARefusal, LargestWrittenOnARefusalForSize, LargestLeftByAFirstNet,
         LargestLeftByARecordsNet, LargestOfTheCoefficients, LargestOfAFirstNetNeverFalling,
         LargestWrittenByARefusedFirstNet, TextWithTheLargest, LargestJudgedByAPoint, LargestClearedByAFlip,
-        FieldsFourAndFiveExchanged, RefusesABufferOfTheTextsLength, TagsModulo(8), TagsModulo(16), TagsModulo(32), TagsModulo(64),
-        TagsModulo(128), LengthsModulo(1024), LengthsModulo(2048), LengthsModulo(4096), LengthsModulo(8192),
-        LengthsModulo(16384), LengthsModulo(32768),
+        FieldsFourAndFiveExchanged, RefusesABufferOfTheTextsLength, TagsModulo(8), TagsModulo(16),
+        TagsModulo(32), TagsModulo(64), TagsModulo(128), LengthsModulo(1024), LengthsModulo(2048),
+        LengthsModulo(4096), LengthsModulo(8192), LengthsModulo(16384), LengthsModulo(32768),
     ];
     // once in replaces alone and once in first nets alone
     let of_either = [

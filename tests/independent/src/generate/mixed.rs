@@ -1,5 +1,5 @@
-//! Records and calls of which exactly one named polar value is beyond 2 to the 48th, and that one is taken of q
-//! and of vertices: a size test that leaves it out takes the call.
+//! Records and calls of which exactly one named polar value is beyond 2 to the 48th, and that one is taken of
+//! q and of vertices: a size test that leaves it out takes the call.
 
 use super::records::{built, times, unit_frame, Made};
 use crate::calls::{Call, Weights, NO_WEIGHTS, REPLACE};
@@ -9,8 +9,8 @@ use crate::random::Random;
 use crate::record::LARGEST_COEFFICIENT;
 use crate::shape::{Kind, Shape, RANGE};
 
-/// In units of the range: all values but one are to be within the first, and that one at the second. What lies
-/// between is for rounding.
+/// In units of the range: all values but one are to be within the first, and that one at the second. What
+/// lies between is for rounding.
 const INSIDE: f64 = 0.99;
 const OUTSIDE: f64 = 1.01;
 const NEAR: f64 = 1e-6;
@@ -19,26 +19,30 @@ const STEPS: usize = 200;
 /// So many times other weights and other degrees are tried.
 const TRIES: usize = 400;
 
-/// Every vertex becomes 2 to so many times itself, and then coefficients of 2 to the 20th come to 2 to the 48th.
+/// Every vertex becomes 2 to so many times itself: then coefficients of 2 to the 20th come to 2 to the 48th.
 fn bits(shape: Shape) -> usize {
     let sum: usize = shape.degrees.iter().sum();
     28usize.div_ceil(sum)
 }
 
-/// A record of this kind with calls to begin with, of which the last is that one. Two times out of three its value is
-/// of q and every vertex of a group.
+/// A record of this kind with calls to begin with, of which the last is that one. Two times out of three its
+/// value is of q and every vertex of a group.
 pub fn one_beyond(random: &mut Random, kind: Kind) -> Option<Made> {
     let (group, replaced, every) = (random.below(kind.spans().len()), random.once_in(2), !random.once_in(3));
     for _ in 0..TRIES {
         let shape = low_shape(random, kind, group, usize::from(every));
         let call = any_call(random, shape, group, replaced);
-        let wanted = |name: &Name| if every { name.has_every_vertex(shape, group) } else { name.is_mixed(shape, group) };
+        let wanted = |name: &Name| match every {
+            true => name.has_every_vertex(shape, group),
+            false => name.is_mixed(shape, group),
+        };
         if let Some(coefficients) = coefficients_for(random, shape, &call, wanted) {
             let mut made = built(shape, unit_frame(kind), coefficients, Vec::new(), Vec::new());
             made.opening.push(call);
             for vertex in 1..=shape.vertices() as u8 {
                 let parts = [bits(shape).min(12), bits(shape).saturating_sub(12)];
-                made.opening.extend(parts.into_iter().filter(|&part| part > 0).map(|part| times(kind, vertex, 1 << part)));
+                let parts = parts.into_iter().filter(|&part| part > 0);
+                made.opening.extend(parts.map(|part| times(kind, vertex, 1 << part)));
             }
             return Some(made);
         }
@@ -74,8 +78,14 @@ fn any_call(random: &mut Random, shape: Shape, group: usize, replaced: bool) -> 
     Call::Move { operation: REPLACE, vertex: (span.start + random.below(span.len())) as u8 + 1, weights: own }
 }
 
-/// Coefficients over the unit frame with which, once the vertices have grown, one of the wanted values alone is beyond.
-fn coefficients_for(random: &mut Random, shape: Shape, call: &Call, wanted: impl Fn(&Name) -> bool) -> Option<Vec<[i64; 4]>> {
+/// Coefficients over the unit frame with which, once the vertices have grown, one of the wanted values alone
+/// is beyond.
+fn coefficients_for(
+    random: &mut Random,
+    shape: Shape,
+    call: &Call,
+    wanted: impl Fn(&Name) -> bool,
+) -> Option<Vec<[i64; 4]>> {
     let (names, rows) = rows(shape, call)?;
     let fit: Vec<usize> = (0..names.len()).filter(|&n| wanted(&names[n])).collect();
     let chosen = random.pick(&fit);
@@ -86,9 +96,9 @@ fn coefficients_for(random: &mut Random, shape: Shape, call: &Call, wanted: impl
     for exponents in shape.exponents() {
         let place = shape.place(&copies(shape, &exponents));
         let share = scale(shape) / multinomial(shape, &exponents);
-        let number = (sign * sizes[place] * RANGE as f64 / share as f64 / f64::from(2).powi(grown as i32)).round() as i64;
+        let unit = share as f64 * f64::from(2).powi(grown as i32);
         let mut four = [0; 4];
-        four[component] = number;
+        four[component] = (sign * sizes[place] * RANGE as f64 / unit).round() as i64;
         coefficients.push(four);
         entries[place] = four.map(|number| number * share << grown);
     }
@@ -96,8 +106,8 @@ fn coefficients_for(random: &mut Random, shape: Shape, call: &Call, wanted: impl
     (inside && beyond(&named(shape, &entries, call)?) == [names[chosen]]).then_some(coefficients)
 }
 
-/// How often an entry over the unit frame takes each vertex, by the monomial that it has its value from: of the
-/// first vertex the last coordinate is 1, of the second the first one, of the third the middle one.
+/// How often an entry over the unit frame takes each vertex, by the monomial that it has its value from: of
+/// the first vertex the last coordinate is 1, of the second the first one, of the third the middle one.
 fn copies(shape: Shape, exponents: &[(usize, usize)]) -> [usize; 4] {
     let mut copies = [0; 4];
     for (group, &(h, l)) in shape.groups().iter().zip(exponents) {
@@ -122,8 +132,8 @@ fn rows(shape: Shape, call: &Call) -> Option<(Vec<Name>, Vec<Vec<f64>>)> {
     Some((names, rows))
 }
 
-/// Entries with which the chosen sum is outside and every other one inside, in units of the range. A sum that is
-/// wrong is put right, the worst first, by the smallest change of the entries that does it, and so on.
+/// Entries with which the chosen sum is outside and every other one inside, in units of the range. A sum that
+/// is wrong is put right, the worst first, by the smallest change of the entries that does it, and so on.
 fn entries_for(random: &mut Random, rows: &[Vec<f64>], chosen: usize) -> Option<Vec<f64>> {
     let mut entries: Vec<f64> = rows[0].iter().map(|_| random.between(-300, 300) as f64 / 1000.0).collect();
     for _ in 0..STEPS {
@@ -152,8 +162,8 @@ mod tests {
     use crate::compare::first_net;
     use crate::machine::Machine;
 
-    /// The machine takes every call but the last, which it refuses 10, and so does the handed net; most of the
-    /// time there is such a record.
+    /// The machine takes every call but the last, which it refuses 10, and so does the handed net; mostly
+    /// there is such a record.
     #[test]
     fn the_last_call_is_refused_for_one_value() {
         let mut random = Random::new(5);

@@ -143,7 +143,13 @@ pub fn times(kind: Kind, vertex: u8, by: i64) -> Call {
     Call::Move { operation: REPLACE, vertex, weights }
 }
 
-pub fn built(shape: Shape, frame: Vec<[i64; 3]>, coefficients: Vec<[i64; 4]>, aims: Vec<Aim>, still: Vec<usize>) -> Made {
+pub fn built(
+    shape: Shape,
+    frame: Vec<[i64; 3]>,
+    coefficients: Vec<[i64; 4]>,
+    aims: Vec<Aim>,
+    still: Vec<usize>,
+) -> Made {
     let record = bare(shape, frame, coefficients);
     Made { record, aims, still, opening: Vec::new() }
 }
