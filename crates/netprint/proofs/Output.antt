@@ -14,7 +14,7 @@ use Rattle.text.specs.declared.Written.the-variants.{Bytes, Refused}
 use Rattle.text.specs.Text.{textOf, fits, writtenOf, writtenBytes, bufferOf}
 use Rattle.text.specs.Longest.{longestText}
 use Rattle.text.proofs.Longest.{no-longer-text, text-by-first-bytes}
-use Rattle.netprint.specs.Process.{failed, gave, Stopped, mostRead, outputBy, OutputOfWhole}
+use Rattle.netprint.specs.Process.{failed, gave, Stopped, mostRead, ReadEnough, outputBy, OutputOfWhole}
 use Rattle.netprint.specs.declared.Stop.{Stop}
 
 -- ---- the buffer
@@ -51,6 +51,9 @@ module _ (s out : List ℕ) where
         subst (λ f. Output f (writtenBytes w) left) at (whole w left answered stands)
 
 -- ---- the whole input
+
+pub read-enough : ReadEnough
+read-enough s = text-by-first-bytes mostRead (omega arith) s
 
 -- by what the last read answered: the input is all there, or the buffer is full, with all that a text needs
 pub output-of-whole : (stop : Stop) (input : List ℕ) → Stopped stop input → length input ≡ mostRead

@@ -29,6 +29,10 @@ pub record Stopped (stop : Stop) (input : List ℕ) : Type 0 where
 abbrev pub mostRead : ℕ
 mostRead = 2048
 
+-- they suffice: the text of any input is that of its first bytes
+abbrev pub ReadEnough : Type 0
+ReadEnough = (s : List ℕ) → textOf (take mostRead s) ≡ textOf s
+
 -- What was read is of this whole input: the bytes that were read are its first ones, and all of them where
 -- the last read answered 0, the end of the input.
 pub record ReadOf (stop : Stop) (input whole : List ℕ) : Type 0 where
