@@ -1,4 +1,4 @@
--- Weights read back from their bits, and what comes back from a projection in each case of the code's tests of room.
+-- Calls whose weights are read back from their bits, and what comes back from a projection in each case of the code's tests of room.
 use Prim.Native.Nat.{ℕ, _≤_, _<_}
 use mathlib.Core.Path.{_≡_, sym, ap, ap₂, subst, _∙_}
 use mathlib.Core.Bool.{Bool, true, false, cond, _&&_}
@@ -11,12 +11,17 @@ use mir.Syntax.{w64}
 use mir.Val.{SFits}
 use Rattle.integers.proofs.Signed.{seen, back-fits}
 use Rattle.projection.specs.declared.Projection.{Projection}
-use Rattle.gadwemosh.specs.Calls.{fourWeights}
+use Rattle.gadwemosh.specs.Calls.{moveCall, pointCall}
 use Rattle.gadwemosh.specs.Projections.{ProjectionReturned, projectionWithRoom, projectionWithoutRoom, projectionReturned}
 
--- four weights as they are handed on
-pub weights-back : {r s t u : ℤ} → SFits w64 r → SFits w64 s → SFits w64 t → SFits w64 u → fourWeights (seen r) (seen s) (seen t) (seen u) ≡ fourWeights r s t u
-weights-back r s t u = λ i. fourWeights (back-fits r i) (back-fits s i) (back-fits t i) (back-fits u i)
+-- a call with its weights as they are handed on
+module _ {r s t u : ℤ} (fr : SFits w64 r) (fs : SFits w64 s) (ft : SFits w64 t) (fu : SFits w64 u) where
+  pub move-back : (operation vertex : ℕ)
+      → moveCall operation vertex (seen r) (seen s) (seen t) (seen u) ≡ moveCall operation vertex r s t u
+  move-back operation vertex = λ i. moveCall operation vertex (back-fits fr i) (back-fits fs i) (back-fits ft i) (back-fits fu i)
+
+  pub point-back : pointCall (seen r) (seen s) (seen t) (seen u) ≡ pointCall r s t u
+  point-back = λ i. pointCall (back-fits fr i) (back-fits fs i) (back-fits ft i) (back-fits fu i)
 
 -- ---- what comes back from a projection
 

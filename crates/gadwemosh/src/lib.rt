@@ -29,6 +29,9 @@ use records::extent_of;
 use text::Written;
 use text::write_text;
 
+// The number of a buffer that has too few places.
+const SHORT: u8 = 11;
+
 // Opens a record: its first net goes into the lent places, or nothing does, and the offset of the
 // refusal is told.
 #[no_mangle]
@@ -130,10 +133,10 @@ pub extern "C" fn gadwemosh_project(
 {
     *outcome = 0;
     if bits.len() < 3 {
-        return 11;
+        return SHORT;
     }
     if direction.len() < 4 {
-        return 11;
+        return SHORT;
     }
     let projection = project(x, y, z, w);
     write_projection(outcome, bits, direction, projection)

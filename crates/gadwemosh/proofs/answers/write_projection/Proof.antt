@@ -4,7 +4,9 @@ use mathlib.Core.Path.{_≡_, refl, ap, _∙_}
 use mathlib.Core.List.{[], _∷_}
 use Rattle.integers.proofs.Signed.{seen, back-fits}
 use Rattle.projection.specs.Projection.{coordinateBits}
+use Rattle.projection.specs.declared.Projection.the-variants.{Finite, Direction}
 use Rattle.machine.specs.Lent.{putAt}
+use Rattle.gadwemosh.specs.Projections.{outcomeOf}
 use Rattle.gadwemosh.proofs.Places.{case-told}
 use Rattle.gadwemosh.proofs.answers.write_projection.Statement.{statement}
 use Rattle.gadwemosh.proofs.answers.write_projection.Tie as tie
@@ -13,9 +15,10 @@ returns : tie.Need-returns
 unfolding coordinateBits
 returns c =
     let a = c .before .before .before .before .before .before .before .before .args in
+    let g = c .before .before .before .before .before .projection .given in
     let put = c .before .before .put-bits .ensures in
-    case-told (a .patterns .now) (a .direction .now) _ (c .before .before .before .before .before .projection .given .1)
-    (λ i. record { number = 0; outcome = 1; bits = put i; direction = a .direction .now })
+    case-told (a .patterns .now) (a .direction .now) _ (g .1)
+    (λ i. record { number = 0; outcome = outcomeOf (Finite (g .0 .0)); bits = put i; direction = a .direction .now })
 
 returns-2 : tie.Need-returns-2
 unfolding coordinateBits
@@ -30,7 +33,8 @@ returns-2 c =
     let length = back-fits {z = d .length} (sfits-of (t .1 .1 .1 .0 .1)) in
     let numbers : seen (d .x) ∷ seen (d .y) ∷ seen (d .z) ∷ seen (d .length) ∷ [] ≡ d .x ∷ d .y ∷ d .z ∷ d .length ∷ [] = λ i. x i ∷ y i ∷ z i ∷ length i ∷ [] in
     let put = c .before .put-direction .ensures ∙ ap (λ l. putAt 0 l (a .direction .now)) numbers in
-    case-told (a .patterns .now) (a .direction .now) _ (g .1) (λ i. record { number = 0; outcome = 2; bits = a .patterns .now; direction = put i })
+    case-told (a .patterns .now) (a .direction .now) _ (g .1)
+    (λ i. record { number = 0; outcome = outcomeOf (Direction d); bits = a .patterns .now; direction = put i })
 
 returns-3 : tie.Need-returns-3
 unfolding coordinateBits
