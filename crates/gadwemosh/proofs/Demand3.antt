@@ -4,20 +4,23 @@ use mathlib.Core.Bool.{true}
 use mathlib.Core.List.{List, map}
 use borrow.Author.Tests.{le-leb}
 use lib.ListN.{length}
-use Rattle.machine.specs.Comparison.{Polynomials}
-use Rattle.machine.specs.Steps.{after}
+use Rattle.machine.specs.Comparison.{machineStep}
 use Rattle.machine.specs.Lent.{putNet, unlessRefused}
-use Rattle.machine.specs.Carried.{lentStep, FirstNetIn, SameNet, lentFrames}
+use Rattle.machine.specs.Carried.{LentCall, lentStep, expected, FirstNetIn, SameNet, lentFrames}
+use Rattle.machine.specs.Carried.{LentGuaranteed}
 use Rattle.machine.proofs.Lent.{point-stands}
 use Rattle.machine.proofs.Carried.{found-projection, expected-by, carried, carried-further, made-first}
 use Rattle.opening.specs.Opening.{firstNetFrom, placesIn}
 use Rattle.opening.proofs.Records.{opened-none, accepted-numbers}
 use Rattle.gadwemosh.specs.Calls.{fourWeights}
 use Rattle.gadwemosh.specs.Projections.{projectionReturned}
-use Rattle.gadwemosh.specs.Demand3.{Start, opened, made, startPolynomials, startNumbers, startLent, startPlaces, Exported, lentCall, placesReached, machineFrames, Demand3Exported}
+use Rattle.gadwemosh.specs.Demand3.{Start, opened, made, startPolynomials, startNumbers, startLent}
+use Rattle.gadwemosh.specs.Demand3.{startPlaces, Exported, lentCall, placesReached, machineFrames}
+use Rattle.gadwemosh.specs.Demand3.{Demand3Exported}
 
 -- a first net stands in the places, whichever call gave it
-start-first : (start : Start) → FirstNetIn (startPolynomials start) (startNumbers start) (startLent start) (startPlaces start)
+start-first : (start : Start)
+    → FirstNetIn (startPolynomials start) (startNumbers start) (startLent start) (startPlaces start)
 unfolding placesIn
 start-first (opened input lent none) =
     let parts = opened-none input lent none in
@@ -26,33 +29,51 @@ start-first (opened input lent none) =
       enough = parts .0;
       written = ap (λ k. unlessRefused k (putNet (firstNetFrom input) lent) lent) none;
     }
-start-first (made kind degree second frame coefficients lent none) = made-first kind degree second frame coefficients lent none
+start-first (made kind degree second frame coefficients lent none) =
+    made-first kind degree second frame coefficients lent none
 
--- two callers: of the same polynomials machine's theorem speaks, whoever has them
-same-polynomials : (start theirs : Start) (calls theirCalls : List Exported) → startPolynomials theirs ≡ startPolynomials start → machineFrames theirs theirCalls ≡ machineFrames start calls
+-- so machine's theorem speaks of it
+start-guaranteed : (start : Start) (calls : List Exported)
+    → LentGuaranteed (startPolynomials start) (startNumbers start) (startLent start) (startPlaces start)
+    (map lentCall calls)
+start-guaranteed start calls =
+    carried (startPolynomials start) (startNumbers start) (startLent start) (startPlaces start)
+    (start-first start) (map lentCall calls)
+
+-- two callers with the same polynomials
+same-polynomials : (start theirs : Start) (calls theirCalls : List Exported)
+    → startPolynomials theirs ≡ startPolynomials start
+    → machineFrames theirs theirCalls ≡ machineFrames start calls
     → SameNet (startPolynomials start) (placesReached theirs theirCalls) (placesReached start calls)
 same-polynomials start theirs calls theirCalls is =
     subst
     (λ g.
-    FirstNetIn g (startNumbers theirs) (startLent theirs) (startPlaces theirs) → lentFrames g (startNumbers theirs) (map lentCall theirCalls) ≡ machineFrames start calls
+    FirstNetIn g (startNumbers theirs) (startLent theirs) (startPlaces theirs)
+    → lentFrames g (startNumbers theirs) (map lentCall theirCalls) ≡ machineFrames start calls
     → SameNet (startPolynomials start) (placesReached theirs theirCalls) (placesReached start calls))
     (sym is)
-    (λ first. carried (startPolynomials start) (startNumbers start) (startLent start) (startPlaces start) (start-first start) (map lentCall calls) .same
-    (startNumbers theirs) (startLent theirs) (startPlaces theirs) first (map lentCall theirCalls))
+    (λ first.
+    start-guaranteed start calls .same (startNumbers theirs) (startLent theirs) (startPlaces theirs) first
+    (map lentCall theirCalls))
     (start-first theirs)
 
 pub demand-3-exported : Demand3Exported
 unfolding lentStep
 demand-3-exported start calls =
-    let f = startPolynomials start in
-    let first = start-first start in
-    let further = carried-further f (startNumbers start) (startLent start) (startPlaces start) first (map lentCall calls) in
     record {
-      guaranteed = carried f (startNumbers start) (startLent start) (startPlaces start) first (map lentCall calls);
+      guaranteed = start-guaranteed start calls;
       same = λ theirs is theirCalls. same-polynomials start theirs calls theirCalls is;
       pointKeeps = λ r s t u found. point-stands (fourWeights r s t u) (placesReached start calls) found;
       projected = λ r s t u found bits direction answered enough.
           let c = lentCall (Exported.point r s t u found) in
+          let answer = further c ∙ expected-by c _ true (le-leb 4 (length found) enough) in
           ap (λ p. projectionReturned p bits direction)
-          (found-projection _ (c .call) _ (ap (λ r. r .answer) (further c ∙ expected-by c _ true (le-leb 4 (length found) enough)) ∙ answered));
+          (found-projection _ (c .call) _ (ap (λ r. r .answer) answer ∙ answered));
     }
+  where
+    further : (c : LentCall)
+        → lentStep (placesReached start calls) c .answer
+        ≡ expected c (machineStep (startPolynomials start) (machineFrames start calls) (c .call) .answer)
+    further =
+        carried-further (startPolynomials start) (startNumbers start) (startLent start) (startPlaces start)
+        (start-first start) (map lentCall calls)

@@ -1,5 +1,5 @@
--- The instances of the exported functions: what the definitions give is computed for the whole table at once, and a law
--- turns the two columns into what each row says.
+-- The instances of the exported functions: what the definitions give is computed for the whole table at once,
+-- and a law turns the two columns into what each row says.
 use mathlib.Core.Path.{_≡_, refl, sym, subst}
 use mathlib.Core.List.{List, [], _∷_, map, List·Memᴰ, List·Memᴰ·head, List·Memᴰ·tail, List·Memᴰ·not-nil}
 use lib.IntN.{ℤ}
@@ -35,7 +35,8 @@ given (x is y) = x
 abbrev must : Instance → List ℤ
 must (x is y) = y
 
-each-right : (table : List Instance) → map given table ≡ map must table → (i : Instance) → List·Memᴰ i table → Right i
+each-right : (table : List Instance) → map given table ≡ map must table
+    → (i : Instance) → List·Memᴰ i table → Right i
 each-right [] e i m = absurd (List·Memᴰ·not-nil m)
 each-right ((x is y) ∷ table) e i (List·Memᴰ·head p) = subst Right (sym p) (cc)
 each-right ((x is y) ∷ table) e i (List·Memᴰ·tail m) = each-right table (cc) i m

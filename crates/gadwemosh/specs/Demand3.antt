@@ -17,8 +17,8 @@ use Rattle.gadwemosh.specs.Projections.{ProjectionReturned, projectionRe
 
 -- ---- first nets
 
--- A first net that a caller has, by the call that gave it and answered 0: of gadwemosh_open with any bytes, or of
--- gadwemosh_first. `lent` is what stood in the net's places before.
+-- A first net that a caller has, by the call that gave it and answered 0: of gadwemosh_open with any bytes,
+-- or of gadwemosh_first. `lent` is what stood in the net's places before.
 pub data Start : Type 0 where
   opened : (input : List ℕ) (lent : List ℤ) → openedIn input lent .refusal .number ≡ 0 → Start
   made : (kind degree second : ℕ) (frame coefficients lent : List ℤ)
@@ -27,7 +27,8 @@ pub data Start : Type 0 where
 -- its polynomials and the numbers of its frame
 abbrev pub startPolynomials : Start → Polynomials
 startPolynomials (opened input lent none) = polynomialsIn input
-startPolynomials (made kind degree second frame coefficients lent none) = polynomialsFrom kind degree second coefficients
+startPolynomials (made kind degree second frame coefficients lent none) =
+    polynomialsFrom kind degree second coefficients
 
 abbrev pub startNumbers : Start → List ℤ
 startNumbers (opened input lent none) = numbersIn input
@@ -69,21 +70,25 @@ projectedFrom found bits direction =
 -- ---- what is guaranteed of a list of exported calls on a first net
 
 pub record ExportedGuaranteed (start : Start) (calls : List Exported) : Type 0 where
-  -- the net in the places, what came back from every call, which further call is refused for size, and all other
-  -- places are as on any lent places
-  pub guaranteed : LentGuaranteed (startPolynomials start) (startNumbers start) (startLent start) (startPlaces start) (map lentCall calls)
-  -- 'For every two lists from one record that reach the same frame, the nets left are the same, and every further list
-  -- gets the same answers after the one as after the other': also where another caller has the record opened in
-  -- places of his own, or has made a first net of its polynomials
-  pub same : (theirs : Start) → startPolynomials theirs ≡ startPolynomials start → (theirCalls : List Exported)
-      → machineFrames theirs theirCalls ≡ machineFrames start calls
+  -- the net in the places, what came back from every call, which further call is refused for size, and all
+  -- other places are as on any lent places
+  pub guaranteed : LentGuaranteed (startPolynomials start) (startNumbers start) (startLent start)
+      (startPlaces start) (map lentCall calls)
+  -- 'two lists that reach the same frame leave the same net, and every further list gets the same answers
+  -- after the one as after the other': also where another caller has opened the record in places of his own,
+  -- or has made a first net of its polynomials
+  pub same : (theirs : Start) → startPolynomials theirs ≡ startPolynomials start
+      → (theirCalls : List Exported) → machineFrames theirs theirCalls ≡ machineFrames start calls
       → SameNet (startPolynomials start) (placesReached theirs theirCalls) (placesReached start calls)
   -- a further point leaves every place, as gadwemosh_point does, which is lent the net to be read
   pub pointKeeps : (r s t u : ℤ) (found : List ℤ)
       → callPlaces (pointCall r s t u) (placesReached start calls) found ≡ placesReached start calls
-  -- of a further point that the comparison machine finds, in places enough for its numbers, gadwemosh_project gives back number, outcome and places by the machine's projection
-  pub projected : (r s t u : ℤ) (found : List ℤ) (bits : List ℕ) (direction : List ℤ) {x y z w : ℤ} {at : Projection}
-      → machineStep (startPolynomials start) (machineFrames start calls) (pointCall r s t u) .answer ≡ Found x y z w at
+  -- of a further point that the comparison machine finds, in places enough for its numbers, gadwemosh_project
+  -- gives back number, outcome and places by the machine's projection
+  pub projected : (r s t u : ℤ) (found : List ℤ) (bits : List ℕ) (direction : List ℤ)
+      {x y z w : ℤ} {at : Projection}
+      → machineStep (startPolynomials start) (machineFrames start calls) (pointCall r s t u) .answer
+      ≡ Found x y z w at
       → 4 ≤ length found
       → projectedFrom (callFound (pointCall r s t u) (placesReached start calls) found) bits direction
       ≡ projectionReturned at bits direction

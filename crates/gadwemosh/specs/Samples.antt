@@ -1,7 +1,7 @@
--- What comes back from the seven exported functions in single instances, as one table. What each function answers is
--- defined with names; in which order its arguments stand, which number a case has, and in which place a number goes,
--- is said by include/gadwemosh.h, and these rows hold it: with two arguments exchanged, or one number for another,
--- something else comes back. proofs/Samples.antt proves every row.
+-- What comes back from the seven exported functions in single instances, as one table. Nothing else says what
+-- include/gadwemosh.h says: which of its arguments a function takes for which, which number a case has, and
+-- into which place a number goes. With two of them exchanged something else comes back. proofs/Samples.antt
+-- proves every row.
 use Prim.Native.Nat.{ℕ, _-_}
 use mathlib.Core.List.{List, [], _∷_, _++_, map}
 use lib.IntN.{ℤ, pos, negℤ}
@@ -14,7 +14,8 @@ use Rattle.text.specs.Text.{word, textOf, writtenOf, writtenNumber, writtenByte
 use Rattle.gadwemosh.specs.Calls.{moveCall, pointCall}
 use Rattle.gadwemosh.specs.Projections.{projectionReturned}
 
--- ---- what comes back, by the arguments in the header's order: the number, and then what stands in the places that the function may write
+-- ---- what comes back, by the arguments in the header's order: the number, and then what stands in places
+-- that the function may write
 
 abbrev opens : List ℕ → List ℤ → List ℤ
 opens input net =
@@ -65,13 +66,16 @@ abbrev lentNet : ℕ → ℕ → ℕ → List ℤ → List ℤ → ℕ → List 
 lentNet kind degree second frame entries largest =
     pos kind ∷ pos degree ∷ pos second
     ∷ (frame
-    ++ (hundreds (9 - length frame) ++ (entries ++ (hundreds (180 - length entries) ++ (pos largest ∷ pos 100 ∷ [])))))
+    ++ hundreds (9 - length frame)
+    ++ entries
+    ++ hundreds (180 - length entries)
+    ++ (pos largest ∷ pos 100 ∷ []))
 
 -- ---- records
 
--- a number of one byte in four
-abbrev wide : ℕ → List ℕ
-wide n = 0 ∷ 0 ∷ 0 ∷ n ∷ []
+-- a number in four bytes
+abbrev four : ℕ → List ℕ
+four n = 0 ∷ 0 ∷ 0 ∷ n ∷ []
 
 -- the circle's record: fields 1, 2, 3 and 5
 abbrev circle : List ℕ
@@ -79,9 +83,9 @@ circle =
     (1 ∷ 0 ∷ 2 ∷ 1 ∷ 2 ∷ [])
     ++ (2 ∷ 0 ∷ 8 ∷ 0 ∷ 0 ∷ 0 ∷ 1 ∷ 0 ∷ 1 ∷ 0 ∷ 1 ∷ [])
     ++ (3 ∷ 0 ∷ 48 ∷ [])
-    ++ (wide 1 ++ wide 0 ++ wide 0 ++ wide 1)
-    ++ (wide 0 ++ wide 2 ++ wide 0 ++ wide 0)
-    ++ (replicate 4 255 ++ wide 0 ++ wide 0 ++ wide 1)
+    ++ (four 1 ++ four 0 ++ four 0 ++ four 1)
+    ++ (four 0 ++ four 2 ++ four 0 ++ four 0)
+    ++ (replicate 4 255 ++ four 0 ++ four 0 ++ four 1)
     ++ (5 ∷ 0 ∷ 4 ∷ 0 ∷ 1 ∷ 0 ∷ 1 ∷ [])
 
 -- field 1 twice, which is refused 2 at the second
@@ -90,7 +94,8 @@ twice = 1 ∷ 0 ∷ 2 ∷ 1 ∷ 2 ∷ 1 ∷ 0 ∷ 2 ∷ 1 ∷ 2 ∷ []
 
 abbrev circleNet : List ℤ
 circleNet =
-    lentNet 1 2 0 (map pos (0 ∷ 1 ∷ 1 ∷ 1 ∷ [])) (map pos (2 ∷ 0 ∷ 0 ∷ 2 ∷ 2 ∷ 2 ∷ 0 ∷ 2 ∷ 0 ∷ 4 ∷ 0 ∷ 4 ∷ [])) 4
+    lentNet 1 2 0 (map pos (0 ∷ 1 ∷ 1 ∷ 1 ∷ []))
+    (map pos (2 ∷ 0 ∷ 0 ∷ 2 ∷ 2 ∷ 2 ∷ 0 ∷ 2 ∷ 0 ∷ 4 ∷ 0 ∷ 4 ∷ [])) 4
 
 abbrev records : List Instance
 records =
@@ -98,12 +103,14 @@ records =
     opens circle (hundreds 194) is (pos 0 ∷ pos 0 ∷ circleNet)
     ∷ opens twice (hundreds 194) is (pos 2 ∷ pos 5 ∷ hundreds 194)
     ∷ opens circle (hundreds 192) is (pos 11 ∷ pos 0 ∷ hundreds 192)
-    -- gadwemosh_field: number, start, length; field 5, field 2, one that is absent, and one of a refused record
+    -- gadwemosh_field: number, start, length; of field 5, of field 2, of one that is absent, of a refused
+    -- record
     ∷ field circle 5 is map pos (0 ∷ 70 ∷ 4 ∷ [])
     ∷ field circle 2 is map pos (0 ∷ 8 ∷ 8 ∷ [])
     ∷ field circle 4 is map pos (0 ∷ 74 ∷ 0 ∷ [])
     ∷ field twice 1 is map pos (2 ∷ 10 ∷ 0 ∷ [])
-    -- gadwemosh_text: number, length, buffer; a longer buffer, one as long as the text, and one that is shorter by one
+    -- gadwemosh_text: number, length, buffer; one longer than the text, one as long, and one shorter by a
+    -- byte
     ∷ writes twice (replicate 17 7) is (pos 0 ∷ pos 15 ∷ map pos (word "refused 2 at 5\n" ++ (7 ∷ 7 ∷ [])))
     ∷ writes twice (replicate 15 7) is (pos 0 ∷ pos 15 ∷ map pos (word "refused 2 at 5\n"))
     ∷ writes twice (replicate 14 7) is (pos 11 ∷ pos 0 ∷ map pos (replicate 14 7))
@@ -111,19 +118,23 @@ records =
 
 -- ---- nets
 
--- a triangular patch of degree 1, over r = (1, 0, 1), s = (0, 1, 1), t = (0, 0, 1)
+-- a triangular patch of degree 1, over r = (1, 0, 1), s = (0, 1, 1), t = (0, 0, 1); its entries at r, s and t
+abbrev facetEntries : List ℤ → List ℤ → List ℤ
+facetEntries atR atT = atR ++ (pos 5 ∷ minus 6 ∷ pos 7 ∷ pos 8 ∷ []) ++ atT
+
 abbrev facet : List ℤ
 facet =
     lentNet 2 1 0 (map pos (1 ∷ 0 ∷ 1 ∷ 0 ∷ 1 ∷ 1 ∷ 0 ∷ 0 ∷ 1 ∷ []))
-    (pos 1 ∷ pos 2 ∷ pos 3 ∷ pos 4 ∷ pos 5 ∷ minus 6 ∷ pos 7 ∷ pos 8 ∷ pos 9 ∷ pos 10 ∷ minus 11 ∷ pos 12 ∷ []) 12
+    (facetEntries (pos 1 ∷ pos 2 ∷ pos 3 ∷ pos 4 ∷ []) (pos 9 ∷ pos 10 ∷ minus 11 ∷ pos 12 ∷ [])) 12
 
 -- a rectangular patch of degrees 1 and 1
 abbrev tile : List ℤ
 tile =
     lentNet 3 1 1 (map pos (0 ∷ 1 ∷ 1 ∷ 1 ∷ 1 ∷ 2 ∷ 1 ∷ 1 ∷ []))
-    (pos 1 ∷ pos 0 ∷ pos 0 ∷ pos 1 ∷ pos 0 ∷ pos 1 ∷ pos 0 ∷ pos 1 ∷ pos 0 ∷ pos 0 ∷ pos 1 ∷ pos 1 ∷ pos 1 ∷ pos 1 ∷ pos 1 ∷ minus 1 ∷ []) 1
+    (map pos (1 ∷ 0 ∷ 0 ∷ 1 ∷ 0 ∷ 1 ∷ 0 ∷ 1 ∷ 0 ∷ 0 ∷ 1 ∷ 1 ∷ 1 ∷ 1 ∷ 1 ∷ []) ++ (minus 1 ∷ [])) 1
 
--- x = (Z₁² − T₁²) Z₂, y = 2 T₁Z₁ Z₂, z = (3 Z₁² + T₁²) T₂, w = (Z₁² + T₁²) Z₂, of degrees 2 and 1; what is not used is 100
+-- x = (Z₁² − T₁²) Z₂, y = 2 T₁Z₁ Z₂, z = (3 Z₁² + T₁²) T₂, w = (Z₁² + T₁²) Z₂, of degrees 2 and 1; what is
+-- not used is 100
 abbrev stripCoefficients : List ℤ
 stripCoefficients =
     map pos (1 ∷ 0 ∷ 0 ∷ 1 ∷ 0 ∷ 0 ∷ 3 ∷ 0 ∷ 0 ∷ 2 ∷ 0 ∷ 0 ∷ 0 ∷ 0 ∷ 0 ∷ 0 ∷ [])
@@ -138,21 +149,23 @@ nets =
     makes 3 2 1 (stripFrame ++ (pos 100 ∷ [])) stripCoefficients (hundreds 194)
     is (pos 0
     ∷ lentNet 3 2 1 stripFrame
-    (map pos (4 ∷ 0 ∷ 6 ∷ 4 ∷ 2 ∷ 0 ∷ 6 ∷ 2 ∷ 4 ∷ 4 ∷ 6 ∷ 4 ∷ 2 ∷ 2 ∷ 6 ∷ 2 ∷ 0 ∷ 8 ∷ 8 ∷ 8 ∷ 0 ∷ 4 ∷ 8 ∷ 4 ∷ [])) 8)
+    (map pos
+    (4 ∷ 0 ∷ 6 ∷ 4 ∷ 2 ∷ 0 ∷ 6 ∷ 2 ∷ 4 ∷ 4 ∷ 6 ∷ 4 ∷ 2 ∷ 2 ∷ 6 ∷ 2 ∷ 0 ∷ 8 ∷ 8 ∷ 8 ∷ 0 ∷ 4 ∷ 8 ∷ 4 ∷ [])) 8)
     ∷ makes 4 2 1 (stripFrame ++ (pos 100 ∷ [])) stripCoefficients (hundreds 194) is (pos 4 ∷ hundreds 194)
     ∷ makes 3 2 1 stripFrame stripCoefficients (hundreds 194) is (pos 11 ∷ hundreds 194)
     -- gadwemosh_move: number, net; t becomes 2 r + 3 s + 5 t, and r becomes -r
     ∷ moves facet 1 3 (pos 2) (pos 3) (pos 5) (pos 0)
     is (pos 0
     ∷ lentNet 2 1 0 (map pos (1 ∷ 0 ∷ 1 ∷ 0 ∷ 1 ∷ 1 ∷ 2 ∷ 3 ∷ 10 ∷ []))
-    (pos 1 ∷ pos 2 ∷ pos 3 ∷ pos 4 ∷ pos 5 ∷ minus 6 ∷ pos 7 ∷ pos 8 ∷ pos 62 ∷ pos 36 ∷ minus 28 ∷ pos 92 ∷ []) 92)
+    (facetEntries (pos 1 ∷ pos 2 ∷ pos 3 ∷ pos 4 ∷ []) (pos 62 ∷ pos 36 ∷ minus 28 ∷ pos 92 ∷ [])) 92)
     ∷ moves facet 2 1 (pos 0) (pos 0) (pos 0) (pos 0)
     is (pos 0
     ∷ lentNet 2 1 0 (minus 1 ∷ pos 0 ∷ minus 1 ∷ map pos (0 ∷ 1 ∷ 1 ∷ 0 ∷ 0 ∷ 1 ∷ []))
-    (minus 1 ∷ minus 2 ∷ minus 3 ∷ minus 4 ∷ pos 5 ∷ minus 6 ∷ pos 7 ∷ pos 8 ∷ pos 9 ∷ pos 10 ∷ minus 11 ∷ pos 12 ∷ []) 12)
+    (facetEntries (minus 1 ∷ minus 2 ∷ minus 3 ∷ minus 4 ∷ []) (pos 9 ∷ pos 10 ∷ minus 11 ∷ pos 12 ∷ [])) 12)
     ∷ moves facet 1 3 (pos 2) (pos 3) (pos 0) (pos 0) is (pos 9 ∷ facet)
     ∷ moves (hundreds 192) 1 3 (pos 2) (pos 3) (pos 5) (pos 0) is (pos 11 ∷ hundreds 192)
-    -- gadwemosh_point: number, x, y, z, w; with the weights 1, 2 of the first pair and 3, 5 of the second the entries count 3, 5, 6 and 10 times
+    -- gadwemosh_point: number, x, y, z, w; with 1, 2 for the first pair and 3, 5 for the second the four
+    -- entries are taken 3, 5, 6 and 10 times
     ∷ finds tile (pos 1) (pos 2) (pos 3) (pos 5) (hundreds 5) is map pos (0 ∷ 13 ∷ 15 ∷ 16 ∷ 4 ∷ 100 ∷ [])
     ∷ finds tile (pos 1) (pos 2) (pos 0) (pos 0) (hundreds 5) is (pos 9 ∷ hundreds 5)
     ∷ finds tile (pos 1) (pos 2) (pos 3) (pos 5) (hundreds 3) is (pos 11 ∷ hundreds 3)
@@ -164,20 +177,20 @@ abbrev projections : List Instance
 projections =
     -- GADWEMOSH_FINITE: 0.25, 0.5 and -0.75
     projects (pos 1) (pos 2) (minus 3) (pos 4) (7 ∷ 7 ∷ 7 ∷ 7 ∷ []) (hundreds 5)
-    is map pos (0 ∷ 1 ∷ 0x3fd0000000000000 ∷ 0x3fe0000000000000 ∷ 0xbfe8000000000000 ∷ 7 ∷ 100 ∷ 100 ∷ 100 ∷ 100 ∷ 100 ∷ [])
+    is (map pos (0 ∷ 1 ∷ 0x3fd0000000000000 ∷ 0x3fe0000000000000 ∷ 0xbfe8000000000000 ∷ 7 ∷ []) ++ hundreds 5)
     -- GADWEMOSH_DIRECTION: 2, -3 and 4 of length 5
     ∷ projects (pos 10) (minus 15) (pos 20) (pos 0) (7 ∷ 7 ∷ 7 ∷ 7 ∷ []) (hundreds 5)
     is (map pos (0 ∷ 2 ∷ 7 ∷ 7 ∷ 7 ∷ 7 ∷ 2 ∷ []) ++ (minus 3 ∷ map pos (4 ∷ 5 ∷ 100 ∷ [])))
     -- GADWEMOSH_NOWHERE
     ∷ projects (pos 0) (pos 0) (pos 0) (pos 0) (7 ∷ 7 ∷ 7 ∷ 7 ∷ []) (hundreds 5)
-    is map pos (0 ∷ 3 ∷ 7 ∷ 7 ∷ 7 ∷ 7 ∷ 100 ∷ 100 ∷ 100 ∷ 100 ∷ 100 ∷ [])
+    is (map pos (0 ∷ 3 ∷ 7 ∷ 7 ∷ 7 ∷ 7 ∷ []) ++ hundreds 5)
     -- GADWEMOSH_REFUSED_RANGE, and GADWEMOSH_REFUSED_SHORT, which goes first
     ∷ projects (pos 0) (pos 0) (pos 0) (pos 281474976710657) (7 ∷ 7 ∷ 7 ∷ []) (hundreds 4)
-    is map pos (10 ∷ 0 ∷ 7 ∷ 7 ∷ 7 ∷ 100 ∷ 100 ∷ 100 ∷ 100 ∷ [])
+    is (map pos (10 ∷ 0 ∷ 7 ∷ 7 ∷ 7 ∷ []) ++ hundreds 4)
     ∷ projects (pos 0) (pos 0) (pos 0) (pos 281474976710657) (7 ∷ 7 ∷ []) (hundreds 4)
-    is map pos (11 ∷ 0 ∷ 7 ∷ 7 ∷ 100 ∷ 100 ∷ 100 ∷ 100 ∷ [])
+    is (map pos (11 ∷ 0 ∷ 7 ∷ 7 ∷ []) ++ hundreds 4)
     ∷ projects (pos 1) (pos 2) (minus 3) (pos 4) (7 ∷ 7 ∷ 7 ∷ []) (hundreds 3)
-    is map pos (11 ∷ 0 ∷ 7 ∷ 7 ∷ 7 ∷ 100 ∷ 100 ∷ 100 ∷ [])
+    is (map pos (11 ∷ 0 ∷ 7 ∷ 7 ∷ 7 ∷ []) ++ hundreds 3)
     ∷ []
 
 abbrev pub instances : List Instance

@@ -2,6 +2,7 @@
 // library's own. A net is lent as 193 numbers or more, as specs/Lent.antt of the crate machine lays them
 // out. specs/Demand3.antt carries demand 3 to these functions.
 mod answers;
+mod positions;
 
 ghost use mathlib.Core.Path.{_≡_};
 ghost use mathlib.Core.List.{[]};
@@ -32,8 +33,8 @@ use text::write_text;
 // The number of a buffer that has too few places.
 const SHORT: u8 = 11;
 
-// Opens a record: its first net goes into the lent places, or nothing does, and the offset of the
-// refusal is told.
+// Opens a record: its first net goes into the lent places, or nothing does, and `offset` is that of the
+// refusal.
 #[no_mangle]
 pub extern "C" fn gadwemosh_open(input: &[u8], net: &mut [i64], offset: &mut u64) -> u8
     ensures number { λ b. ⌜ b ≡ openedIn (now (input .entry)) (now (net .entry)) .refusal .number ⌝ }

@@ -14,9 +14,11 @@ use Rattle.projection.specs.Projection.{projectionOf}
 use Rattle.projection.specs.declared.Projection.{Projection}
 use Rattle.entries.proofs.ListedOver.{length-listed-over}
 use Rattle.machine.specs.Refusals.{_else_, firstFailed, allPass}
-use Rattle.machine.specs.Steps.{Answer, Found, Refused, refusalNumber, pointValues, foundAt, Step, stepBy, after, answers}
+use Rattle.machine.specs.Steps.{Answer, Found, Refused, refusalNumber, pointValues, foundAt, Step}
+use Rattle.machine.specs.Steps.{stepBy, after, answers}
 use Rattle.machine.specs.Nets.{Net, netGroups, netTests, accepted, stepOf}
-use Rattle.machine.specs.Comparison.{Polynomials, groups, machineBefore, machineTests, machineAccepted, machineStep, netOver}
+use Rattle.machine.specs.Comparison.{Polynomials, groups, machineBefore, machineTests, machineAccepted}
+use Rattle.machine.specs.Comparison.{machineStep, netOver}
 use Rattle.integers.proofs.All.{clash}
 use Rattle.polar.specs.Groups.{Group}
 use Rattle.entries.specs.Entries.{numberCount}
@@ -25,9 +27,10 @@ use Rattle.kinds.specs.Frames.{Frames, frameCount, framesOf, numbersOf}
 use Rattle.kinds.proofs.Counts.{frame-few}
 use Rattle.kinds.proofs.Frames.{numbers-back}
 use Rattle.machine.specs.First.{firstNet, firstTests, firstRefusal}
-use Rattle.machine.specs.Demand3.{Beyond, framesReached}
+use Rattle.machine.specs.Demand3.{Beyond}
 use Rattle.machine.specs.Lent.{netAt, putAt, putNet, enoughPlaces, unlessRefused, polynomialsFrom, madeNumber, madePlaces, room, callNumber, callPlaces, callFound}
-use Rattle.machine.specs.Carried.{LentCall, Returned, answerBy, lentStep, expected, netPlaces, otherPlaces, FirstNetIn, SameNet, lentFrames, LentGuaranteed, Demand3Lent}
+use Rattle.machine.specs.Carried.{LentCall, Returned, answerBy, lentStep, expected, netPlaces}
+use Rattle.machine.specs.Carried.{otherPlaces, FirstNetIn, SameNet, lentFrames, LentGuaranteed, Demand3Lent}
 use Rattle.machine.specs.declared.Call.{Call}
 use Rattle.machine.specs.declared.Call.the-variants as call
 use Rattle.machine.proofs.Refusals.{none-failed, row-passes, rest-passes}
@@ -198,8 +201,9 @@ unfolding stepBy
 step-number net c zero = accepted-number net c
 step-number net c (suc k) = refl
 
-lent-sized : (f : Polynomials) (frames : Frames) (lent : List ℤ) → Stands f frames lent → (c : LentCall) → room (c .call) (c .found) ≡ true
-    → allPass (machineBefore f frames (c .call)) ≡ true → (callNumber (c .call) lent (c .found) ≡ 10) ↔ Beyond f frames (c .call)
+lent-sized : (f : Polynomials) (frames : Frames) (lent : List ℤ) → Stands f frames lent → (c : LentCall)
+    → room (c .call) (c .found) ≡ true → allPass (machineBefore f frames (c .call)) ≡ true
+    → (callNumber (c .call) lent (c .found) ≡ 10) ↔ Beyond f frames (c .call)
 unfolding stepOf stepBy
 lent-sized f frames lent here c h order =
     let net = netOver f frames in
@@ -213,19 +217,25 @@ lent-sized f frames lent here c h order =
 
 -- ---- the places of a net
 
--- kind, degrees and numbers of a net, in the order of its places
-abbrev netNumbers : Net → List ℤ
-netNumbers net = pos (net .kind) ∷ pos (net .degree) ∷ pos (net .second) ∷ (numbersOf (net .frames) ++ (net .entries ++ (net .largest ∷ [])))
+-- the places by the groups, and a net's numbers in their order
+abbrev placesOver : List Group → List ℤ → List ℤ
+placesOver gs lent =
+    take (3 + frameCount gs) lent ++ (slice 12 (12 + numberCount gs) lent ++ slice 192 193 lent)
 
--- they stand in the places of the net that is read there
-read-numbers : (lent : List ℤ) → enoughPlaces lent ≡ true → known (netAt lent .kind) (netAt lent .degree) (netAt lent .second) ≡ true
-    → let gs = netGroups (netAt lent) in
-    take (3 + frameCount gs) lent ++ (slice 12 (12 + numberCount gs) lent ++ slice 192 193 lent) ≡ netNumbers (netAt lent)
+abbrev headOf : Net → List ℤ
+headOf net = pos (net .kind) ∷ pos (net .degree) ∷ pos (net .second) ∷ []
+
+abbrev numbersOfNet : Net → List ℤ
+numbersOfNet net = headOf net ++ (numbersOf (net .frames) ++ (net .entries ++ (net .largest ∷ [])))
+
+-- the net that is read has the numbers of its places
+read-numbers : (lent : List ℤ) → enoughPlaces lent ≡ true
+    → known (netAt lent .kind) (netAt lent .degree) (netAt lent .second) ≡ true
+    → placesOver (netGroups (netAt lent)) lent ≡ numbersOfNet (netAt lent)
 unfolding netAt
 read-numbers lent enough right =
-    ap₂ _++_ (take-add 3 (frameCount gs) lent ∙ ap₂ _++_ (sym (head-stood lent enough right)) (sym (numbers-back gs (drop 3 lent) frame-there)))
-    (ap₂ _++_ entries-there (slice-cons 192 193 lent (pos 0) (lit≤ tt) long ∙ ap (λ l. getD lent 192 (pos 0) ∷ l) (slice-empty 193 lent)))
-    ∙ append-assoc (pos (net .kind) ∷ pos (net .degree) ∷ pos (net .second) ∷ []) (numbersOf (net .frames)) (net .entries ++ (net .largest ∷ []))
+    ap₂ _++_ frame-read (ap₂ _++_ entries-read largest-read)
+    ∙ append-assoc (headOf net) (numbersOf (net .frames)) (net .entries ++ (net .largest ∷ []))
   where
     net : Net
     net = netAt lent
@@ -237,28 +247,49 @@ read-numbers lent enough right =
     long = leb-true 193 (length lent) enough
 
     frame-there : frameCount gs ≤ length (drop 3 lent)
-    frame-there = let few = frame-few (net .kind) (net .degree) (net .second) in let l = long in simp length-drop (omega arith)
+    frame-there =
+        let few = frame-few (net .kind) (net .degree) (net .second) in
+        let l = long in
+        simp length-drop (omega arith)
 
-    entries-there : slice 12 (12 + numberCount gs) lent ≡ take (numberCount gs) (drop 12 lent)
-    entries-there = drop-take 12 (12 + numberCount gs) lent ∙ ap (λ k. take k (drop 12 lent)) (past (numberCount gs))
+    frame-read : take (3 + frameCount gs) lent ≡ headOf net ++ numbersOf (net .frames)
+    frame-read =
+        take-add 3 (frameCount gs) lent
+        ∙ ap₂ _++_ (sym (head-stood lent enough right)) (sym (numbers-back gs (drop 3 lent) frame-there))
+
+    entries-read : slice 12 (12 + numberCount gs) lent ≡ take (numberCount gs) (drop 12 lent)
+    entries-read =
+        drop-take 12 (12 + numberCount gs) lent ∙ ap (λ k. take k (drop 12 lent)) (past (numberCount gs))
       where
         past : (n : ℕ) → 12 + n - 12 ≡ n
         past n = omega arith
 
--- and of the net over frames, where that stands
-stands-numbers : (f : Polynomials) (frames : Frames) (lent : List ℤ) → Stands f frames lent → netPlaces f lent ≡ netNumbers (netOver f frames)
+    largest-read : slice 192 193 lent ≡ getD lent 192 (pos 0) ∷ []
+    largest-read =
+        slice-cons 192 193 lent (pos 0) (lit≤ tt) long
+        ∙ ap (λ l. getD lent 192 (pos 0) ∷ l) (slice-empty 193 lent)
+
+-- so has the net over frames, where that stands
+stands-numbers : (f : Polynomials) (frames : Frames) (lent : List ℤ) → Stands f frames lent
+    → netPlaces f lent ≡ numbersOfNet (netOver f frames)
 unfolding netOver
 stands-numbers f frames lent here =
-    let right = subst (λ net. known (net .kind) (net .degree) (net .second) ≡ true) (sym (here .net)) (here .reached .right) in
-    subst (λ net. take (3 + frameCount (netGroups net)) lent ++ (slice 12 (12 + numberCount (netGroups net)) lent ++ slice 192 193 lent) ≡ netNumbers net) (here .net)
+    subst (λ net. placesOver (netGroups net) lent ≡ numbersOfNet net) (here .net)
     (read-numbers lent (here .enough) right)
+  where
+    right : known (netAt lent .kind) (netAt lent .degree) (netAt lent .second) ≡ true
+    right =
+        subst (λ net. known (net .kind) (net .degree) (net .second) ≡ true) (sym (here .net))
+        (here .reached .right)
 
-same-net : (f : Polynomials) (frames : Frames) (one two : List ℤ) → Stands f frames one → Stands f frames two → SameNet f one two
+same-net : (f : Polynomials) (frames : Frames) (one two : List ℤ) → Stands f frames one → Stands f frames two
+    → SameNet f one two
 same-net f frames one two here there =
     record {
       nets = here .net ∙ sym (there .net);
       places = stands-numbers f frames one here ∙ sym (stands-numbers f frames two there);
-      further = λ more. along f frames one here more .returned ∙ sym (along f frames two there more .returned);
+      further = λ more.
+          along f frames one here more .returned ∙ sym (along f frames two there more .returned);
     }
 
 -- ---- the theorem
@@ -268,35 +299,47 @@ module _ (f : Polynomials) (numbers lent places : List ℤ) (first : FirstNetIn 
   abbrev start : Frames
   start = framesOf (groups f) numbers
 
+  reached : Reached f start
+  reached = start-reached f numbers (first .accepted)
+
   start-stands : Stands f start places
-  start-stands = subst (λ l. Stands f start l) (sym (first .written)) (put-stands f start lent (first .enough) (start-reached f numbers (first .accepted)))
+  start-stands =
+      subst (λ l. Stands f start l) (sym (first .written)) (put-stands f start lent (first .enough) reached)
 
   start-kept : otherPlaces f places ≡ otherPlaces f lent
-  start-kept = ap (otherPlaces f) (first .written) ∙ put-kept f start lent (first .enough) (start-reached f numbers (first .accepted))
+  start-kept = ap (otherPlaces f) (first .written) ∙ put-kept f start lent (first .enough) reached
 
   all : (calls : List LentCall) → Along f start places calls
   all = along f start places start-stands
 
   -- what comes back from a further call
-  pub carried-further : (calls : List LentCall) (c : LentCall) → lentStep (after lentStep places calls) c .answer ≡ expected c (machineStep f (lentFrames f numbers calls) (c .call) .answer)
-  carried-further calls c = done f (lentFrames f numbers calls) (after lentStep places calls) (all calls .stands) c .returned
+  pub carried-further : (calls : List LentCall) (c : LentCall)
+      → lentStep (after lentStep places calls) c .answer
+      ≡ expected c (machineStep f (lentFrames f numbers calls) (c .call) .answer)
+  carried-further calls c =
+      done f (lentFrames f numbers calls) (after lentStep places calls) (all calls .stands) c .returned
 
-pub carried : (f : Polynomials) (numbers lent places : List ℤ) → FirstNetIn f numbers lent places → (calls : List LentCall) → LentGuaranteed f numbers lent places calls
+pub carried : (f : Polynomials) (numbers lent places : List ℤ) → FirstNetIn f numbers lent places
+    → (calls : List LentCall) → LentGuaranteed f numbers lent places calls
 carried f numbers lent places first calls =
     let here = all f numbers lent places first calls in
     record {
       net = here .stands .net;
       returned = here .returned;
       sized = lent-sized f (lentFrames f numbers calls) (after lentStep places calls) (here .stands);
-      same = λ theirNumbers theirLent theirPlaces theirs theirCalls reached.
+      same = λ theirNumbers theirLent theirPlaces theirs theirCalls is.
           let there = all f theirNumbers theirLent theirPlaces theirs theirCalls in
-          same-net f (lentFrames f numbers calls) _ _ (subst (λ frames. Stands f frames (after lentStep theirPlaces theirCalls)) reached (there .stands)) (here .stands);
+          same-net f (lentFrames f numbers calls) _ _
+          (subst (λ frames. Stands f frames (after lentStep theirPlaces theirCalls)) is (there .stands))
+          (here .stands);
       kept = here .kept ∙ start-kept f numbers lent places first;
     }
 
 -- a first net that was made stands in the places
-pub made-first : (kind degree second : ℕ) (frame coefficients lent : List ℤ) → madeNumber kind degree second frame coefficients lent ≡ 0
-    → FirstNetIn (polynomialsFrom kind degree second coefficients) (take 9 frame) lent (madePlaces kind degree second frame coefficients lent)
+pub made-first : (kind degree second : ℕ) (frame coefficients lent : List ℤ)
+    → madeNumber kind degree second frame coefficients lent ≡ 0
+    → FirstNetIn (polynomialsFrom kind degree second coefficients) (take 9 frame) lent
+    (madePlaces kind degree second frame coefficients lent)
 unfolding madeNumber madePlaces firstRefusal firstTests
 made-first kind degree second frame coefficients lent ok =
     let f = polynomialsFrom kind degree second coefficients in
@@ -311,5 +354,6 @@ made-first kind degree second frame coefficients lent ok =
 
 pub demand-3-lent : Demand3Lent
 demand-3-lent kind degree second frame coefficients lent ok =
-    carried (polynomialsFrom kind degree second coefficients) (take 9 frame) lent (madePlaces kind degree second frame coefficients lent)
+    carried (polynomialsFrom kind degree second coefficients) (take 9 frame) lent
+    (madePlaces kind degree second frame coefficients lent)
     (made-first kind degree second frame coefficients lent ok)

@@ -14,7 +14,8 @@ use Rattle.machine.specs.Comparison.{Polynomials, groups, netOver, machi
 use Rattle.machine.specs.First.{firstNet, firstRefusal}
 use Rattle.kinds.specs.Frames.{Frames, frameCount, framesOf}
 use Rattle.machine.specs.Demand3.{Beyond, framesReached}
-use Rattle.machine.specs.Lent.{netAt, putAt, putNet, enoughPlaces, polynomialsFrom, madeNumber, madePlaces, room, callNumber, callPlaces, callFound}
+use Rattle.machine.specs.Lent.{netAt, putAt, putNet, enoughPlaces, polynomialsFrom, madeNumber}
+use Rattle.machine.specs.Lent.{madePlaces, room, callNumber, callPlaces, callFound}
 use Rattle.machine.specs.declared.Call.{Call}
 use Rattle.machine.specs.declared.Call.the-variants.{Move, Point}
 
@@ -53,14 +54,15 @@ expected c answer =
 -- the places of a net: kind, degrees, the frame's numbers, the entries, and the largest component
 abbrev pub netPlaces : Polynomials → List ℤ → List ℤ
 netPlaces f lent =
-    take (3 + frameCount (groups f)) lent ++ (slice 12 (12 + numberCount (groups f)) lent ++ slice 192 193 lent)
+    take (3 + frameCount (groups f)) lent
+    ++ (slice 12 (12 + numberCount (groups f)) lent ++ slice 192 193 lent)
 
 -- the places that are not a net's: those of the nine past the frame's numbers, those past the entries, and the caller's
 abbrev pub otherPlaces : Polynomials → List ℤ → List ℤ
 otherPlaces f lent = slice (3 + frameCount (groups f)) 12 lent ++ (slice (12 + numberCount (groups f)) 192 lent ++ drop 193 lent)
 
--- in the places stands the first net of f over the numbers' frames, which were accepted; `lent` is what stood there
--- before
+-- in the places stands the first net of f over the numbers' frames, which were accepted; `lent` is what stood
+-- there before
 pub record FirstNetIn (f : Polynomials) (numbers lent places : List ℤ) : Type 0 where
   pub accepted : firstRefusal f numbers ≡ 0
   pub enough : enoughPlaces lent ≡ true
@@ -84,14 +86,14 @@ pub record LentGuaranteed (f : Polynomials) (numbers lent places : List ℤ) (ca
   pub net : netAt (after lentStep places calls) ≡ netOver f (lentFrames f numbers calls)
   -- what came back from every call is the comparison machine's answer: its number, its point, and the point's projection
   pub returned : answers lentStep places calls ≡ zipWith expected calls (answers (machineStep f) (framesOf (groups f) numbers) (map (λ c. c .call) calls))
-  -- a further move or point that is otherwise in order, a point with room for its numbers, is answered with 10
-  -- exactly when one of its named polar values has a component beyond 2 to the 48th
+  -- a further move or point that is otherwise in order, a point with room for its numbers, is answered with
+  -- 10 exactly when one of its named polar values has a component beyond 2 to the 48th
   pub sized : (c : LentCall) → room (c .call) (c .found) ≡ true
       → allPass (machineBefore f (lentFrames f numbers calls) (c .call)) ≡ true
       → (callNumber (c .call) (after lentStep places calls) (c .found) ≡ 10)
       ↔ Beyond f (lentFrames f numbers calls) (c .call)
-  -- another list that reaches the same frames leaves the same net, on these places or on another caller's, where a
-  -- first net of f stood over whatever frames
+  -- another list that reaches the same frames leaves the same net, on these places or on another caller's,
+  -- where a first net of f stood over whatever frames
   pub same : (theirNumbers theirLent theirPlaces : List ℤ) → FirstNetIn f theirNumbers theirLent theirPlaces
       → (theirCalls : List LentCall) → lentFrames f theirNumbers theirCalls ≡ lentFrames f numbers calls
       → SameNet f (after lentStep theirPlaces theirCalls) (after lentStep places calls)

@@ -1,5 +1,6 @@
--- Exact conversions: lib.Ieee says of a float its sign and its size, which is the number's (`converted`), and a finite
--- answer has all four numbers in range and a weight that is not 0, so that its coordinates are the rounded quotients.
+-- Exact conversions: sign and size of the float, of which lib.Ieee speaks, are the number's (`converted`). A
+-- finite answer has four numbers in range and a weight that is not 0, so its coordinates are the rounded
+-- quotients.
 use Prim.Native.Nat.{ℕ, _*_, _≤_}
 use native.Mathlib.Nat.{mul-one}
 use native.Mathlib.Omega.{arith}
@@ -10,7 +11,8 @@ use lib.Ieee.{Float, nan, inf, fin, binary64, up, down, unlike, round, ofInt, di
 use lib.Ieee.Exact.{HasValue}
 use Rattle.integers.proofs.Laws.{*ℤ-negl}
 use Rattle.projection.specs.Conversion.{Exactly, DividedOnce, ExactlyConverted}
-use Rattle.projection.specs.Projection.{limit, allInRange, isZero, allZero, isNegative, negatedIf, positiveZero, quotientOf, coordsOf, projectionBy, projectionOf}
+use Rattle.projection.specs.Projection.{limit, allInRange, isZero, allZero, isNegative, negatedIf}
+use Rattle.projection.specs.Projection.{positiveZero, quotientOf, coordsOf, projectionBy, projectionOf}
 use Rattle.projection.specs.declared.Coords.{Coords}
 use Rattle.projection.specs.declared.Projection.the-variants.{Finite}
 use Rattle.projection.proofs.Finite.{converted, rounded-quotient, zero-quotient}
@@ -36,12 +38,19 @@ module _ (v w : ℤ) (h : natAbs v ≤ limit) (k : natAbs w ≤ limit) (q : isZe
   divided = refl
 
   rounded : (b : Bool) → isZero v ≡ b
-      → quotientOf v w ≡ cond b positiveZero (round binary64 (unlike (isNegative v) (isNegative w)) (natAbs v) (natAbs w))
+      → quotientOf v w
+      ≡ cond b positiveZero (round binary64 (unlike (isNegative v) (isNegative w)) (natAbs v) (natAbs w))
   rounded true e = zero-quotient v w e
   rounded false e = rounded-quotient v w h k e q
 
   once : DividedOnce v w (quotientOf v w)
-  once = record { numerator = whole v h; divisor = whole w k; divided = divided; rounded = rounded (isZero v) refl }
+  once =
+      record {
+        numerator = whole v h;
+        divisor = whole w k;
+        divided = divided;
+        rounded = rounded (isZero v) refl;
+      }
 
 -- the three of a finite point
 abbrev Coordinates : ℤ → ℤ → ℤ → ℤ → Coords → Type 0
@@ -54,7 +63,8 @@ coordinates x y z w p = by (allInRange x y z w) (isZero w) (allZero x y z) refl 
     never : {A : Type 0} → _≡_ {A = ℕ} 0 1 → A
     never e = absurd (omega arith)
 
-    by : (a b c : Bool) → allInRange x y z w ≡ a → isZero w ≡ b → projectionBy a b c x y z w ≡ Finite p → Coordinates x y z w p
+    by : (a b c : Bool) → allInRange x y z w ≡ a → isZero w ≡ b → projectionBy a b c x y z w ≡ Finite p
+        → Coordinates x y z w p
     by false b c e f is = never (cc)
     by true true true e f is = never (cc)
     by true true false e f is = never (cc)
