@@ -1,7 +1,7 @@
--- What comes back from the seven exported functions in single instances, as one table. Nothing else says what
--- include/gadwemosh.h says: which of its arguments a function takes for which, which number a case has, and
--- into which place a number goes. With two of them exchanged something else comes back. proofs/Samples.antt
--- proves every row.
+-- What comes back from the seven exported functions in single instances, as one table. Definition and code
+-- could exchange two arguments, two outcomes or two places together: include/gadwemosh.h says which is which,
+-- and these rows hold it, as with two of them exchanged something else comes back. In which order the
+-- arguments are handed over, the contracts of src/positions.rt say.
 use Prim.Native.Nat.{ℕ, _-_}
 use mathlib.Core.List.{List, [], _∷_, _++_, map}
 use lib.IntN.{ℤ, pos, negℤ}

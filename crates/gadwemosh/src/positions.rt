@@ -1,6 +1,7 @@
-// The exported functions called by position, as a caller in C calls them. Nobody calls these: they are here for
-// their contracts, in which the arguments stand in the order of include/gadwemosh.h. The contract of an exported
-// function names its arguments, and so does not say in which order they are handed over.
+// The exported functions called by position, as a caller in C calls them. Nobody calls these: they are here
+// for their contracts, in which the arguments stand in the order of include/gadwemosh.h. The contract of an
+// exported function names its arguments, and so does not say in which order they are handed over. Those of
+// gadwemosh_open and gadwemosh_text differ in their types.
 ghost use mathlib.Core.Path.{_≡_};
 ghost use mathlib.Core.List.{[]};
 ghost use Rattle.projection.specs.Projection.{projectionOf};
@@ -39,16 +40,8 @@ fn point_at(net: &[i64], a: i64, b: i64, c: i64, d: i64, found: &mut [i64]) -> u
     gadwemosh_point(net, a, b, c, d, found)
 }
 
-fn project_at(
-    a: i64,
-    b: i64,
-    c: i64,
-    d: i64,
-    outcome: &mut u8,
-    bits: &mut [u64],
-    direction: &mut [i64],
-) -> u8
-    ensures { λ n. ⌜ n ≡ projectionReturned (projectionOf a b c d) (now (bits .entry)) (now (direction .entry)) .number ⌝ }
+fn project_at(a: i64, b: i64, c: i64, d: i64, outcome: &mut u8, e: &mut [u64], f: &mut [i64]) -> u8
+    ensures { λ n. ⌜ n ≡ projectionReturned (projectionOf a b c d) (now (e .entry)) (now (f .entry)) .number ⌝ }
 {
-    gadwemosh_project(a, b, c, d, outcome, bits, direction)
+    gadwemosh_project(a, b, c, d, outcome, e, f)
 }

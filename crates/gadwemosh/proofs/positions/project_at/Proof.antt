@@ -13,7 +13,7 @@ returns c =
     let s = m .before .before .before .before .before in
     let a = s .args in
     m .gadwemosh-project .ensures .0
-    ∙ ap (λ p. projectionReturned p (a .bits .now) (a .direction .now) .number)
+    ∙ ap (λ p. projectionReturned p (a .e .now) (a .f .now) .number)
     (at-four projectionOf (a .a) (a .b) (a .c) (a .d) (s .fits .a) (s .fits .b) (s .fits .c) (s .fits .d))
 
 pub project-at-spec : {M : Type 1} → statement M
