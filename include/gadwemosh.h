@@ -12,9 +12,11 @@
  *
  * ANSWERS. Every function takes any numbers and any bytes, and answers with a number: 0 where nothing is
  * refused, or the cause (GADWEMOSH_REFUSED_..., below). A refused call changes no net and writes no point,
- * no projection and no text. What each function answers and writes is proved for all inputs; the definitions
- * are in crates/machine/specs/Lent.antt, for records in crates/opening/specs/Opening.antt, for projections in
- * crates/gadwemosh/specs/Projections.antt and for the text in crates/text/specs/Text.antt.
+ * no projection and no text. The single numbers that go with an answer, `offset`, `start`, `length` and
+ * `outcome`, are written with every answer, a refusal too. What each function answers and writes is proved
+ * for all inputs; the definitions are in crates/machine/specs/Lent.antt, for records in
+ * crates/opening/specs/Opening.antt, for projections in crates/gadwemosh/specs/Projections.antt and for the
+ * text in crates/text/specs/Text.antt. crates/gadwemosh/specs/Samples.antt has instances of each function.
  *
  * BUFFERS. A buffer is a pointer with the number of its elements; the other pointers lead to one number
  * each. What the proof takes for granted, the caller sees to: no pointer is null (a buffer of length 0 needs

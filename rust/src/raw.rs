@@ -2,8 +2,9 @@
 //!
 //! Each takes the buffers as they are, of any length and with any numbers, and answers with a number: 0
 //! where nothing is refused, or the number of a refusal ([`Refused`](crate::Refused) names them). A call
-//! that is refused leaves the lent net, point, bits, direction or text as it was. `include/gadwemosh.h`
-//! says what stands where in a net, and more of each function.
+//! that is refused leaves the lent net, point, bits, direction or text as it was; the single numbers that
+//! go with an answer, `offset`, `start`, `length` and `outcome`, are set with every answer.
+//! `include/gadwemosh.h` says what stands where in a net, and more of each function.
 //!
 //! All of them are safe to call. A slice brings its own length, its pointer is never null, and what is
 //! lent to be written is lent to nobody else: that is all that the library takes for granted.

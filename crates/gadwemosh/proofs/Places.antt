@@ -1,4 +1,5 @@
--- Weights read back from their bits, and what comes back from a projection in each case of the code's tests of room.
+-- Calls whose weights are read back from their bits, and what comes back from a projection in each case of
+-- the code's tests of room.
 use Prim.Native.Nat.{ℕ, _≤_, _<_}
 use mathlib.Core.Path.{_≡_, sym, ap, ap₂, subst, _∙_}
 use mathlib.Core.Bool.{Bool, true, false, cond, _&&_}
@@ -11,12 +12,18 @@ use mir.Syntax.{w64}
 use mir.Val.{SFits}
 use Rattle.integers.proofs.Signed.{seen, back-fits}
 use Rattle.projection.specs.declared.Projection.{Projection}
-use Rattle.gadwemosh.specs.Calls.{fourWeights}
+use Rattle.gadwemosh.specs.Calls.{moveCall, pointCall}
 use Rattle.gadwemosh.specs.Projections.{ProjectionReturned, projectionWithRoom, projectionWithoutRoom, projectionReturned}
 
--- four weights as they are handed on
-pub weights-back : {r s t u : ℤ} → SFits w64 r → SFits w64 s → SFits w64 t → SFits w64 u → fourWeights (seen r) (seen s) (seen t) (seen u) ≡ fourWeights r s t u
-weights-back r s t u = λ i. fourWeights (back-fits r i) (back-fits s i) (back-fits t i) (back-fits u i)
+-- a call with its weights as they are handed on
+module _ {r s t u : ℤ} (fr : SFits w64 r) (fs : SFits w64 s) (ft : SFits w64 t) (fu : SFits w64 u) where
+  pub move-back : (operation vertex : ℕ)
+      → moveCall operation vertex (seen r) (seen s) (seen t) (seen u) ≡ moveCall operation vertex r s t u
+  move-back operation vertex =
+      λ i. moveCall operation vertex (back-fits fr i) (back-fits fs i) (back-fits ft i) (back-fits fu i)
+
+  pub point-back : pointCall (seen r) (seen s) (seen t) (seen u) ≡ pointCall r s t u
+  point-back = λ i. pointCall (back-fits fr i) (back-fits fs i) (back-fits ft i) (back-fits fu i)
 
 -- ---- what comes back from a projection
 
@@ -28,11 +35,11 @@ pub clauses : (r must : ProjectionReturned) → r ≡ must → Projects (r .numb
 clauses r must e = (ap (λ x. x .number) e, (ap (λ x. x .outcome) e, (ap (λ x. x .bits) e, ap (λ x. x .direction) e)))
 
 -- a projection q whose case is p
-pub case-told : {p q : Projection} (bits : List ℕ) (direction : List ℤ) (r : ProjectionReturned) → q ≡ p → r ≡ projectionWithRoom p bits direction
+pub case-returned : {p q : Projection} (bits : List ℕ) (direction : List ℤ) (r : ProjectionReturned) → q ≡ p → r ≡ projectionWithRoom p bits direction
     → Projects (r .number) (r .outcome) (r .bits) (r .direction) (projectionWithRoom q bits direction)
-case-told bits direction r is e = clauses r _ (e ∙ sym (ap (λ p. projectionWithRoom p bits direction) is))
+case-returned bits direction r is e = clauses r _ (e ∙ sym (ap (λ p. projectionWithRoom p bits direction) is))
 
--- clauses about what is told are clauses about what equals it
+-- clauses about what comes back are clauses about what equals it
 pub clauses-of : {number outcome : ℕ} {bits : List ℕ} {direction : List ℤ} {r must : ProjectionReturned} → r ≡ must
     → Projects number outcome bits direction r → Projects number outcome bits direction must
 clauses-of {number} {outcome} {bits} {direction} e = subst (λ x. Projects number outcome bits direction x) e

@@ -1,4 +1,5 @@
--- A projection told to callers who have no enum: a number of the table or 0, which case it is, and its values in places that the caller lends.
+-- A projection for callers who have no enum: a number of the table or 0, which case it is, and its values in
+-- places that the caller lends.
 use Prim.Native.Nat.{ℕ}
 use mathlib.Core.Bool.{_&&_, cond}
 use mathlib.Core.List.{List}
@@ -10,14 +11,16 @@ use Rattle.projection.specs.declared.Projection.{Projection}
 use Rattle.projection.specs.declared.Projection.the-variants.{Finite, Direction, Nowhere, OutOfRange}
 use Rattle.machine.specs.Lent.{putAt}
 
--- the case, 'a finite point', 'a direction' or 'nowhere'; 0 where the four numbers are refused
+-- the outcome, a number for the case, as include/gadwemosh.h has it: 1 'a finite point', 2 'a direction',
+-- 3 'nowhere'; 0 where the four numbers are refused
 abbrev pub outcomeOf : Projection → ℕ
 outcomeOf (Finite p) = 1
 outcomeOf (Direction d) = 2
 outcomeOf Nowhere = 3
 outcomeOf OutOfRange = 0
 
--- what comes back: the number of the refusal or 0, the case, and what then stands in the places lent for bit patterns and for a direction
+-- what comes back: the number of the refusal or 0, the outcome, and what then stands in the places lent for
+-- bit patterns and for a direction
 pub record ProjectionReturned : Type 0 where
   pub number : ℕ
   pub outcome : ℕ
@@ -34,7 +37,8 @@ projectionWithRoom p bits direction =
       direction = putAt 0 (directionNumbers p) direction;
     }
 
--- 'output buffer shorter', than 3 places for bit patterns or 4 for a direction: 11, and no place is written
+-- 'output buffer shorter', than 3 places for bit patterns or 4 for a direction: 11, and no place is written;
+-- the outcome, which is no place of a buffer, is 0 beside it as beside 10
 abbrev pub projectionWithoutRoom : List ℕ → List ℤ → ProjectionReturned
 projectionWithoutRoom bits direction = record { number = 11; outcome = 0; bits = bits; direction = direction }
 

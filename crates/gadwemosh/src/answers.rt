@@ -1,4 +1,4 @@
-// Projections told to callers who have no enum: the number, the case, and the values in lent places.
+// Projections for callers who have no enum: the number, the outcome, and the values in lent places.
 ghost use mathlib.Core.Path.{_≡_};
 ghost use Prim.Native.Nat.{_≤_};
 ghost use mathlib.Core.List.{[], _∷_};
@@ -32,7 +32,7 @@ fn put_direction(direction: &mut [i64], x: i64, y: i64, z: i64, divisor: i64)
     direction[3] = divisor;
 }
 
-// The number of a projection, with its case, and its bit patterns or its direction, put into their places.
+// The number of a projection, its outcome, and its bit patterns or its direction, put into their places.
 pub(crate) fn write_projection(
     outcome: &mut u8,
     patterns: &mut [u64],

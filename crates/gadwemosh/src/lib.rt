@@ -2,6 +2,7 @@
 // library's own. A net is lent as 193 numbers or more, as specs/Lent.antt of the crate machine lays them
 // out. specs/Demand3.antt carries demand 3 to these functions.
 mod answers;
+mod positions;
 
 ghost use mathlib.Core.Path.{_≡_};
 ghost use mathlib.Core.List.{[]};
@@ -29,8 +30,11 @@ use records::extent_of;
 use text::Written;
 use text::write_text;
 
-// Opens a record: its first net goes into the lent places, or nothing does, and the offset of the
-// refusal is told.
+// The number of a buffer that has too few places.
+const SHORT: u8 = 11;
+
+// Opens a record: its first net goes into the lent places, or nothing does, and `offset` is that of the
+// refusal.
 #[no_mangle]
 pub extern "C" fn gadwemosh_open(input: &[u8], net: &mut [i64], offset: &mut u64) -> u8
     ensures number { λ b. ⌜ b ≡ openedIn (now (input .entry)) (now (net .entry)) .refusal .number ⌝ }
@@ -130,10 +134,10 @@ pub extern "C" fn gadwemosh_project(
 {
     *outcome = 0;
     if bits.len() < 3 {
-        return 11;
+        return SHORT;
     }
     if direction.len() < 4 {
-        return 11;
+        return SHORT;
     }
     let projection = project(x, y, z, w);
     write_projection(outcome, bits, direction, projection)

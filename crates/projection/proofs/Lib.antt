@@ -1,4 +1,5 @@
 pub mod Cases
+pub mod Conversion
 pub mod Directions
 pub mod Finite
 pub mod Gcd

@@ -53,7 +53,7 @@ abbrev pub positiveZero : Float
 positiveZero = fin false 0 (pos 0)
 
 -- A coordinate of a finite point: the component over w, both converted without loss, divided once; a component 0 gives +0 whatever w's sign.
--- Within the range the conversion is exact (proofs/Finite.antt).
+-- Within the range the conversion is exact: `ExactlyConverted` in Conversion.antt says so.
 unfoldable pub quotientOf : ℤ → ℤ → Float
 unfolding ofInt div
 quotientOf v w = cond (isZero v) positiveZero (div binary64 (ofInt binary64 v) (ofInt binary64 w))

@@ -3,8 +3,7 @@ use borrow.Author.Needs.{needs}
 use mathlib.Core.Path.{ap, _∙_}
 use mathlib.Core.List.{[]}
 use Rattle.machine.specs.Lent.{callNumber, callPlaces}
-use Rattle.machine.specs.declared.Call.the-variants.{Move}
-use Rattle.gadwemosh.proofs.Places.{weights-back}
+use Rattle.gadwemosh.proofs.Places.{move-back}
 use Rattle.gadwemosh.proofs.gadwemosh_move.Statement.{statement}
 use Rattle.gadwemosh.proofs.gadwemosh_move.Tie as tie
 
@@ -13,9 +12,9 @@ returns c =
     let s = c .before .before .before in
     let a = s .args in
     let made = c .before .take-move in
-    let same = weights-back (s .fits .r) (s .fits .s) (s .fits .t) (s .fits .u) in (
-      made .ensures .0 ∙ ap (λ w. callNumber (Move (a .operation) (a .vertex) w) (a .net .now) []) same,
-      made .ensures .1 ∙ ap (λ w. callPlaces (Move (a .operation) (a .vertex) w) (a .net .now) []) same,
+    let same = move-back (s .fits .r) (s .fits .s) (s .fits .t) (s .fits .u) (a .operation) (a .vertex) in (
+      made .ensures .0 ∙ ap (λ call. callNumber call (a .net .now) []) same,
+      made .ensures .1 ∙ ap (λ call. callPlaces call (a .net .now) []) same,
     )
 
 pub gadwemosh-move-spec : {M : Type 1} → statement M

@@ -1,4 +1,5 @@
--- `gadwemosh_project` meets its contract: both buffers are counted first; then all that comes back is told by the projection.
+-- `gadwemosh_project` meets its contract: both buffers are counted first; then all that comes back goes by
+-- the projection.
 use borrow.Author.Needs.{needs}
 use mathlib.Core.Path.{_∙_, ap}
 use Rattle.integers.proofs.Signed.{back-fits}
