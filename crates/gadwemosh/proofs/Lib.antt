@@ -1,3 +1,3 @@
 mod Places
 pub mod Demand3
-pub mod Samples
+pub mod AllSamples

@@ -6,9 +6,9 @@ use Prim.Native.Nat.{ℕ, _-_}
 use mathlib.Core.List.{List, [], _∷_, _++_, map}
 use lib.IntN.{ℤ, pos, negℤ}
 use lib.ListN.{length, replicate}
+use Rattle.integers.specs.Instances.{Instance, _is_}
 use Rattle.projection.specs.Projection.{projectionOf}
 use Rattle.machine.specs.Lent.{madeNumber, madePlaces, callNumber, callPlaces, callFound}
-use Rattle.machine.specs.Samples.{Instance, _is_}
 use Rattle.opening.specs.Opening.{refusalIn, fieldExtent, openedIn, placesIn}
 use Rattle.text.specs.Text.{word, textOf, writtenOf, writtenNumber, writtenBytes, bufferOf}
 use Rattle.gadwemosh.specs.Calls.{moveCall, pointCall}
@@ -97,7 +97,7 @@ circleNet =
     lentNet 1 2 0 (map pos (0 ∷ 1 ∷ 1 ∷ 1 ∷ []))
     (map pos (2 ∷ 0 ∷ 0 ∷ 2 ∷ 2 ∷ 2 ∷ 0 ∷ 2 ∷ 0 ∷ 4 ∷ 0 ∷ 4 ∷ [])) 4
 
-abbrev records : List Instance
+abbrev records : List (Instance ℤ)
 records =
     -- gadwemosh_open: number, offset, net
     opens circle (hundreds 194) is (pos 0 ∷ pos 0 ∷ circleNet)
@@ -143,7 +143,7 @@ stripCoefficients =
 abbrev stripFrame : List ℤ
 stripFrame = map pos (0 ∷ 1 ∷ 1 ∷ 1 ∷ 1 ∷ 2 ∷ 1 ∷ 1 ∷ [])
 
-abbrev nets : List Instance
+abbrev nets : List (Instance ℤ)
 nets =
     -- gadwemosh_first: number, net
     makes 3 2 1 (stripFrame ++ (pos 100 ∷ [])) stripCoefficients (hundreds 194)
@@ -173,7 +173,7 @@ nets =
 
 -- ---- projections: number, outcome, and both buffers, of one place more than is written
 
-abbrev projections : List Instance
+abbrev projections : List (Instance ℤ)
 projections =
     -- GADWEMOSH_FINITE: 0.25, 0.5 and -0.75
     projects (pos 1) (pos 2) (minus 3) (pos 4) (7 ∷ 7 ∷ 7 ∷ 7 ∷ []) (hundreds 5)
@@ -193,5 +193,5 @@ projections =
     is (map pos (11 ∷ 0 ∷ 7 ∷ 7 ∷ 7 ∷ []) ++ hundreds 3)
     ∷ []
 
-abbrev pub instances : List Instance
+abbrev pub instances : List (Instance ℤ)
 instances = records ++ (nets ++ projections)
