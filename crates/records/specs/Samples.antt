@@ -123,6 +123,17 @@ cut =
     ∷ reading (fourFields ++ (5 ∷ 0 ∷ 4 ∷ 0 ∷ 1 ∷ 0 ∷ [])) is refused 1 78
     ∷ []
 
+-- rows for each field in its place, by what stands before it, the field and its offset; a point with and
+-- without moves before it
+abbrev eachField : (List ℕ → List ℕ → ℕ → List (Instance ℕ)) → List (Instance ℕ)
+eachField rows =
+    rows [] kindField 0
+    ++ rows kindField frameField 5
+    ++ rows twoFields coefficientsField 16
+    ++ rows threeFields movesField 67
+    ++ rows threeFields pointField 67
+    ++ rows fourFields pointField 78
+
 -- a field behind others, at an offset, with other tag bytes: 0, 7, 8, its own plus 16 and plus 128, and
 -- 255
 abbrev otherTags : List ℕ → List ℕ → ℕ → List (Instance ℕ)
@@ -133,12 +144,7 @@ otherTags before field offset =
 
 abbrev tags : List (Instance ℕ)
 tags =
-    otherTags [] kindField 0
-    ++ otherTags kindField frameField 5
-    ++ otherTags twoFields coefficientsField 16
-    ++ otherTags threeFields movesField 67
-    ++ otherTags threeFields pointField 67
-    ++ otherTags fourFields pointField 78
+    eachField otherTags
     -- 6, a tag too early, one that comes twice, one after its turn
     ++ (reading (6 ∷ 0 ∷ 2 ∷ 1 ∷ 2 ∷ []) is refused 2 0
     ∷ reading (threeFields ++ (6 ∷ 0 ∷ 0 ∷ [])) is refused 2 67
@@ -159,12 +165,7 @@ otherLengths before field offset =
 
 abbrev lengths : List (Instance ℕ)
 lengths =
-    otherLengths [] kindField 0
-    ++ otherLengths kindField frameField 5
-    ++ otherLengths twoFields coefficientsField 16
-    ++ otherLengths threeFields movesField 67
-    ++ otherLengths threeFields pointField 67
-    ++ otherLengths fourFields pointField 78
+    eachField otherLengths
     -- before the value is looked for
     ++ (reading (1 ∷ 0 ∷ 1 ∷ []) is refused 3 0
     ∷ reading (1 ∷ 0 ∷ 4 ∷ []) is refused 3 0
