@@ -464,6 +464,10 @@ handedFrames =
 abbrev lentFrame : ℕ → ℕ → List ℤ
 lentFrame k number = pos 1 ∷ pos 1 ∷ pos 0 ∷ (zeros k ++ (pos number ∷ zeros 189))
 
+-- a net of zeros in lent places, with these numbers for kind, degree and second degree
+abbrev lentHead : ℤ → ℤ → ℤ → List ℤ
+lentHead kind degree second = refused (callNumber (flip 1) (kind ∷ degree ∷ second ∷ zeros 190) [])
+
 -- too few places are 11 before all else, and places past the frame's numbers are not looked at
 abbrev lentNets : List (Instance ℤ)
 lentNets =
@@ -473,6 +477,13 @@ lentNets =
     ∷ refused (callNumber (point (pos 4097) (pos 0) (pos 0) (pos 0)) (zeros 193) (zeros 3)) is refused 11
     ∷ refused (callNumber (point (pos 4097) (pos 0) (pos 0) (pos 0)) (zeros 193) (zeros 4)) is refused 4
     ∷ refused (callNumber (flip 3) (zeros 193) []) is refused 4
+    -- kind and degrees that are no bytes are none that a net has
+    ∷ lentHead (pos 1) (pos 1) (pos 0) is refused 0
+    ∷ lentHead (pos 257) (pos 1) (pos 0) is refused 4
+    ∷ lentHead (pos 1) (pos 257) (pos 0) is refused 4
+    ∷ lentHead (pos 1) (pos 1) (pos 256) is refused 4
+    ∷ lentHead (pos 1) (pos 1) (minus 1) is refused 4
+    ∷ lentHead (pos 1) (pos 1) (minus 256) is refused 4
     ∷ refused (madeNumber 3 0 0 (zeros 8) (zeros 180) (zeros 193)) is refused 11
     ∷ refused (madeNumber 3 0 0 (zeros 9) (zeros 179) (zeros 193)) is refused 11
     ∷ refused (madeNumber 3 0 0 (zeros 9) (zeros 180) (zeros 192)) is refused 11
