@@ -24,8 +24,9 @@
  * written is in no other buffer of the same call. Places past what a call writes keep their values.
  *
  * STACK. A call takes at most GADWEMOSH_STACK bytes of stack. Seen were 15 KB for a text, 11 KB for a field,
- * 9 KB for opening, 7 KB for a first net, 2.7 KB for a move and below 2 KB for the others (tests/callers/stack.c). At
- * the first call the dynamic linker may take 3 KB more, when it looks up memcpy and memset.
+ * 9 KB for opening, 7 KB for a first net, 2.7 KB for a move, 2 KB for a point, also at a common zero, and
+ * 0.2 KB for a projection (tests/callers/stack.c). At the first call the dynamic linker may take 3 KB more,
+ * when it looks up memcpy and memset.
  *
  * A NET is a run of GADWEMOSH_NET numbers or more that the caller lends:
  *
@@ -116,6 +117,10 @@ extern "C" {
 /* How many numbers of a frame and how many coefficients gadwemosh_first wants at least. */
 #define GADWEMOSH_FRAME 9
 #define GADWEMOSH_COEFFICIENTS 180
+
+/* How many places gadwemosh_point wants at least for what it finds: the point's four numbers, and the four
+ * numbers projected. */
+#define GADWEMOSH_FOUND 8
 
 /* The largest number of a net, of its frame or of a point, 2 to the 48th. */
 #define GADWEMOSH_LARGEST INT64_C(281474976710656)
@@ -233,21 +238,50 @@ uint8_t gadwemosh_first(uint8_t kind, uint8_t degree, uint8_t second, const int6
 uint8_t gadwemosh_move(int64_t *net, size_t net_length, uint8_t operation, uint8_t vertex, int64_t r,
                        int64_t s, int64_t t, int64_t u);
 
-/* Finds the point at the weights: x, y, z, w go into the first four places of `found`. The weights are those
- * of r, s and t, or of r1, s1, r2 and s2; unused ones are 0: the third of a curve, the fourth of all but a
- * rectangular patch. It is refused 12 where a number of the net's frame is beyond GADWEMOSH_LARGEST; those of the
- * parameter point at the weights may be. A refusal writes nothing. */
+/* Finds the point at the weights. Eight numbers are written to `found`: x, y, z, w of the point, and behind
+ * them the four numbers projected, which say where it lies. Hand all eight to gadwemosh_project_found. The
+ * weights are those of r, s and t, or of r1, s1, r2 and s2; unused ones are 0: the third of a curve, the
+ * fourth of all but a rectangular patch. It is refused 11 where `found` has fewer than GADWEMOSH_FOUND
+ * places, and 12 where a number of the net's frame is beyond GADWEMOSH_LARGEST; those of the parameter point
+ * at the weights may be. A refusal writes nothing.
+ *
+ * THE NUMBERS PROJECTED are x, y, z, w once more, wherever these are not all 0, and on patches always. A
+ * curve may come through a common zero, where its four polynomials vanish together and x, y, z, w are all 0:
+ * a circle entered at degree 4, its polynomials times (2 T - Z)(3 T - Z), has two of them, at T / Z = 1/2 and
+ * at 1/3, though the circle has no gap there. At such a point the factor that vanishes, 2 T - Z at 1/2, is
+ * taken out of all four polynomials, as often as all four have it. What is left does not vanish there, and
+ * the numbers projected are its values, all four times one number that is not 0: they lie where the circle
+ * goes on.
+ *
+ * To be exact, on a curve of degree m the numbers projected at a common zero are the first of b_1, ...,
+ * b_m that is not four zeros. b_d is the polar value, on the scale of the net's entries, of m - d copies
+ * of the parameter point at the weights and d copies of r, or of s where the weight of s in the call is 0.
+ * All are four zeros only for the zero curve, and then the numbers projected are four zeros too. */
 uint8_t gadwemosh_point(const int64_t *net, size_t net_length, int64_t r, int64_t s, int64_t t, int64_t u,
                         int64_t *found, size_t found_length);
 
-/* Projects four numbers. `outcome` says where they lie: a finite point (1) is written to `bits`, as the bit
- * patterns of three doubles; a direction (2) is written to `direction`, as three whole numbers and its length;
- * nowhere (3) writes nothing else. The length is positive: it is the greatest common divisor of x, y and z, and
- * its products with the three numbers are x, y and z, all three negated where the first of them that is not 0
- * is negative. `bits` has three places or more, `direction` four. Beside a refusal, which is 10 or 11,
- * `outcome` is 0 and nothing else is written. */
+/* Projects four numbers, as those of an entry; for a point of gadwemosh_point there is
+ * gadwemosh_project_found. `outcome` says where they lie: a finite point (1) is written to `bits`, as the
+ * bit patterns of three doubles; a direction (2) is written to `direction`, as three whole numbers and its
+ * length; nowhere (3), which four zeros are, writes nothing else. The length is positive: it is the
+ * greatest common divisor of x, y and z, and its products with the three numbers are x, y and z, all three
+ * negated where the first of them that is not 0 is negative. `bits` has three places or more, `direction`
+ * four. Beside a refusal, which is 10 or 11, `outcome` is 0 and nothing else is written. */
 uint8_t gadwemosh_project(int64_t x, int64_t y, int64_t z, int64_t w, uint8_t *outcome, uint64_t *bits,
                           size_t bits_length, int64_t *direction, size_t direction_length);
+
+/* Projects what gadwemosh_point found, by its eight numbers: the second four, the numbers projected, as
+ * gadwemosh_project does and with the same outcomes, but a direction has length 1 where the first four are
+ * all 0. The numbers projected at a common zero are known up to a factor, so they have no length of their
+ * own. Use it for every point: gadwemosh_project, which sees no curve, would say nowhere to the four zeros of
+ * a common zero.
+ *
+ * It is refused 11 where `found` has fewer than GADWEMOSH_FOUND numbers, `bits` fewer than three places or
+ * `direction` fewer than four, and 10 where one of the second four numbers is beyond GADWEMOSH_LARGEST,
+ * which no number that gadwemosh_point writes is. The first four may be any numbers. Beside a refusal
+ * `outcome` is 0 and nothing else is written. */
+uint8_t gadwemosh_project_found(const int64_t *found, size_t found_length, uint8_t *outcome, uint64_t *bits,
+                                size_t bits_length, int64_t *direction, size_t direction_length);
 
 /* Writes the text that the program netprint prints for a record, accepted or refused. `length` is how many
  * bytes it has, at most GADWEMOSH_LONGEST_TEXT; there is no 0 byte at its end. Where the answer is 11 `out` has

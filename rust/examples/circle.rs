@@ -5,7 +5,7 @@
 //!
 //! In this folder: `cargo run --example circle < ../crates/netprint/stdin`.
 
-use gadwemosh::{project, Kind, Net, Projection, Record, Refused, Vertex};
+use gadwemosh::{Kind, Net, Projection, Record, Refused, Vertex};
 use std::error::Error;
 use std::io::Read;
 use std::process::ExitCode;
@@ -30,7 +30,8 @@ fn half(net: &Net, vertex: Vertex) -> Result<Net, Refused> {
     Ok(copy)
 }
 
-/// Takes the record's own moves and finds its own point.
+/// Takes the record's own moves and finds its own point: its four components, and where it lies. At a common
+/// zero the four are zeros, and it lies where the curve goes on.
 fn print_own_point(record: &Record) -> Result<(), Refused> {
     let mut net = record.first_net().clone();
     for (number, own) in record.moves().into_iter().enumerate() {
@@ -40,9 +41,9 @@ fn print_own_point(record: &Record) -> Result<(), Refused> {
     }
     if let Some(weights) = record.point() {
         let found = net.point(weights)?;
-        let [x, y, z, w] = found;
+        let [x, y, z, w] = found.components();
         println!("the record's own point\n{x} {y} {z} {w}");
-        match project(found)? {
+        match found.project() {
             Projection::Finite([x, y, z]) => println!("at {x} {y} {z}"),
             Projection::Direction {
                 vector: [x, y, z],

@@ -1,5 +1,6 @@
 //! Control nets and the calls on them.
 
+use crate::projection::Found;
 use crate::raw;
 use crate::refused::{answer, RecordRefused, Refused};
 use crate::{Components, Weights};
@@ -388,10 +389,10 @@ impl Net {
         }
     }
 
-    /// The point at the weights. [`project`](crate::project) says where it lies.
-    pub fn point(&self, weights: Weights) -> Result<Components, Refused> {
-        let mut found = [0; 4];
-        answer(raw::point(&self.places, weights, &mut found)).map(|()| found)
+    /// The point at the weights. [`Found::project`] says where it lies.
+    pub fn point(&self, weights: Weights) -> Result<Found, Refused> {
+        let mut found = [0; raw::FOUND];
+        answer(raw::point(&self.places, weights, &mut found)).map(|()| Found::of(found))
     }
 }
 

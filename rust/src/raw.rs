@@ -61,6 +61,15 @@ mod c {
             direction: *mut i64,
             direction_length: usize,
         ) -> u8;
+        pub fn gadwemosh_project_found(
+            found: *const i64,
+            found_length: usize,
+            outcome: *mut u8,
+            bits: *mut u64,
+            bits_length: usize,
+            direction: *mut i64,
+            direction_length: usize,
+        ) -> u8;
         pub fn gadwemosh_field(
             record: *const u8,
             record_length: usize,
@@ -81,16 +90,16 @@ mod c {
 /// How many places a net has at least.
 pub const NET: usize = 193;
 
-/// At which place of a net the numbers of its frame begin; [`Kind::frame_numbers`](crate::Kind::frame_numbers)
-/// says how many there are.
+/// At which place of a net the numbers of its frame begin;
+/// [`Kind::frame_numbers`](crate::Kind::frame_numbers) says how many there are.
 pub const FRAME_PLACE: usize = 3;
 
 /// At which place of a net its entries begin.
 pub const ENTRIES: usize = 12;
 
-/// At which place of a net the largest absolute component of its entries stands. A lent net may have any number
-/// there: [`open`], [`first`] and a replace that is taken work it out, a flip hands on the number that it was
-/// given, and what is refused leaves it.
+/// At which place of a net the largest absolute component of its entries stands. A lent net may have any
+/// number there: [`open`], [`first`] and a replace that is taken work it out, a flip hands on the number that
+/// it was given, and what is refused leaves it.
 pub const LARGEST_PLACE: usize = 192;
 
 /// How many numbers [`first`] wants of a frame at least; a curve uses the first four, a rectangular patch the
@@ -99,6 +108,10 @@ pub const FRAME: usize = 9;
 
 /// How many coefficients [`first`] wants at least; kind and degrees say how many it uses.
 pub const COEFFICIENTS: usize = 180;
+
+/// How many places [`point`] wants for what it finds at least: the point's four numbers and the four
+/// projected.
+pub const FOUND: usize = 8;
 
 /// No text of a record has more bytes.
 pub const LONGEST_TEXT: usize = 4183;
@@ -109,13 +122,13 @@ pub const REPLACE: u8 = 1;
 /// The operation of [`make_move`] that flips a vertex.
 pub const FLIP: u8 = 2;
 
-/// The outcome of [`project`] that is a finite point.
+/// The outcome of [`project`] and of [`project_found`] that is a finite point.
 pub const FINITE: u8 = 1;
 
-/// The outcome of [`project`] that is a direction.
+/// The outcome of [`project`] and of [`project_found`] that is a direction.
 pub const DIRECTION: u8 = 2;
 
-/// The outcome of [`project`] that is nowhere.
+/// The outcome of [`project`] and of [`project_found`] that is nowhere.
 pub const NOWHERE: u8 = 3;
 
 /// Opens a record and writes its first net (`gadwemosh_open`). `offset` is set to the place in the record
@@ -166,9 +179,9 @@ pub fn first(
     }
 }
 
-/// Replaces or flips a vertex of a lent net (`gadwemosh_move`): a move that is taken writes the entries and the
-/// vertex's numbers in the frame, and a replace also the largest component. The weights are those of r, s and t; for a rectangular patch the first two are
-/// those of the vertex's own pair. The others are 0.
+/// Replaces or flips a vertex of a lent net (`gadwemosh_move`): a move that is taken writes the entries and
+/// the vertex's numbers in the frame, and a replace also the largest component. The weights are those of r, s
+/// and t; for a rectangular patch the first two are those of the vertex's own pair. The others are 0.
 #[inline]
 #[must_use]
 pub fn make_move(net: &mut [i64], operation: u8, vertex: u8, weights: [i64; 4]) -> u8 {
@@ -178,7 +191,9 @@ pub fn make_move(net: &mut [i64], operation: u8, vertex: u8, weights: [i64; 4]) 
 }
 
 /// Finds the point at the weights on a lent net (`gadwemosh_point`): x, y, z and w go into the first four
-/// places of `found`. The weights are those of r, s and t, or of r1, s1, r2 and s2; the others are 0.
+/// places of `found`, and the numbers projected into the four behind them ([`Found`](crate::Found) says what
+/// these are). The weights are those of r, s and t, or of r1, s1, r2 and s2; the others are 0. 11 where
+/// `found` has fewer than [`FOUND`] places.
 #[inline]
 #[must_use]
 pub fn point(net: &[i64], weights: [i64; 4], found: &mut [i64]) -> u8 {
@@ -198,10 +213,10 @@ pub fn point(net: &[i64], weights: [i64; 4], found: &mut [i64]) -> u8 {
     }
 }
 
-/// Projects four numbers (`gadwemosh_project`). `outcome` is set to [`FINITE`], [`DIRECTION`] or
-/// [`NOWHERE`], and to 0 where the answer is a refusal. A finite point is written to the first three places
-/// of `bits`, as bit patterns of `f64`; a direction is written to the first three of `direction`, and its
-/// length to the fourth.
+/// Projects four numbers (`gadwemosh_project`), as those of an entry. `outcome` is set to [`FINITE`],
+/// [`DIRECTION`] or [`NOWHERE`], and to 0 where the answer is a refusal. A finite point is written to the
+/// first three places of `bits`, as bit patterns of `f64`; a direction is written to the first three of
+/// `direction`, and its length to the fourth.
 #[inline]
 #[must_use]
 pub fn project(
@@ -217,6 +232,31 @@ pub fn project(
             y,
             z,
             w,
+            outcome,
+            bits.as_mut_ptr(),
+            bits.len(),
+            direction.as_mut_ptr(),
+            direction.len(),
+        )
+    }
+}
+
+/// Projects what [`point`] found (`gadwemosh_project_found`), by the first [`FOUND`] numbers of `found`: the
+/// second four of them, as [`project`] does, but a direction has length 1 where the first four are zeros. 11
+/// where there are fewer numbers; the first four may be any.
+#[inline]
+#[must_use]
+pub fn project_found(
+    found: &[i64],
+    outcome: &mut u8,
+    bits: &mut [u64],
+    direction: &mut [i64],
+) -> u8 {
+    // SAFETY: as in `open`.
+    unsafe {
+        c::gadwemosh_project_found(
+            found.as_ptr(),
+            found.len(),
             outcome,
             bits.as_mut_ptr(),
             bits.len(),

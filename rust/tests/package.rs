@@ -4,7 +4,7 @@
 use gadwemosh::{
     project, raw, text, write_text, Components, Degrees, Field, Kind, Move, Net, Projection,
 };
-use gadwemosh::{Record, RecordRefused, Refused, Vertex};
+use gadwemosh::{Record, RecordRefused, Refused, Vertex, Weights};
 use std::error::Error;
 
 /// The circle of document 01, and its net.
@@ -66,6 +66,18 @@ fn rect() -> Net {
     Net::first(Kind::Rectangular, [2, 1], &RECT_FRAME, &RECT).unwrap()
 }
 
+/// The components of the point at the weights.
+fn components(net: &Net, weights: Weights) -> Result<Components, Refused> {
+    net.point(weights).map(|found| found.components())
+}
+
+/// The numbers projected at the weights, where the components are four zeros.
+fn left(net: &Net, weights: Weights) -> Components {
+    let found = net.point(weights).unwrap();
+    assert_eq!(found.components(), [0; 4]);
+    found.projected()
+}
+
 /// A record: the fields of kind and frame, that of the coefficients, and further ones.
 fn record_of(kind_and_frame: &[u8], coefficients: &[Components], further: &[u8]) -> Vec<u8> {
     let mut record = kind_and_frame.to_vec();
@@ -122,7 +134,7 @@ fn a_net_from_numbers() {
     );
     assert_eq!(patch.frame(), PATCH_FRAME);
     assert!(patch.entries().eq(PATCH_NET));
-    assert_eq!(patch.point([1, 1, 1, 0]), Ok([6, 6, 2, 18]));
+    assert_eq!(components(&patch, [1, 1, 1, 0]), Ok([6, 6, 2, 18]));
     assert_eq!(
         patch.places()[..16],
         [2, 2, 0, 1, 0, 1, 0, 1, 1, 0, 0, 1, 2, 0, 0, 2]
@@ -170,7 +182,7 @@ fn a_rectangular_patch_from_numbers() {
     assert_eq!(net.frame(), RECT_FRAME);
     assert!(net.entries().eq(RECT_NET));
     assert_eq!(net.places()[..12], [3, 2, 1, 0, 1, 1, 1, 1, 1, -1, 2, 0]);
-    assert_eq!(net.point([1, 2, 3, -1]), Ok([8, 48, 72, 18]));
+    assert_eq!(components(&net, [1, 2, 3, -1]), Ok([8, 48, 72, 18]));
 
     let make = |degrees: [u8; 2], frame: &[i64], coefficients: &[Components]| {
         Net::first(Kind::Rectangular, degrees, frame, coefficients)
@@ -449,7 +461,7 @@ fn a_new_vertex_beyond_the_limit() {
     );
     assert_eq!(net, before);
     // the parameter point of a point is not judged
-    assert_eq!(net.point([0, 4096, 0, 0]), Ok([0; 4]));
+    assert_eq!(components(&net, [0, 4096, 0, 0]), Ok([0; 4]));
     // 2 to the 48th itself passes, of either sign
     net.replace(Vertex::S, [0, -1, 0, 0]).unwrap();
     net.flip(Vertex::S).unwrap();
@@ -478,7 +490,7 @@ fn a_lent_frame_beyond_the_limit() {
     let mut lent = rect().places().to_vec();
     lent[raw::FRAME_PLACE + 7] = i64::MIN;
     let before = lent.clone();
-    let mut found = [5; 4];
+    let mut found = [5; raw::FOUND];
     let number = Refused::FRAME_RANGE.number();
     assert_eq!(raw::make_move(&mut lent, raw::REPLACE, 1, [1; 4]), 8);
     assert_eq!(raw::make_move(&mut lent, raw::REPLACE, 1, [0, 1, 0, 0]), 9);
@@ -491,7 +503,7 @@ fn a_lent_frame_beyond_the_limit() {
     }
     assert_eq!(raw::point(&lent, [1, 1, 0, 0], &mut found), 9);
     assert_eq!(raw::point(&lent, [1, 1, 1, 1], &mut found), number);
-    assert_eq!((lent, found), (before, [5; 4]));
+    assert_eq!((lent, found), (before, [5; raw::FOUND]));
 }
 
 /// The frame is part of a net: it tells nets apart, and is shown with them.
@@ -576,11 +588,11 @@ fn a_lent_net_claims_any_number() {
         let mut lent = circle().places().to_vec();
         lent[raw::LARGEST_PLACE] = claim;
         let before = lent.clone();
-        let mut found = [5; 4];
+        let mut found = [5; raw::FOUND];
         assert_eq!(raw::make_move(&mut lent, raw::REPLACE, 1, [0, 1, 0, 0]), 9);
         assert_eq!(raw::make_move(&mut lent, raw::FLIP, 1, [0, 1, 0, 0]), 8);
         assert_eq!(raw::point(&lent, [1, 1, 0, 0], &mut found), 0);
-        assert_eq!((&lent, found), (&before, [6, 8, 0, 10]));
+        assert_eq!((&lent, found), (&before, [6, 8, 0, 10, 6, 8, 0, 10]));
         assert_eq!(raw::make_move(&mut lent, raw::FLIP, 1, [0; 4]), 0);
         assert_eq!(lent[raw::LARGEST_PLACE], claim);
         assert_eq!(raw::make_move(&mut lent, raw::FLIP, 1, [0; 4]), 0);
@@ -673,7 +685,8 @@ fn a_record_with_moves_of_its_own() {
     assert_eq!(net.frame(), [0, 1, 1, 2]);
     assert_eq!(record.point(), Some([1, -1, 0, 0]));
     let found = net.point([1, -1, 0, 0]).unwrap();
-    assert_eq!(project(found), Ok(Projection::Finite([0.0, 1.0, 0.0])));
+    assert_eq!(found.project(), Projection::Finite([0.0, 1.0, 0.0]));
+    assert_eq!(found.projected(), found.components());
     let lines = "curve 2 2\nmove 2 refused 9\nframe 0 1 1 2\n0 2 0 0 2\n1 4 2 0 4\n2 6 8 0 10\n\
                  at 0000000000000000 3ff0000000000000 0000000000000000\n";
     assert_eq!(text(&bytes), lines);
@@ -720,7 +733,7 @@ fn the_record_of_a_rectangular_patch() {
         .map(|own| net.take(own))
         .collect();
     assert_eq!(taken, [Ok(()), Err(Refused::NO_WEIGHT)]);
-    assert_eq!(net.point([1, -1, 2, 1]), Ok([8, 2, 2, 8]));
+    assert_eq!(components(&net, [1, -1, 2, 1]), Ok([8, 2, 2, 8]));
     assert_eq!(net.frame(), [0, 1, 1, 2, 1, 1, -1, 2]);
     let lines = "rect 2 1 2\nmove 2 refused 9\nframe 0 1 1 2 1 1 -1 2\n\
                  0 0 0 0 2 2\n0 1 0 0 -2 4\n1 0 0 1 4 4\n1 1 0 -1 -4 8\n2 0 2 4 8 8\n2 1 4 -4 -8 16\n\
@@ -763,6 +776,126 @@ fn the_three_projections() {
     );
     assert_eq!(project([0; 4]), Ok(Projection::Nowhere));
     assert_eq!(project([i64::MAX, 0, 0, 1]), Err(Refused::RANGE));
+}
+
+/// The circle at degree 4, times (2T − Z)(3T − Z) = Z² − 5TZ + 6T²: every point lies where the circle's does.
+#[test]
+fn the_circle_at_degree_4() {
+    let coefficients = [
+        [1, 0, 0, 1],
+        [-5, 2, 0, -5],
+        [5, -10, 0, 7],
+        [5, 12, 0, -5],
+        [-6, 0, 0, 6],
+    ];
+    let net = Net::first(Kind::Curve, 4, &CIRCLE_FRAME, &coefficients).unwrap();
+    let mut zeros = Vec::new();
+    for (r, s) in (-6..=6).flat_map(|r| (-6..=6).map(move |s| (r, s))) {
+        if (r, s) == (0, 0) {
+            continue;
+        }
+        let found = net.point([r, s, 0, 0]).unwrap();
+        let circle = circle().point([r, s, 0, 0]).unwrap();
+        assert_eq!(found.project(), circle.project());
+        if found.components() == [0; 4] {
+            zeros.push((r, s));
+        } else {
+            assert_eq!(found.projected(), found.components());
+        }
+    }
+    // (T, Z) = (s, r + s): 2T − Z vanishes where r = s and 3T − Z where r = 2s
+    let at_zero = |&(r, s): &(i64, i64)| r == s || r == 2 * s;
+    assert!(zeros.iter().all(at_zero));
+    assert_eq!(zeros.len(), 12 + 6);
+
+    // at (1, 2) the values of 3T − Z times the circle are (3, 4, 0, 5); 2T − Z is −1 at r, and the scale over
+    // the binomial is 12 / 4
+    assert_eq!(left(&net, [1, 1, 0, 0]), [-9, -12, 0, -15]);
+    // three copies of q are left in b₁: it is (−2)³ times as large at −2q
+    assert_eq!(left(&net, [-2, -2, 0, 0]), [72, 96, 0, 120]);
+    // at (1, 3) those of 2T − Z times the circle are −(8, 6, 0, 10), and 3T − Z is −1 at r
+    assert_eq!(left(&net, [2, 1, 0, 0]), [24, 18, 0, 30]);
+    // bare zeros are nowhere, whatever curve they come from
+    assert_eq!(project([0; 4]), Ok(Projection::Nowhere));
+}
+
+/// The direction (3, 2, 0) at degrees 1 and 2, x = 6 and y = 4 times powers of 2T − Z: at the zero its length
+/// is 1.
+#[test]
+fn a_direction_at_a_common_zero() {
+    let direction = |length| Projection::Direction {
+        vector: [3, 2, 0],
+        length,
+    };
+    let line = [[-6, -4, 0, 0], [12, 8, 0, 0]];
+    let once = Net::first(Kind::Curve, 1, &CIRCLE_FRAME, &line).unwrap();
+    assert_eq!(left(&once, [1, 1, 0, 0]), [-6, -4, 0, 0]);
+    assert_eq!(once.point([1, 1, 0, 0]).unwrap().project(), direction(1));
+    assert_eq!(once.point([1, 0, 0, 0]).unwrap().project(), direction(2));
+    // Z² − 4TZ + 4T², whose value at r is 1: b₂ is twice (6, 4, 0, 0), b₁ is four zeros
+    let square = [[6, 4, 0, 0], [-24, -16, 0, 0], [24, 16, 0, 0]];
+    let twice = Net::first(Kind::Curve, 2, &CIRCLE_FRAME, &square).unwrap();
+    assert_eq!(left(&twice, [1, 1, 0, 0]), [12, 8, 0, 0]);
+    assert_eq!(twice.point([1, 1, 0, 0]).unwrap().project(), direction(1));
+    assert_eq!(twice.point([1, 0, 0, 0]).unwrap().project(), direction(4));
+}
+
+/// x = T² and w = TZ, which T divides: the zero is at r, and s is taken in its place.
+#[test]
+fn a_common_zero_at_a_vertex() {
+    let coefficients = [[0; 4], [0, 0, 0, 1], [1, 0, 0, 0]];
+    let net = Net::first(Kind::Curve, 2, &CIRCLE_FRAME, &coefficients).unwrap();
+    assert_eq!(left(&net, [3, 0, 0, 0]), [0, 0, 0, 3]);
+    let found = net.point([3, 0, 0, 0]).unwrap();
+    assert_eq!(found.project(), Projection::Finite([0.0; 3]));
+}
+
+/// Only the zero curve is nowhere, and patches are where all four polynomials vanish.
+#[test]
+fn points_that_are_nowhere() {
+    let zero = Net::first(Kind::Curve, 2, &CIRCLE_FRAME, &[[0; 4]; 3]).unwrap();
+    // U times x = U, w = V, at t = (0, 0, 1), and T₁T₂ times 1, at r₁ = (0, 1)
+    let triangular = [[0; 4], [0; 4], [0; 4], [0; 4], [0, 0, 0, 1], [1, 0, 0, 0]];
+    let triangular = Net::first(Kind::Triangular, 2, &PATCH_FRAME, &triangular).unwrap();
+    let rectangular = [[0; 4], [0; 4], [0; 4], [1; 4]];
+    let rectangular = Net::first(Kind::Rectangular, [1, 1], &RECT_FRAME, &rectangular).unwrap();
+    for (net, weights) in [
+        (zero, [1, 1, 0, 0]),
+        (triangular, [0, 0, 1, 0]),
+        (rectangular, [1, 0, 1, 1]),
+    ] {
+        assert_eq!(left(&net, weights), [0; 4]);
+        assert_eq!(net.point(weights).unwrap().project(), Projection::Nowhere);
+    }
+}
+
+/// Lent places: seven are too few, and numbers that no net found may be out of range.
+#[test]
+fn lent_places_for_a_point() {
+    let mut found = [5; 9];
+    assert_eq!(
+        raw::point(circle().places(), [1, 1, 0, 0], &mut found[..7]),
+        11
+    );
+    assert_eq!(found, [5; 9]);
+    assert_eq!(raw::point(circle().places(), [1, 1, 0, 0], &mut found), 0);
+    assert_eq!(found, [6, 8, 0, 10, 6, 8, 0, 10, 5]);
+
+    let tell = |found: &[i64]| {
+        let (mut outcome, mut bits, mut direction) = (7, [0; 3], [0; 4]);
+        let number = raw::project_found(found, &mut outcome, &mut bits, &mut direction);
+        (number, outcome, direction)
+    };
+    assert_eq!(tell(&found), (0, raw::FINITE, [0; 4]));
+    assert_eq!(tell(&found[..7]), (11, 0, [0; 4]));
+    let far = [i64::MIN, 0, 0, 0, 6, 4, 0, 0];
+    assert_eq!(tell(&far), (0, raw::DIRECTION, [3, 2, 0, 2]));
+    assert_eq!(
+        tell(&[0, 0, 0, 0, 6, 4, 0, 0]),
+        (0, raw::DIRECTION, [3, 2, 0, 1])
+    );
+    assert_eq!(tell(&[0; 8]), (0, raw::NOWHERE, [0; 4]));
+    assert_eq!(tell(&[0, 0, 0, 0, 0, 0, LARGEST + 1, 1]), (10, 0, [0; 4]));
 }
 
 #[test]

@@ -5,8 +5,8 @@ mod plain;
 mod records;
 
 use gadwemosh::raw;
-use plain::{Shape, NET};
-use records::{point, record};
+use plain::{Shape, FOUND, NET};
+use records::{point, record, zero_record};
 use std::fs::File;
 use std::hint::black_box;
 use std::process::{Command, Stdio};
@@ -33,6 +33,32 @@ fn both(mut ours: impl FnMut(), mut theirs: impl FnMut()) -> (f64, f64) {
 
 fn row(name: &str, t: (f64, f64)) {
     println!("{name:<28} {:>9.1} ns {:>9.1} ns   ratio {:.2}", t.0, t.1, t.0 / t.1);
+}
+
+/// A row for the point on a net, which both have.
+fn point_row(name: &str, kind: u8, lent: &[i64; NET], net: &[i64; NET]) {
+    let w = point(kind);
+    let (mut f, mut g) = ([0i64; FOUND], [0i64; FOUND]);
+    row(
+        name,
+        both(
+            || {
+                black_box(raw::point(black_box(lent), w, &mut f));
+            },
+            || {
+                black_box(plain::point(black_box(net), black_box(w), &mut g));
+            },
+        ),
+    );
+    assert_eq!(f, g);
+}
+
+/// A row for a point that is a common zero of a curve of degree 10, of this order.
+fn zero_row(order: u8) {
+    let s = zero_record(10, order);
+    let mut net = [0i64; NET];
+    assert_eq!(raw::open(&s, &mut net, &mut 0), 0);
+    point_row(&format!("point curve 10 zero {order}"), 1, &net, &net);
 }
 
 /// The mean time of a whole process on the circle record, in microseconds.
@@ -107,20 +133,7 @@ fn main() {
             );
             assert_eq!(a, b);
         }
-        let w = point(kind);
-        let (mut f, mut g) = ([0i64; 4], [0i64; 4]);
-        row(
-            &format!("point {name}"),
-            both(
-                || {
-                    black_box(raw::point(black_box(&lent), w, &mut f));
-                },
-                || {
-                    black_box(plain::point(black_box(&net), black_box(w), &mut g));
-                },
-            ),
-        );
-        assert_eq!(f, g);
+        point_row(&format!("point {name}"), kind, &lent, &net);
         let (mut o, mut p) = ([0u8; plain::LONGEST_TEXT], [0u8; plain::LONGEST_TEXT]);
         let mut n = 0u64;
         row(
@@ -136,6 +149,8 @@ fn main() {
         );
         assert_eq!(o[..], p[..]);
     }
+    zero_row(1);
+    zero_row(10);
     if let [_, netprint, copy, record] = &words[..] {
         let (mut a, mut b) = (f64::MAX, f64::MAX);
         for _ in 0..5 {

@@ -17,7 +17,7 @@
 LIBRARY(before_)
 LIBRARY(after_)
 
-enum { NET = 193, PLACES = 180, ROWS = 200, PASSES = 6, ROUNDS = 25, CALLS = 400 };
+enum { NET = 193, FOUND = 8, PLACES = 180, ROWS = 200, PASSES = 6, ROUNDS = 25, CALLS = 400 };
 
 static uint8_t record[4096], text[8192];
 static size_t length;
@@ -99,7 +99,7 @@ static void keep(double *best, double taken) {
     } while (0)
 
 static void shape(uint8_t kind, uint8_t p, uint8_t q) {
-    static int64_t a[NET], b[NET], found[4];
+    static int64_t a[NET], b[NET], found[FOUND];
     uint64_t told;
     make_record(kind, p, q);
     if (before_gadwemosh_open(record, length, a, NET, &told) || after_gadwemosh_open(record, length, b, NET, &told))
@@ -117,8 +117,8 @@ static void shape(uint8_t kind, uint8_t p, uint8_t q) {
     ROW(before_gadwemosh_move(a, NET, 2, 1, 0, 0, 0, 0), after_gadwemosh_move(b, NET, 2, 1, 0, 0, 0, 0),
         "flip %d %d %d", kind, p, q);
     int64_t t = kind > 1, u = kind > 2;
-    ROW(before_gadwemosh_point(a, NET, 1, 1, t, u, found, 4), after_gadwemosh_point(b, NET, 1, 1, t, u, found, 4),
-        "point %d %d %d", kind, p, q);
+    ROW(before_gadwemosh_point(a, NET, 1, 1, t, u, found, FOUND),
+        after_gadwemosh_point(b, NET, 1, 1, t, u, found, FOUND), "point %d %d %d", kind, p, q);
     ROW(before_gadwemosh_text(record, length, text, sizeof text, &told),
         after_gadwemosh_text(record, length, text, sizeof text, &told), "text %d %d %d", kind, p, q);
 }

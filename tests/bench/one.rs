@@ -1,11 +1,13 @@
 //! Each call once, by the library and in plain Rust, for counting instructions:
-//! `one KIND DEGREE SECOND OPERATION VERTEX`, the second degree of a rectangular patch and 0 of the others. The functions with C names are what the counter looks for.
+//! `one KIND DEGREE SECOND OPERATION VERTEX [ORDER]`, the second degree of a rectangular patch and 0 of the
+//! others. With an order the point is a common zero of a curve, of that order. The functions with C names are
+//! what the counter looks for.
 #[allow(dead_code)]
 mod plain;
 mod records;
 
 use gadwemosh::raw;
-use plain::{Shape, NET, PLACES};
+use plain::{Shape, FOUND, NET, PLACES};
 use std::hint::black_box;
 
 #[no_mangle]
@@ -43,7 +45,7 @@ fn main() {
     let byte = |k: usize| -> u8 { words[k].parse().unwrap() };
     let shape = Shape { kind: byte(1), degree: byte(2), second: byte(3) };
     let (Shape { kind, degree, second }, operation, vertex) = (shape, byte(4), byte(5));
-    let s = records::record(shape);
+    let s = if words.len() > 6 { records::zero_record(degree, byte(6)) } else { records::record(shape) };
     let point = records::point(kind);
     let weights = match (operation, kind) {
         (1, 3) => [1, 1, 0, 0],
@@ -53,7 +55,7 @@ fn main() {
     let (mut frame, mut coefficients) = ([0; 9], [0; PLACES]);
     assert_eq!(plain::read(&s, &mut frame, &mut coefficients).0, 0);
 
-    let (mut lent, mut made, mut found, mut out) = ([0i64; NET], [0i64; NET], [0i64; 4], [0u8; plain::LONGEST_TEXT]);
+    let (mut lent, mut made, mut found, mut out) = ([0i64; NET], [0i64; NET], [0i64; FOUND], [0u8; plain::LONGEST_TEXT]);
     let (mut offset, mut length) = (0u64, 0u64);
     let number = raw::open(&s, &mut lent, &mut offset)
         + raw::first(kind, degree, second, &frame, &coefficients, &mut made)
@@ -62,7 +64,7 @@ fn main() {
         + raw::text(&s, &mut out, &mut length);
     assert_eq!(number, 0);
 
-    let (mut net, mut first, mut same, mut text) = ([0i64; NET], [0i64; NET], [0i64; 4], [0u8; plain::LONGEST_TEXT]);
+    let (mut net, mut first, mut same, mut text) = ([0i64; NET], [0i64; NET], [0i64; FOUND], [0u8; plain::LONGEST_TEXT]);
     let mut layout = plain::Layout::default();
     let number = plain_open(black_box(&s), black_box(&mut net), &mut layout)
         + plain_first(black_box(shape), black_box(&frame), black_box(&coefficients), black_box(&mut first))

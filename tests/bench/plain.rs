@@ -13,6 +13,9 @@ const ENTRIES: std::ops::Range<usize> = 12..192;
 const LARGEST: usize = 192;
 pub const PLACES: usize = 180;
 
+/// How many places a found point wants: its four numbers and the four projected.
+pub const FOUND: usize = 8;
+
 /// No text has more bytes.
 pub const LONGEST_TEXT: usize = 4183;
 
@@ -389,11 +392,11 @@ pub fn flip(net: &mut [i64], vertex: u8) -> u8 {
 }
 
 /// A point: all blends with the first vertices, and of a rectangular patch then those of the row that
-/// is left at the front with the second pair.
+/// is left at the front with the second pair. The numbers projected go behind it.
 pub fn point(net: &[i64], w: [i64; 4], found: &mut [i64]) -> u8 {
-    if found.len() < 4 {
+    let Some(found) = found.first_chunk_mut::<FOUND>() else {
         return 11;
-    }
+    };
     let shape = match handed(net) {
         Ok(shape) => shape,
         Err(number) => return number,
@@ -419,7 +422,28 @@ pub fn point(net: &[i64], w: [i64; 4], found: &mut [i64]) -> u8 {
         return 10;
     }
     found[..4].copy_from_slice(&room[..4]);
+    found[4..].copy_from_slice(&room[..4]);
+    if shape.kind == 1 && room[..4].iter().all(|&v| v == 0) {
+        left(net, shape.first(), first, &mut room, found);
+    }
     0
+}
+
+/// What is left of a curve at a common zero, behind the point's four zeros: one vertex is replaced by q in
+/// the room, and the entries are looked through from q on, with one copy more of the other vertex each.
+#[cold]
+fn left(net: &[i64], g: Group, w: [i64; 3], room: &mut [i64; PLACES], found: &mut [i64; FOUND]) {
+    let n = g.numbers();
+    room[..n].copy_from_slice(&entries(net)[..n]);
+    let v = if w[1] == 0 { 0 } else { 1 };
+    replaced(room, 0, g, v, w);
+    for d in 1..=g.degree {
+        let at = 4 * if v == 0 { d } else { g.degree - d };
+        if room[at..at + 4] != [0; 4] {
+            found[4..].copy_from_slice(&room[at..at + 4]);
+            return;
+        }
+    }
 }
 
 /// The first net of judged polynomials over a judged frame: from coefficients to entries with the first
@@ -829,8 +853,9 @@ fn accepted(s: &[u8], out: &mut Out, net: &mut [i64; NET], l: &Layout) {
         for (weight, b) in w.iter_mut().zip(s[start..start + length].chunks_exact(2)) {
             *weight = be16(b);
         }
-        let mut f = [0; 4];
-        let number = point(net, w, &mut f);
+        let mut found = [0; FOUND];
+        let number = point(net, w, &mut found);
+        let f = &found[4..];
         if number != 0 {
             out.word(b"point refused ");
             out.decimal(number as u64);
@@ -844,6 +869,7 @@ fn accepted(s: &[u8], out: &mut Out, net: &mut [i64; NET], l: &Layout) {
             out.word(b"nowhere");
         } else {
             let g = f[..3].iter().fold(0, |g, v| gcd(v.unsigned_abs(), g)) as i64;
+            let length = if found[..4] == [0; 4] { 1 } else { g };
             let first = *f.iter().find(|v| **v != 0).unwrap();
             out.word(b"far");
             for c in 0..3 {
@@ -851,7 +877,7 @@ fn accepted(s: &[u8], out: &mut Out, net: &mut [i64; NET], l: &Layout) {
                 out.signed(f[c] / g * first.signum());
             }
             out.word(b" ");
-            out.signed(g);
+            out.signed(length);
         }
         out.word(b"\n");
     }

@@ -50,18 +50,20 @@ static void take_own_moves(const uint8_t *record, size_t record_length, int64_t 
     }
 }
 
-/* The point of an accepted record, on the net that its moves lead to. */
+/* The point of an accepted record, on the net that its moves lead to. Its four numbers are printed, and
+ * where it lies: at a common zero the four are zeros, and it lies where the curve goes on. */
 static int print_own_point(const uint8_t *record, size_t record_length, const int64_t *net) {
     uint64_t start, length, bits[3];
-    int64_t found[4], direction[4];
+    int64_t found[GADWEMOSH_FOUND], direction[4];
     double finite[3];
     uint8_t outcome, refused;
     gadwemosh_field(record, record_length, GADWEMOSH_FIELD_POINT, &start, &length);
     if (length == 0)
         return 1;
-    refused = gadwemosh_point(net, GADWEMOSH_NET, weight(record + start), weight(record + start + 2), 0, 0, found, 4);
+    refused = gadwemosh_point(net, GADWEMOSH_NET, weight(record + start), weight(record + start + 2), 0, 0, found,
+                              GADWEMOSH_FOUND);
     if (refused == 0)
-        refused = gadwemosh_project(found[0], found[1], found[2], found[3], &outcome, bits, 3, direction, 4);
+        refused = gadwemosh_project_found(found, GADWEMOSH_FOUND, &outcome, bits, 3, direction, 4);
     if (refused != 0) {
         fprintf(stderr, "point refused: %u\n", refused);
         return 0;

@@ -45,6 +45,38 @@ static int same(const int64_t *a, const int64_t *b) {
     return memcmp(a, b, MORE * sizeof *a) == 0;
 }
 
+/* Eight places for what a point finds and one more, in which no two hold the same. */
+enum { FOUND_MORE = GADWEMOSH_FOUND + 1 };
+
+static void blank(int64_t *found) {
+    for (int i = 0; i < FOUND_MORE; i++)
+        found[i] = -1 - i;
+}
+
+/* All of them hold that yet. */
+static int kept(const int64_t *found) {
+    int64_t wanted[FOUND_MORE];
+    blank(wanted);
+    return memcmp(found, wanted, sizeof wanted) == 0;
+}
+
+/* The eight places hold the point and the numbers projected, and the one behind them holds what it held. */
+static int holds_eight(const int64_t *found, const int64_t *point, const int64_t *projected) {
+    return memcmp(found, point, 4 * sizeof *found) == 0 && memcmp(found + 4, projected, 4 * sizeof *found) == 0 &&
+           found[8] == -9;
+}
+#define FOUR(x, y, z, w) ((const int64_t[]){x, y, z, w})
+
+/* A point that is projected itself. */
+static int finds(const int64_t *found, int64_t x, int64_t y, int64_t z, int64_t w) {
+    return holds_eight(found, FOUR(x, y, z, w), FOUR(x, y, z, w));
+}
+
+/* A common zero, with the numbers projected. */
+static int leaves(const int64_t *found, int64_t x, int64_t y, int64_t z, int64_t w) {
+    return holds_eight(found, FOUR(0, 0, 0, 0), FOUR(x, y, z, w));
+}
+
 /* The largest of so many numbers, each without its sign. */
 static int64_t largest_of(const int64_t *numbers, int count) {
     int64_t largest = 0;
@@ -210,13 +242,14 @@ static void test_first_rect(void) {
 
 /* What stands in one place of the head makes a move and a point of a net refused 4. */
 static void test_head(const int64_t *good, int place, int64_t number) {
-    int64_t net[MORE], old[MORE], found[4] = {-1, -2, -3, -4};
+    int64_t net[MORE], old[MORE], found[FOUND_MORE];
     memcpy(net, good, sizeof net);
     net[place] = number;
     memcpy(old, net, sizeof net);
+    blank(found);
     EXPECT(gadwemosh_move(net, MORE, GADWEMOSH_FLIP, 1, 0, 0, 0, 0) == 4 && same(net, old));
     EXPECT(gadwemosh_move(net, MORE, 3, 9, 4097, 0, 0, 0) == 4 && same(net, old));
-    EXPECT(gadwemosh_point(net, MORE, 1, 1, 0, 0, found, 4) == 4 && same(net, old) && found[0] == -1);
+    EXPECT(gadwemosh_point(net, MORE, 1, 1, 0, 0, found, FOUND_MORE) == 4 && same(net, old) && kept(found));
 }
 
 static void test_heads(void) {
@@ -359,50 +392,56 @@ static void test_move_rect(void) {
 }
 
 static void test_point(void) {
-    int64_t net[MORE], old[MORE], found[5] = {-1, -2, -3, -4, -5};
+    int64_t net[MORE], old[MORE], found[FOUND_MORE];
     fill(net);
+    blank(found);
     gadwemosh_first(1, 2, 0, circle_frame, 9, circle, 180, net, MORE);
     memcpy(old, net, sizeof net);
-    EXPECT(gadwemosh_point(net, MORE, 1, 1, 0, 0, found, 3) == 11 && found[0] == -1);
-    EXPECT(gadwemosh_point(net, 192, 1, 1, 0, 0, found, 5) == 11 && found[0] == -1);
-    EXPECT(gadwemosh_point(net, MORE, 1, 1, 1, 0, found, 5) == 8 && found[0] == -1);
-    EXPECT(gadwemosh_point(net, MORE, 0, 0, 0, 0, found, 5) == 9 && found[0] == -1);
-    EXPECT(gadwemosh_point(net, MORE, 1, 1, 0, 0, found, 5) == 0 && same(net, old));
-    EXPECT(found[0] == 6 && found[1] == 8 && found[2] == 0 && found[3] == 10 && found[4] == -5);
+    for (size_t places = 0; places < GADWEMOSH_FOUND; places++)
+        EXPECT(gadwemosh_point(net, MORE, 1, 1, 0, 0, found, places) == 11 && kept(found));
+    EXPECT(gadwemosh_point(net, 192, 1, 1, 0, 0, found, FOUND_MORE) == 11 && kept(found));
+    EXPECT(gadwemosh_point(net, MORE, 1, 1, 1, 0, found, FOUND_MORE) == 8 && kept(found));
+    EXPECT(gadwemosh_point(net, MORE, 0, 0, 0, 0, found, FOUND_MORE) == 9 && kept(found));
+    EXPECT(gadwemosh_point(net, MORE, 1, 1, 0, 0, found, FOUND_MORE) == 0 && same(net, old));
+    EXPECT(finds(found, 6, 8, 0, 10));
+    blank(found);
+    EXPECT(gadwemosh_point(net, GADWEMOSH_NET, 1, 1, 0, 0, found, GADWEMOSH_FOUND) == 0 && finds(found, 6, 8, 0, 10));
     gadwemosh_first(2, 2, 0, patch_frame, 9, patch, 180, net, MORE);
-    EXPECT(gadwemosh_point(net, GADWEMOSH_NET, 1, 1, 1, 0, found, 4) == 0);
-    EXPECT(found[0] == 6 && found[1] == 6 && found[2] == 2 && found[3] == 18 && found[4] == -5);
-    EXPECT(gadwemosh_point(net, GADWEMOSH_NET, 1, 1, 1, 1, found, 4) == 8 && found[0] == 6);
+    EXPECT(gadwemosh_point(net, GADWEMOSH_NET, 1, 1, 1, 0, found, GADWEMOSH_FOUND) == 0 && finds(found, 6, 6, 2, 18));
+    EXPECT(gadwemosh_point(net, GADWEMOSH_NET, 1, 1, 1, 1, found, GADWEMOSH_FOUND) == 8 && finds(found, 6, 6, 2, 18));
 }
 
 static void test_point_rect(void) {
     /* degrees 1 and 1, entries (0, 0), (0, 1), (1, 0), (1, 1) */
     const int64_t signs[2][4] = {{1, 1, -1, -1}, {1, -1, 1, -1}};
-    int64_t net[MORE], old[MORE], found[5] = {-1, -2, -3, -4, -5};
+    int64_t net[MORE], old[MORE], found[FOUND_MORE];
     fill(net);
+    blank(found);
     gadwemosh_first(3, 2, 1, rect_frame, 9, rect, 180, net, MORE);
     memcpy(old, net, sizeof net);
-    EXPECT(gadwemosh_point(net, MORE, 1, 1, 1, 1, found, 3) == 11 && found[0] == -1);
-    EXPECT(gadwemosh_point(net, MORE, 1, 1, 1, 4097, found, 5) == 8 && found[0] == -1);
-    EXPECT(gadwemosh_point(net, MORE, 1, 1, -4097, 1, found, 5) == 8 && found[0] == -1);
+    for (size_t places = 0; places < GADWEMOSH_FOUND; places++)
+        EXPECT(gadwemosh_point(net, MORE, 1, 1, 1, 1, found, places) == 11 && kept(found));
+    EXPECT(gadwemosh_point(net, MORE, 1, 1, 1, 4097, found, FOUND_MORE) == 8 && kept(found));
+    EXPECT(gadwemosh_point(net, MORE, 1, 1, -4097, 1, found, FOUND_MORE) == 8 && kept(found));
     /* a pair without weight, and a weight outside before it */
-    EXPECT(gadwemosh_point(net, MORE, 0, 0, 1, 1, found, 5) == 9 && found[0] == -1);
-    EXPECT(gadwemosh_point(net, MORE, 1, 1, 0, 0, found, 5) == 9 && found[0] == -1);
-    EXPECT(gadwemosh_point(net, MORE, 0, 0, 0, 0, found, 5) == 9 && found[0] == -1);
-    EXPECT(gadwemosh_point(net, MORE, 0, 0, 1, 4097, found, 5) == 8 && found[0] == -1);
-    EXPECT(gadwemosh_point(net, MORE, 1, 2, 3, -1, found, 5) == 0 && same(net, old));
-    EXPECT(found[0] == 8 && found[1] == 48 && found[2] == 72 && found[3] == 18 && found[4] == -5);
+    EXPECT(gadwemosh_point(net, MORE, 0, 0, 1, 1, found, FOUND_MORE) == 9 && kept(found));
+    EXPECT(gadwemosh_point(net, MORE, 1, 1, 0, 0, found, FOUND_MORE) == 9 && kept(found));
+    EXPECT(gadwemosh_point(net, MORE, 0, 0, 0, 0, found, FOUND_MORE) == 9 && kept(found));
+    EXPECT(gadwemosh_point(net, MORE, 0, 0, 1, 4097, found, FOUND_MORE) == 8 && kept(found));
+    EXPECT(gadwemosh_point(net, MORE, 1, 2, 3, -1, found, FOUND_MORE) == 0 && same(net, old));
+    EXPECT(finds(found, 8, 48, 72, 18));
     /* at the vertices the point is an entry */
-    EXPECT(gadwemosh_point(net, MORE, 0, 1, 1, 0, found, 5) == 0);
+    EXPECT(gadwemosh_point(net, MORE, 0, 1, 1, 0, found, FOUND_MORE) == 0);
     EXPECT(memcmp(found, net + GADWEMOSH_RECT_PLACE(1, 2, 0), 4 * sizeof *found) == 0);
-    /* the first pair's point is named with the second pair's vertices, and not the other way round */
+    /* the first pair's point is named with the second pair's vertices, and not the other way round; the
+     * point is four zeros, which a patch has for the numbers projected too */
     net[1] = 1, net[2] = 1;
     for (int way = 0; way < 2; way++) {
         for (int i = 0; i < 16; i++)
             net[GADWEMOSH_ENTRIES + i] = signs[way][i / 4] * GADWEMOSH_LARGEST;
-        found[0] = -1;
-        EXPECT(gadwemosh_point(net, MORE, 1, 1, 1, 1, found, 5) == (way == 0 ? 0 : 10));
-        EXPECT(found[0] == (way == 0 ? 0 : -1));
+        blank(found);
+        EXPECT(gadwemosh_point(net, MORE, 1, 1, 1, 1, found, FOUND_MORE) == (way == 0 ? 0 : 10));
+        EXPECT(way == 0 ? finds(found, 0, 0, 0, 0) : kept(found));
     }
 }
 
@@ -426,17 +465,19 @@ static uint8_t replace_by_itself(int64_t *net, int vertex) {
 }
 
 static uint8_t point_of_ones(const int64_t *net, int64_t *found) {
-    return gadwemosh_point(net, MORE, 1, 1, net[0] != GADWEMOSH_CURVE, net[0] == GADWEMOSH_RECT, found, 4);
+    return gadwemosh_point(net, MORE, 1, 1, net[0] != GADWEMOSH_CURVE, net[0] == GADWEMOSH_RECT, found,
+                           GADWEMOSH_FOUND);
 }
 
 /* A number in one place of a handed net, for every call on it: `answer` is 12 where it is a number of the frame
  * that is beyond the limit, and else 0. A point and a vertex replaced by itself leave the net as it was. */
 static void test_frame_number(const int64_t *good, int place, int64_t number, int answer) {
-    int64_t net[MORE], old[MORE], found[4] = {-1, -1, -1, -1};
+    int64_t net[MORE], old[MORE], found[FOUND_MORE];
     memcpy(old, good, sizeof old);
     old[place] = number;
     memcpy(net, old, sizeof net);
-    EXPECT(point_of_ones(net, found) == answer && same(net, old) && (found[3] == -1) == (answer != 0));
+    blank(found);
+    EXPECT(point_of_ones(net, found) == answer && same(net, old) && kept(found) == (answer != 0));
     for (int vertex = 1; vertex <= vertices_of(net); vertex++) {
         EXPECT(replace_by_itself(net, vertex) == answer && same(net, old));
         EXPECT(gadwemosh_move(net, MORE, GADWEMOSH_FLIP, (uint8_t)vertex, 0, 0, 0, 0) == answer);
@@ -466,32 +507,33 @@ static void test_handed_frames(void) {
 /* With every cause at once, and one taken away after the other: 11, 4, 10 of the entries, 8, 9, 12, 10 of the
  * size. */
 static void test_frame_order(void) {
-    int64_t nets[3][MORE], net[MORE], old[MORE], found[4] = {-1, -1, -1, -1};
+    int64_t nets[3][MORE], net[MORE], old[MORE], found[FOUND_MORE];
     make_nets(nets);
+    blank(found);
     memcpy(net, nets[0], sizeof net);
     net[1] = 0, net[3] = INT64_MIN, net[12] = GADWEMOSH_LARGEST + 1;
     memcpy(old, net, sizeof net);
     EXPECT(gadwemosh_move(net, 192, 1, 3, 0, 4096, 0, 0) == 11 && same(net, old));
-    EXPECT(gadwemosh_point(net, MORE, 0, 0, 1, 0, found, 3) == 11 && found[0] == -1);
+    EXPECT(gadwemosh_point(net, MORE, 0, 0, 1, 0, found, 7) == 11 && kept(found));
     EXPECT(gadwemosh_move(net, MORE, 1, 3, 0, 4096, 0, 0) == 4 && same(net, old));
-    EXPECT(gadwemosh_point(net, MORE, 0, 0, 1, 0, found, 4) == 4 && found[0] == -1);
+    EXPECT(gadwemosh_point(net, MORE, 0, 0, 1, 0, found, FOUND_MORE) == 4 && kept(found));
     net[1] = 2;
     memcpy(old, net, sizeof net);
     EXPECT(gadwemosh_move(net, MORE, 1, 3, 0, 4096, 0, 0) == 10 && same(net, old));
-    EXPECT(gadwemosh_point(net, MORE, 0, 0, 1, 0, found, 4) == 10 && found[0] == -1);
+    EXPECT(gadwemosh_point(net, MORE, 0, 0, 1, 0, found, FOUND_MORE) == 10 && kept(found));
     net[12] = GADWEMOSH_LARGEST;
     memcpy(old, net, sizeof net);
     EXPECT(gadwemosh_move(net, MORE, 1, 3, 0, 4096, 0, 0) == 8 && same(net, old));
-    EXPECT(gadwemosh_point(net, MORE, 0, 0, 1, 0, found, 4) == 8 && found[0] == -1);
+    EXPECT(gadwemosh_point(net, MORE, 0, 0, 1, 0, found, FOUND_MORE) == 8 && kept(found));
     EXPECT(gadwemosh_move(net, MORE, 1, 1, 0, 4096, 0, 0) == 9 && same(net, old));
-    EXPECT(gadwemosh_point(net, MORE, 0, 0, 0, 0, found, 4) == 9 && found[0] == -1);
+    EXPECT(gadwemosh_point(net, MORE, 0, 0, 0, 0, found, FOUND_MORE) == 9 && kept(found));
     EXPECT(gadwemosh_move(net, MORE, 1, 1, 2, 0, 0, 0) == 12 && same(net, old));
-    EXPECT(gadwemosh_point(net, MORE, 2, 0, 0, 0, found, 4) == 12 && found[0] == -1);
+    EXPECT(gadwemosh_point(net, MORE, 2, 0, 0, 0, found, FOUND_MORE) == 12 && kept(found));
     /* 2 r is beyond the limit: a replace is refused for that, and a point for its size */
     net[3] = GADWEMOSH_LARGEST;
     memcpy(old, net, sizeof net);
     EXPECT(gadwemosh_move(net, MORE, 1, 1, 2, 0, 0, 0) == 12 && same(net, old));
-    EXPECT(gadwemosh_point(net, MORE, 2, 0, 0, 0, found, 4) == 10 && found[0] == -1);
+    EXPECT(gadwemosh_point(net, MORE, 2, 0, 0, 0, found, FOUND_MORE) == 10 && kept(found));
     net[3] = GADWEMOSH_LARGEST / 2;
     memcpy(old, net, sizeof net);
     EXPECT(gadwemosh_move(net, MORE, 1, 1, 2, 0, 0, 0) == 10 && same(net, old));
@@ -525,8 +567,9 @@ static void test_new_vertices(void) {
     const int64_t L = GADWEMOSH_LARGEST;
     const int64_t line[4] = {0, 1, L, -L}, triangle[9] = {1, 0, 1, 0, 1, 1, 0, 0, L};
     const int64_t even[9] = {L, L, L, L, L, L, L, L, L}, pairs[8] = {L, L, L, L - 1, L, L, -1, -2};
-    int64_t net[MORE], found[4];
+    int64_t net[MORE], found[FOUND_MORE];
     make_zero(net, 1, line);
+    blank(found);
     test_replace(net, 2, WEIGHTS(1, 1, 0), 0, VERTEX(L, 1 - L));
     test_replace(net, 2, WEIGHTS(-1, -1, 0), 0, VERTEX(-L, L - 1));
     test_replace(net, 2, WEIGHTS(0, -1, 0), 0, VERTEX(-L, L));
@@ -537,7 +580,7 @@ static void test_new_vertices(void) {
     test_replace(net, 1, WEIGHTS(4096, -1, 0), 12, NULL);
     test_replace(net, 1, WEIGHTS(4096, 1, 0), 0, VERTEX(L, 4096 - L));
     /* the parameter point of a point is not judged */
-    EXPECT(gadwemosh_point(net, MORE, 4096, 4096, 0, 0, found, 4) == 0 && found[0] == 0 && found[3] == 0);
+    EXPECT(gadwemosh_point(net, MORE, 4096, 4096, 0, 0, found, FOUND_MORE) == 0 && leaves(found, 0, 0, 0, 0));
     make_zero(net, 2, triangle);
     test_replace(net, 3, WEIGHTS(1, -1, 1), 0, VERTEX(1, -1, L));
     test_replace(net, 3, WEIGHTS(-1, 0, 1), 0, VERTEX(-1, 0, L - 1));
@@ -569,15 +612,16 @@ static void test_new_vertices(void) {
 /* Calls on a net whose largest component is `right` and that has any number in its place: a replace puts the right
  * one there, a flip hands on what it was given, and a point and refused calls leave it. */
 static void test_claim(const int64_t *good, int64_t right, int64_t claim) {
-    int64_t net[MORE], old[MORE], found[4] = {-1, -1, -1, -1};
+    int64_t net[MORE], old[MORE], found[FOUND_MORE];
     memcpy(old, good, sizeof old);
     old[GADWEMOSH_LARGEST_PLACE] = claim;
     memcpy(net, old, sizeof net);
+    blank(found);
     EXPECT(gadwemosh_move(net, 192, GADWEMOSH_REPLACE, 1, 1, 0, 0, 0) == 11 && same(net, old));
     EXPECT(gadwemosh_move(net, MORE, 3, 1, 1, 0, 0, 0) == 8 && same(net, old));
     EXPECT(gadwemosh_move(net, MORE, GADWEMOSH_FLIP, 1, 1, 0, 0, 0) == 8 && same(net, old));
     EXPECT(gadwemosh_move(net, MORE, GADWEMOSH_REPLACE, 1, 0, 1, 0, 0) == 9 && same(net, old));
-    EXPECT(point_of_ones(net, found) == 0 && same(net, old) && found[3] != -1);
+    EXPECT(point_of_ones(net, found) == 0 && same(net, old) && !kept(found));
     for (int vertex = 1; vertex <= vertices_of(net); vertex++) {
         EXPECT(gadwemosh_move(net, MORE, GADWEMOSH_FLIP, (uint8_t)vertex, 0, 0, 0, 0) == 0 && !same(net, old));
         EXPECT(net[GADWEMOSH_LARGEST_PLACE] == claim);
@@ -733,6 +777,226 @@ static void test_project(void) {
     EXPECT(gadwemosh_project(0, -GADWEMOSH_LARGEST, GADWEMOSH_LARGEST, 0, &outcome, bits, 3, direction, 4) == 0);
     EXPECT(outcome == GADWEMOSH_DIRECTION && direction[0] == 0 && direction[1] == 1 && direction[2] == -1);
     EXPECT(direction[3] == GADWEMOSH_LARGEST && direction[4] == 9);
+}
+
+/* What projecting eight numbers must answer and tell, into buffers of exactly the places that it wants: a
+ * refusal and the other outcomes leave the places that are not theirs. */
+static void test_found(const int64_t *found, int number, int outcome, const uint64_t *bits, const int64_t *direction) {
+    const uint64_t no_bits[4] = {1, 2, 3, 4};
+    const int64_t no_direction[5] = {5, 6, 7, 8, 9};
+    uint64_t told_bits[4];
+    int64_t told[5];
+    uint8_t told_outcome = 77;
+    memcpy(told_bits, no_bits, sizeof told_bits);
+    memcpy(told, no_direction, sizeof told);
+    EXPECT(gadwemosh_project_found(found, GADWEMOSH_FOUND, &told_outcome, told_bits, 3, told, 4) == number);
+    EXPECT(told_outcome == outcome && told_bits[3] == 4 && told[4] == 9);
+    EXPECT(memcmp(told_bits, outcome == GADWEMOSH_FINITE ? bits : no_bits, 3 * sizeof *bits) == 0);
+    EXPECT(memcmp(told, outcome == GADWEMOSH_DIRECTION ? direction : no_direction, 4 * sizeof *direction) == 0);
+}
+#define BITS(x, y, z) ((const uint64_t[]){UINT64_C(x), UINT64_C(y), UINT64_C(z)})
+
+/* Buffers of these lengths, of which one is too short: 11, outcome 0, and nothing is written. The numbers
+ * projected are out of range, which is not told. */
+static void test_found_short(size_t found_length, size_t bits_length, size_t direction_length) {
+    const int64_t found[FOUND_MORE] = {0, 0, 0, 0, INT64_MIN, 8, 0, 10, 7};
+    uint8_t outcome = 77;
+    uint64_t bits[4] = {1, 2, 3, 4};
+    int64_t direction[5] = {5, 6, 7, 8, 9};
+    EXPECT(gadwemosh_project_found(found, found_length, &outcome, bits, bits_length, direction,
+                                   direction_length) == 11);
+    EXPECT(outcome == 0);
+    EXPECT(bits[0] == 1 && bits[1] == 2 && bits[2] == 3 && bits[3] == 4);
+    EXPECT(direction[0] == 5 && direction[1] == 6 && direction[2] == 7 && direction[3] == 8 && direction[4] == 9);
+}
+
+static void test_project_found(void) {
+    const int64_t L = GADWEMOSH_LARGEST, outside[] = {L + 1, -L - 1, INT64_MAX, INT64_MIN};
+    const int64_t any[] = {1, -1, L + 1, INT64_MAX, INT64_MIN};
+    for (size_t places = 0; places < GADWEMOSH_FOUND; places++)
+        test_found_short(places, 4, 5);
+    for (size_t places = 0; places < 3; places++)
+        test_found_short(FOUND_MORE, places, 5);
+    for (size_t places = 0; places < 4; places++)
+        test_found_short(FOUND_MORE, 4, places);
+    test_found_short(0, 0, 0);
+    /* each of the second four beyond the limit, and at it; the first four are not judged */
+    for (int place = 4; place < 8; place++)
+        for (int i = 0; i < 4; i++) {
+            int64_t found[8] = {outside[i], 0, 0, 0, 6, 4, 2, 2};
+            found[place] = outside[i];
+            test_found(found, 10, 0, NULL, NULL);
+            found[place] = i % 2 == 0 ? L : -L;
+            EXPECT(gadwemosh_project_found(found, 8, &(uint8_t){0}, (uint64_t[3]){0}, 3, (int64_t[4]){0}, 4) == 0);
+        }
+    /* a direction has length 1 exactly where the first four are zeros, whichever of them is not and
+     * whatever it is */
+    for (int zeros = 0; zeros < 16; zeros++)
+        for (int i = 0; i < 5; i++) {
+            int64_t found[8] = {0, 0, 0, 0, -6, 4, 0, 0};
+            for (int place = 0; place < 4; place++)
+                found[place] = zeros >> place & 1 ? any[i] : 0;
+            test_found(found, 0, GADWEMOSH_DIRECTION, NULL, FOUR(3, -2, 0, zeros == 0 ? 1 : 2));
+            /* a finite point and nowhere do not depend on them: 6 / 10, 8 / 10 and 0 */
+            memcpy(found + 4, FOUR(6, 8, 0, 10), 4 * sizeof *found);
+            test_found(found, 0, GADWEMOSH_FINITE, BITS(0x3fe3333333333333, 0x3fe999999999999a, 0), NULL);
+            memcpy(found + 4, FOUR(0, 0, 0, 0), 4 * sizeof *found);
+            test_found(found, 0, GADWEMOSH_NOWHERE, NULL, NULL);
+        }
+    /* the largest divisor is no length either */
+    test_found((const int64_t[]){0, 0, 0, 0, 0, -L, L, 0}, 0, GADWEMOSH_DIRECTION, NULL, FOUR(0, 1, -1, 1));
+    test_found((const int64_t[]){0, 0, 0, 1, 0, -L, L, 0}, 0, GADWEMOSH_DIRECTION, NULL, FOUR(0, 1, -1, L));
+}
+
+/* Common zeros with numbers worked out by hand: what is left at q, times the other vertex's value of the
+ * linear form to the order, times the scale over the binomial. */
+static void test_zeros_by_hand(void) {
+    /* the circle at degree 4, times (2 T - Z)(3 T - Z); 12 / 4 = 3
+     * q = (1, 2): the circle is (3, 4, 0, 5), 3 T - Z is 1, and 2 T - Z is -1 at r
+     * q = (1, 3): the circle is (8, 6, 0, 10), 2 T - Z is -1, and 3 T - Z is -1 at r */
+    const int64_t quartic[180] = {1, 0, 0, 1, -5, 2, 0, -5, 5, -10, 0, 7, 5, 12, 0, -5, -6, 0, 0, 6};
+    /* (6, 4, 0, 0) times (2 T - Z)^3 = 8 T^3 - 12 T^2 Z + 6 T Z^2 - Z^3, which is -1 at r, and the scale 3 */
+    const int64_t cube[180] = {-6, -4, 0, 0, 36, 24, 0, 0, -72, -48, 0, 0, 48, 32, 0, 0};
+    /* x = T^2 and w = T Z: T vanishes at r and is 1 at s; (T, Z) = (0, 3) is left at 3 r, and 2 / 2 = 1 */
+    const int64_t at_r[180] = {0, 0, 0, 0, 0, 0, 0, 1, 1};
+    /* x = (T - Z) T, w = (T - Z) Z: T - Z vanishes at s and is -1 at r; (2, 2) is left at 2 s; 2 / 2 = 1 */
+    const int64_t at_s[180] = {0, 0, 0, -1, -1, 0, 0, 1, 1};
+    const int64_t none[180] = {0};
+    int64_t net[MORE], old[MORE], found[FOUND_MORE];
+    fill(net);
+    blank(found);
+    EXPECT(gadwemosh_first(1, 4, 0, circle_frame, 9, quartic, 180, net, MORE) == 0);
+    memcpy(old, net, sizeof net);
+    EXPECT(gadwemosh_point(net, MORE, 1, 1, 0, 0, found, 7) == 11 && kept(found));
+    EXPECT(gadwemosh_point(net, MORE, 1, 1, 0, 1, found, FOUND_MORE) == 8 && kept(found));
+    EXPECT(gadwemosh_point(net, MORE, 1, 1, 0, 0, found, FOUND_MORE) == 0 && same(net, old));
+    EXPECT(leaves(found, -9, -12, 0, -15));
+    test_found(found, 0, GADWEMOSH_FINITE, BITS(0x3fe3333333333333, 0x3fe999999999999a, 0), NULL);
+    EXPECT(gadwemosh_point(net, MORE, 2, 1, 0, 0, found, GADWEMOSH_FOUND) == 0 && leaves(found, 24, 18, 0, 30));
+    test_found(found, 0, GADWEMOSH_FINITE, BITS(0x3fe999999999999a, 0x3fe3333333333333, 0), NULL);
+    /* the same factor at -2 q: three copies of q are in it */
+    EXPECT(gadwemosh_point(net, MORE, -2, -2, 0, 0, found, GADWEMOSH_FOUND) == 0 && leaves(found, 72, 96, 0, 120));
+    EXPECT(gadwemosh_first(1, 3, 0, circle_frame, 9, cube, 180, net, MORE) == 0);
+    EXPECT(gadwemosh_point(net, MORE, 1, 1, 0, 0, found, GADWEMOSH_FOUND) == 0 && leaves(found, -18, -12, 0, 0));
+    test_found(found, 0, GADWEMOSH_DIRECTION, NULL, FOUR(3, 2, 0, 1));
+    EXPECT(gadwemosh_point(net, MORE, 1, 0, 0, 0, found, GADWEMOSH_FOUND) == 0 && finds(found, -18, -12, 0, 0));
+    test_found(found, 0, GADWEMOSH_DIRECTION, NULL, FOUR(3, 2, 0, 6));
+    EXPECT(gadwemosh_first(1, 2, 0, circle_frame, 9, at_r, 180, net, MORE) == 0);
+    EXPECT(gadwemosh_point(net, MORE, 3, 0, 0, 0, found, GADWEMOSH_FOUND) == 0 && leaves(found, 0, 0, 0, 3));
+    test_found(found, 0, GADWEMOSH_FINITE, BITS(0, 0, 0), NULL);
+    EXPECT(gadwemosh_first(1, 2, 0, circle_frame, 9, at_s, 180, net, MORE) == 0);
+    EXPECT(gadwemosh_point(net, MORE, 0, 2, 0, 0, found, GADWEMOSH_FOUND) == 0 && leaves(found, -2, 0, 0, -2));
+    test_found(found, 0, GADWEMOSH_FINITE, BITS(0x3ff0000000000000, 0, 0), NULL);
+    for (uint8_t m = 1; m <= 10; m++) {
+        EXPECT(gadwemosh_first(1, m, 0, circle_frame, 9, none, 180, net, MORE) == 0);
+        EXPECT(gadwemosh_point(net, MORE, 1, 1, 0, 0, found, GADWEMOSH_FOUND) == 0 && leaves(found, 0, 0, 0, 0));
+        EXPECT(gadwemosh_point(net, MORE, 1, 0, 0, 0, found, GADWEMOSH_FOUND) == 0 && leaves(found, 0, 0, 0, 0));
+        test_found(found, 0, GADWEMOSH_NOWHERE, NULL, NULL);
+    }
+}
+
+/* The values of four polynomials at (t, z). */
+static void values_at(const int64_t *coefficients, int degree, int64_t t, int64_t z, int64_t *values) {
+    for (int c = 0; c < 4; c++) {
+        values[c] = 0;
+        for (int k = 0; k <= degree; k++) {
+            int64_t term = coefficients[4 * k + c];
+            for (int i = 0; i < degree; i++)
+                term *= i < k ? t : z;
+            values[c] += term;
+        }
+    }
+}
+
+/* Multiplies four polynomials by the linear form z T - t Z, which vanishes at (t, z), up to the degree. */
+static void times_form(int64_t *coefficients, int degree, int64_t t, int64_t z) {
+    for (int i = 4 * degree + 3; i >= 0; i--)
+        coefficients[i] = z * (i < 4 ? 0 : coefficients[i - 4]) - t * coefficients[i];
+}
+
+/* What was found at a common zero lies where what is left there does, but for the length. */
+static void test_lies_there(const int64_t *found, const int64_t *left) {
+    uint8_t outcome, bare;
+    uint64_t bits[3] = {1, 2, 3}, bare_bits[3] = {1, 2, 3};
+    int64_t direction[4] = {1, 2, 3, 4}, bare_direction[4] = {1, 2, 3, 4};
+    EXPECT(gadwemosh_project(left[0], left[1], left[2], left[3], &bare, bare_bits, 3, bare_direction, 4) == 0);
+    EXPECT(gadwemosh_project_found(found, GADWEMOSH_FOUND, &outcome, bits, 3, direction, 4) == 0 && outcome == bare);
+    EXPECT(memcmp(bits, bare_bits, sizeof bits) == 0 && memcmp(direction, bare_direction, 3 * sizeof *direction) == 0);
+    EXPECT(direction[3] == (outcome == GADWEMOSH_DIRECTION ? 1 : 4));
+}
+
+/* Four polynomials of degree m - order, times the linear form that vanishes at q = (s, r + s) to the order.
+ * The form is -s at r = (0, 1) and r at s = (1, 1). */
+static void test_zero(int m, int order, int64_t r, int64_t s) {
+    static const int64_t scales[10] = {1, 2, 3, 12, 10, 60, 105, 280, 252, 2520};
+    int64_t coefficients[180] = {0}, left[4], net[MORE], found[FOUND_MORE];
+    int64_t form = s != 0 ? -s : r, binomial = 1, factor = scales[m - 1];
+    int rest = m - order;
+    /* x = Z^rest and y = T^rest, so something is left wherever q is; z has all monomials, w too or none */
+    coefficients[0] = 1, coefficients[4 * rest + 1] = 1;
+    for (int k = 0; k <= rest; k++)
+        coefficients[4 * k + 2] = k - 2, coefficients[4 * k + 3] = (m + order) % 3 == 0 ? 0 : 3 - k;
+    values_at(coefficients, rest, s, r + s, left);
+    for (int i = 0; i < order; i++) {
+        times_form(coefficients, m, s, r + s);
+        binomial = binomial * (m - i) / (i + 1), factor *= form;
+    }
+    factor /= binomial;
+    fill(net);
+    blank(found);
+    EXPECT(gadwemosh_first(1, (uint8_t)m, 0, circle_frame, 9, coefficients, 180, net, MORE) == 0);
+    EXPECT(gadwemosh_point(net, MORE, r, s, 0, 0, found, FOUND_MORE) == 0);
+    EXPECT(leaves(found, factor * left[0], factor * left[1], factor * left[2], factor * left[3]));
+    test_lies_there(found, left);
+}
+
+/* Every order at every degree, at points between the vertices, beyond them and at each of them. */
+static void test_zeros(void) {
+    const int64_t weights[][2] = {{1, 1}, {1, 0}, {0, 1}, {2, -1}, {-1, 2}, {-1, -1}, {-2, 0}, {0, -2}, {1, -1}};
+    for (int m = 1; m <= 10; m++)
+        for (int order = 1; order <= m; order++)
+            for (size_t i = 0; i < sizeof weights / sizeof *weights; i++)
+                test_zero(m, order, weights[i][0], weights[i][1]);
+}
+
+/* A handed net that comes from no record: its frame has determinant 0, or is four zeros. In the weights of
+ * its vertices, a and b, it is x = (a - b)(a + 3 b), y = -2 (a - b) a and w = 2 (a - b)(a + b). At (1, 1)
+ * what is left is (4, -2, 0, 4); a - b is 1 at r, and the binomial is 2. */
+static void test_handed_zero(void) {
+    const int64_t entries[12] = {1, -2, 0, 2, 1, 1, 0, 0, -3, 0, 0, -2}, frames[2][4] = {{1, 2, 2, 4}, {0, 0, 0, 0}};
+    int64_t net[MORE], found[FOUND_MORE];
+    for (int i = 0; i < 2; i++) {
+        fill(net);
+        blank(found);
+        gadwemosh_first(1, 2, 0, circle_frame, 9, circle, 180, net, MORE);
+        memcpy(net + GADWEMOSH_FRAME_PLACE, frames[i], sizeof frames[i]);
+        memcpy(net + GADWEMOSH_ENTRIES, entries, sizeof entries);
+        EXPECT(gadwemosh_point(net, MORE, 1, 1, 0, 0, found, FOUND_MORE) == 0 && leaves(found, 2, -1, 0, 2));
+        test_found(found, 0, GADWEMOSH_FINITE, BITS(0x3ff0000000000000, 0xbfe0000000000000, 0), NULL);
+        /* a number of the frame, and an entry, beyond the limit */
+        blank(found);
+        net[GADWEMOSH_FRAME_PLACE] = GADWEMOSH_LARGEST + 1;
+        EXPECT(gadwemosh_point(net, MORE, 1, 1, 0, 0, found, FOUND_MORE) == 12 && kept(found));
+        net[GADWEMOSH_ENTRIES] = -GADWEMOSH_LARGEST - 1;
+        EXPECT(gadwemosh_point(net, MORE, 1, 1, 0, 0, found, FOUND_MORE) == 10 && kept(found));
+    }
+}
+
+/* On a patch the numbers projected at a common zero are the four zeros: x = U^2 and w = U V at t = (0, 0, 1),
+ * and T1 T2 in all four components at r1 = (0, 1). */
+static void test_patch_zeros(void) {
+    const int64_t triangle[180] = {[19] = 1, [20] = 1}, rectangle[180] = {[12] = 1, 1, 1, 1};
+    int64_t net[MORE], found[FOUND_MORE];
+    fill(net);
+    blank(found);
+    EXPECT(gadwemosh_first(2, 2, 0, patch_frame, 9, triangle, 180, net, MORE) == 0);
+    EXPECT(gadwemosh_point(net, MORE, 0, 0, 1, 0, found, FOUND_MORE) == 0 && finds(found, 0, 0, 0, 0));
+    test_found(found, 0, GADWEMOSH_NOWHERE, NULL, NULL);
+    fill(net);
+    blank(found);
+    EXPECT(gadwemosh_first(3, 1, 1, rect_frame, 9, rectangle, 180, net, MORE) == 0);
+    EXPECT(gadwemosh_point(net, MORE, 1, 0, 1, 1, found, FOUND_MORE) == 0 && finds(found, 0, 0, 0, 0));
+    test_found(found, 0, GADWEMOSH_NOWHERE, NULL, NULL);
 }
 
 /* What a lookup must answer and tell. */
@@ -948,6 +1212,19 @@ static void test_text_frame(void) {
     test_lengths(bytes, sizeof bytes, text);
 }
 
+/* The record of x = 6 (2 T - Z), y = 4 (2 T - Z), whose point at (1, 1) is a common zero. A direction found
+ * there has length 1. */
+static void test_text_zero(void) {
+    const char *text = "curve 1 1\nframe 0 1 1 1\n0 -6 -4 0 0\n1 6 4 0 0\nfar 3 2 0 1\n";
+    const int64_t line[8] = {-6, -4, 0, 0, 12, 8, 0, 0};
+    uint8_t bytes[58], *at = bytes;
+    memcpy(at, "\1\0\2\1\1\2\0\10\0\0\0\1\0\1\0\1\3\0\40", 19), at += 19;
+    for (int i = 0; i < 8; i++)
+        at = put(at, 4, line[i]);
+    memcpy(at, "\5\0\4\0\1\0\1", 7);
+    test_lengths(bytes, sizeof bytes, text);
+}
+
 /* The header's own arithmetic: the frame's numbers and the entries follow each other in order, four places for an
  * entry. */
 static void test_places(void) {
@@ -993,12 +1270,18 @@ int main(void) {
     test_largest_of_all();
     test_largest_along();
     test_project();
+    test_project_found();
+    test_zeros_by_hand();
+    test_zeros();
+    test_handed_zero();
+    test_patch_zeros();
     test_fields();
     test_optional_fields();
     test_fields_rect();
     test_text();
     test_text_rect();
     test_text_frame();
+    test_text_zero();
     test_places();
     printf("%d right, %d wrong\n", right, wrong);
     return wrong != 0;

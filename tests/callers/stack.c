@@ -1,11 +1,12 @@
 /* Measures how much stack each function takes, and fails where one takes more than GADWEMOSH_STACK.
  *
- * Each call is made on a stack of its own, every byte of which was set to one value before. The lowest byte
- * that has another value afterwards says how deep the call went. What is counted begins at the frame of the
- * function that makes the call, so it has the call's arguments in it. The inputs are the largest: a triangular
- * patch of degree 8 and a rectangular one of degrees 5 and 5, each with 32 moves and a point. Each call is made
- * twice and the second time is counted: at its first call of memcpy or memset a program may have them looked up
- * by the dynamic linker, which takes stack too. */
+ * Each call is made on a stack of its own, every byte of which was set to one value before. The lowest
+ * byte that has another value afterwards says how deep the call went. What is counted begins at the frame
+ * of the function that makes the call, so it has the call's arguments in it. The inputs are the largest: a
+ * curve of degree 10, whose point is a common zero, a triangular patch of degree 8 and a rectangular one
+ * of degrees 5 and 5, each with 32 moves and a point. Each call is made twice and the second time is
+ * counted: at its first call of memcpy or memset a program may have them looked up by the dynamic linker,
+ * which takes stack too. */
 #define _XOPEN_SOURCE 700
 #include "gadwemosh.h"
 
@@ -30,6 +31,7 @@ struct shape {
 };
 
 static const struct shape shapes[] = {
+    {"curve, common zero", GADWEMOSH_CURVE, 10, 0, GADWEMOSH_CURVE_ENTRIES(10), 2, {0, 1, 1, 1}, {0, 1, 0}},
     {"triangular", GADWEMOSH_PATCH, 8, 0, GADWEMOSH_PATCH_ENTRIES(8), 3, {1, 0, 1, 0, 1, 1, 0, 0, 1}, {0, 0, 1}},
     {"rectangular", GADWEMOSH_RECT, 5, 5, GADWEMOSH_RECT_ENTRIES(5, 5), 4, {0, 1, 1, 1, 1, 1, -1, 2}, {0, 1, 0}},
 };
@@ -37,7 +39,7 @@ static const struct shape shapes[] = {
 static const struct shape *shape;
 static uint8_t record[GADWEMOSH_LONGEST_RECORD];
 static size_t record_length;
-static int64_t net[GADWEMOSH_NET], coefficients[GADWEMOSH_COEFFICIENTS], found[4], direction[4];
+static int64_t net[GADWEMOSH_NET], coefficients[GADWEMOSH_COEFFICIENTS], found[GADWEMOSH_FOUND], direction[4];
 static uint64_t bits[3], offset, start, length;
 static uint8_t out[GADWEMOSH_LONGEST_TEXT], outcome, answer;
 
@@ -55,10 +57,21 @@ static void put_move(int vertex) {
         put(2, v == place ? 1 : 0);
 }
 
-static void make_record(void) {
-    record_length = 0;
+/* Some coefficients; those of a curve are others times 2 T - Z, which vanishes at r + s = (1, 2). */
+static void make_coefficients(void) {
+    int64_t old[GADWEMOSH_COEFFICIENTS] = {0};
     for (int i = 0; i < GADWEMOSH_COEFFICIENTS; i++)
         coefficients[i] = i % 7 - 3;
+    if (shape->kind != GADWEMOSH_CURVE)
+        return;
+    memcpy(old, coefficients, 4 * shape->degree * sizeof *old);
+    for (int i = 0; i < GADWEMOSH_COEFFICIENTS; i++)
+        coefficients[i] = (i < 4 ? 0 : 2 * old[i - 4]) - old[i];
+}
+
+static void make_record(void) {
+    record_length = 0;
+    make_coefficients();
     put(1, GADWEMOSH_FIELD_KIND), put(2, shape->second == 0 ? 2 : 3);
     put(1, shape->kind), put(1, shape->degree);
     if (shape->second != 0)
@@ -101,11 +114,18 @@ static void call_move_last(void) {
 }
 
 static void call_point(void) {
-    answer = gadwemosh_point(net, GADWEMOSH_NET, 1, 1, 1, shape->vertices == 4, found, 4);
+    int64_t t = shape->vertices > 2, u = shape->vertices > 3;
+    answer = gadwemosh_point(net, GADWEMOSH_NET, 1, 1, t, u, found, GADWEMOSH_FOUND);
 }
 
 static void call_project(void) {
     answer = gadwemosh_project(3, 4, 6, 0, &outcome, bits, 3, direction, 4);
+}
+
+/* A direction at a common zero. */
+static void call_project_found(void) {
+    const int64_t numbers[GADWEMOSH_FOUND] = {0, 0, 0, 0, 3, 4, 6, 0};
+    answer = gadwemosh_project_found(numbers, GADWEMOSH_FOUND, &outcome, bits, 3, direction, 4);
 }
 
 static void call_text(void) {
@@ -128,6 +148,7 @@ static const struct {
     {"move, last vertex", call_move_last},
     {"point", call_point},
     {"project", call_project},
+    {"project found", call_project_found},
     {"text", call_text},
     {"text, made elsewhere", call_text_made_elsewhere},
 };
@@ -151,6 +172,13 @@ static long stack_of(int which) {
     return (long)(begin - (stack + low));
 }
 
+/* The point that was found is a common zero with something left, or no common zero. */
+static int point_meant(void) {
+    const int64_t zeros[4] = {0};
+    int at_zero = memcmp(found, zeros, sizeof zeros) == 0, left = memcmp(found + 4, zeros, sizeof zeros) != 0;
+    return at_zero == (shape->kind == GADWEMOSH_CURVE) && left;
+}
+
 /* Measures all functions on one input, and says how many were refused or took too much. */
 static int measure(void) {
     int wrong = 0;
@@ -169,6 +197,10 @@ static int measure(void) {
             wrong++;
             printf("    more than the %d that gadwemosh.h states\n", GADWEMOSH_STACK);
         }
+    }
+    if (!point_meant()) {
+        wrong++;
+        printf("  not the point that was meant\n");
     }
     return wrong;
 }

@@ -1,6 +1,7 @@
 #!/usr/bin/env python3
 """An independent calculator for document 01 (01-scope.md) with requests E2 (length of a
-direction), E3 (rectangular patches) and E5 (the net knows its frame), exact integers only.
+direction), E3 (rectangular patches), E5 (the net knows its frame) and E7 (curves through a
+common zero), exact integers and fractions only.
 
     python3 calculator.py netprint  < record.bin     the text of netprint
     python3 calculator.py netprint -x < record.hex   the same, record in hex
@@ -9,10 +10,12 @@ direction), E3 (rectangular patches) and E5 (the net knows its frame), exact int
 Only polynomials and a frame are kept; every value is worked out anew from the
 sigma recurrence, and no net is ever moved.  `selftest` also moves nets, by
 trading each q for the weighted vertices until only entries are left, and
-compares the two ways.
+compares the two ways.  At a common zero of a curve the polynomials are divided;
+`selftest` compares that with polar values, which are not used for it elsewhere.
 """
 import struct
 import sys
+from fractions import Fraction
 from itertools import combinations_with_replacement, product
 from math import factorial, gcd
 
@@ -256,11 +259,73 @@ def project(p):
                                for c in (x, y, z))
     if (x, y, z) == (0, 0, 0):
         return ("nowhere",)
+    return ("far",) + reduced(x, y, z)
+
+
+def reduced(x, y, z):
+    """Three whole numbers, not all 0, as a direction, and their greatest common divisor."""
     g = gcd(gcd(abs(x), abs(y)), abs(z))
     d = [x // g, y // g, z // g]
     if next(c for c in d if c != 0) < 0:
         d = [-c for c in d]
-    return ("far",) + tuple(d) + (g,)
+    return tuple(d) + (g,)
+
+
+# ------------------------------------------------------- common zeros of a curve
+
+def value_of(f, q):
+    """A polynomial in T and Z, its coefficients at T^k Z^(n-k) with k rising, at q."""
+    T, Z = q
+    n = len(f) - 1
+    return sum(a * T ** k * Z ** (n - k) for k, a in enumerate(f))
+
+
+def divided(f, q):
+    """The quotient of f and the linear form t Z - z T, which vanishes at q = (t, z); None if it does
+    not divide f.  With the quotient g, the coefficient of f at T^k is t g_k - z g_(k-1)."""
+    t, z = q
+    n = len(f) - 1
+    g = [Fraction(0)] * (n + 2)              # g[k + 1] is g_k, so that g_(-1) and g_n are there, 0
+    if t != 0:
+        for k in range(n):
+            g[k + 1] = (f[k] + z * g[k]) / t
+        return g[1:n + 1] if -z * g[n] == f[n] else None
+    for k in range(n, 0, -1):
+        g[k] = -f[k] / z
+    return g[1:n + 1] if f[0] == 0 else None
+
+
+def left_at(coeffs, q):
+    """What is left at q of the four polynomials of a curve, once the linear form that vanishes there
+    has been taken out as long as it divides all four.  Of the zero curve four zeros are left."""
+    four = [[Fraction(a[c]) for a in coeffs] for c in range(4)]
+    while len(four[0]) > 1:
+        quotients = [divided(f, q) for f in four]
+        if None in quotients:
+            break
+        four = quotients
+    return [value_of(f, q) for f in four]
+
+
+def project_left(left):
+    """The projection of four fractions.  Any multiple of them reads alike, so a direction has no length
+    of its own: it is 1."""
+    x, y, z, w = left
+    if w != 0:
+        return ("at",) + tuple(float(c / w) for c in (x, y, z))
+    if (x, y, z) == (0, 0, 0):
+        return ("nowhere",)
+    common = 1
+    for c in (x, y, z):
+        common = lcm(common, c.denominator)
+    return ("far",) + reduced(*(int(c * common) for c in (x, y, z)))[:3] + (1,)
+
+
+def project_found(kind, degrees, coeffs, frame, weights, p):
+    """The projection of the point p, found at these weights."""
+    if kind != 1 or any(p):
+        return project(p)
+    return project_left(left_at(coeffs, combine(frame, weights)))
 
 
 # ------------------------------------------------------------------ the record
@@ -377,7 +442,7 @@ def run(r):
         if number:
             lines.append("point refused %d" % number)
         else:
-            pr = project(p)
+            pr = project_found(kind, degrees, coeffs, frame, r["point"], p)
             if pr[0] == "at":
                 lines.append("at " + " ".join(
                     struct.pack(">d", f).hex() for f in pr[1:]))
@@ -466,6 +531,62 @@ def value_at(kind, degrees, coeffs, qs):
     return out
 
 
+def first_polar(degrees, coeffs, frame, weights):
+    """The second way to what is projected at a common zero of a curve: the first that is not four zeros of
+    the polar values of m - d copies of q and d of r, d from 1 to m; of s where q's weight of s is 0."""
+    m, q, other = degrees[0], combine(frame, weights), frame[0 if weights[1] else 1]
+    values = (polar(1, degrees, coeffs, [[q] * (m - d) + [other] * d]) for d in range(1, m + 1))
+    return next((v for v in values if any(v)), (0, 0, 0, 0))
+
+
+def times_form(f, form):
+    """A polynomial in T and Z times the linear form form[0] T + form[1] Z."""
+    a, b = form
+    return [b * x + a * y for x, y in zip(f + [0], [0] + f)]
+
+
+def curve_through(rnd, m, order, q):
+    """Four polynomials of degree m that vanish at q to at least this order, some to a higher one; some
+    are 0, and beyond m all are."""
+    four = []
+    for _ in range(4):
+        own = min(m, order + rnd.choice((0, 0, 0, 1, 2)))
+        f = [rnd.randint(-3, 3) for _ in range(m - own + 1)]
+        if rnd.random() < 0.2 or order > m:
+            f = [0] * len(f)
+        for _ in range(own):
+            f = times_form(f, (q[1], -q[0]))
+        four.append(f)
+    return list(zip(*four))
+
+
+def check_common_zeros(check, rnd, count):
+    """The two ways to the projection at a common zero, on random curves and weights."""
+    came = set()
+    for _ in range(count):
+        m = rnd.randint(1, 10)
+        frame = ((0, 1), (0, 1))
+        while flat(1, frame):
+            frame = tuple((rnd.randint(-4, 4), rnd.randint(-4, 4)) for _ in range(2))
+        weights = rnd.choice(((rnd.choice((1, -2)), 0), (0, rnd.choice((1, -3))),
+                              (rnd.randint(1, 4), rnd.choice((-1, 1)) * rnd.randint(1, 4))))
+        order, q = rnd.randint(1, m + 1), combine(frame, weights)
+        coeffs = curve_through(rnd, m, order, q)
+        check("common zero", value_at(1, (m,), coeffs, [q]), [0] * 4)
+        numbers = first_polar((m,), coeffs, frame, weights)
+        left, pr = left_at(coeffs, q), project_found(1, (m,), coeffs, frame, weights, (0,) * 4)
+        check("multiples", [numbers[i] * left[j] for i in range(4) for j in range(4)],
+              [numbers[j] * left[i] for i in range(4) for j in range(4)])
+        check("some is left", any(numbers), any(any(a) for a in coeffs))
+        if numbers[3]:
+            want = ("at",) + tuple(c / numbers[3] if c else 0.0 for c in numbers[:3])
+        else:
+            want = ("far",) + reduced(*numbers[:3])[:3] + (1,) if any(numbers) else ("nowhere",)
+        check("projection", pr, want)
+        came.add(pr[0])
+    check("all three came", came, {"at", "far", "nowhere"})
+
+
 def selftest():
     import random
     ok = []
@@ -552,6 +673,14 @@ def selftest():
     check("12 before 10", judge_move(1, (1,), steep, g, 1, 2, (1, 17, 0))[0], 12)
     check("a flip at 2^48", judge_move(1, (1,), still, f, 2, 1, (0, 0, 0)), (0, ((0, -RANGE), (1, 1))))
     check("a point's q", judge_point(1, (1,), still, f, (4096, 1)), (0, (1, 0, 0, 0)))
+    # the circle times (2T - Z)(3T - 2Z): at its roots 1/2 and 2/3 it goes on
+    circle_4 = list(zip(*(times_form(times_form(list(f), (2, -1)), (3, -2)) for f in zip(*circle))))
+    for w, u in (((1, 1), Fraction(1, 2)), ((1, 2), Fraction(2, 3))):
+        check("found four", judge_point(1, (4,), circle_4, cf, w), (0, (0, 0, 0, 0)))
+        check("circle of degree 4", project_found(1, (4,), circle_4, cf, w, (0,) * 4),
+              ("at", float((1 - u * u) / (1 + u * u)), float(2 * u / (1 + u * u)), 0.0))
+    check("bare zeros", project((0, 0, 0, 0)), ("nowhere",))
+    check_common_zeros(check, random.Random(7), 600)
     # frame-based moves against net-based moves, and L x F(q), on random records
     rnd = random.Random(1)
     for _ in range(300):

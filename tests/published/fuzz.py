@@ -10,9 +10,9 @@ hex with both texts.
 
 --rules shows that the records can tell right from wrong: the calculator is run on the
 samples and on generated records with size rules that leave named polar values out
-(sizes.py), and with tags and lengths read without their high bits.  For each it prints on
-how many of both the text is another one, and it fails if one of the two is 0.  With
-nothing left out no text may differ.
+(sizes.py), with wrong projections at common zeros (zeros.py), and with tags and lengths
+read without their high bits.  For each it prints on how many of both the text is another
+one, and it fails if one of the two is 0.  With nothing left out no text may differ.
 """
 import os
 import random
@@ -22,6 +22,7 @@ import sys
 
 import calculator as calc
 import sizes
+import zeros
 from check import HERE, SAMPLES, hexbytes, load
 
 
@@ -109,7 +110,7 @@ def high_bits(rnd, b):
 
 
 def broken(rnd, b):
-    if rnd.random() < 0.25:
+    if rnd.random() < 0.35:
         return high_bits(rnd, b)
     b = bytearray(b)
     for _ in range(rnd.randint(1, 2)):
@@ -132,7 +133,10 @@ def generated(rnd):
     sort = rnd.random()
     if sort < 0.15:
         return sizes.one_beyond(rnd)
-    rec = growing(rnd) if sort < 0.3 else whole(rnd)
+    if sort < 0.3:
+        rec = zeros.through_zero(rnd)
+    else:
+        rec = growing(rnd) if sort < 0.43 else whole(rnd)
     return broken(rnd, rec) if rnd.random() < 0.35 else rec
 
 
@@ -155,12 +159,16 @@ class Reading:
 
 def wrong():
     """(name, calculator, whether it may differ on a record with this text).  A size rule that leaves
-    something out differs only where its call is refused 10.  No accepted record has a tag beyond 5 or a
-    length beyond 768, so one without the high bits reads it alike."""
+    something out differs only where its call is refused 10, and another projection only where a point is
+    found.  No accepted record has a tag beyond 5 or a length beyond 768, so one without the high bits reads
+    it alike."""
     for name, call, kind, *rest in sizes.rules():
         first = "move" if call == "replace" else call
         line = re.compile(r"%s (.*\n)*%s.* refused 10\n" % (calc.WORD[kind], first))
         yield name, sizes.Judging(call, kind, *rest), line.match
+    for where, name, rule in zeros.RULES:
+        found = {zeros.PATCH: r"(?s)(patch|rect).*\nnowhere"}.get(where, r"(?s)curve.*\n(at|far|nowhere)")
+        yield "%s: %s" % (where, name), zeros.Projecting(where, rule), re.compile(found).match
     for bits in range(3, 8):
         yield "tags modulo %d" % 2 ** bits, Reading(2 ** bits, 2 ** 16), re.compile("refused").match
     for bits in range(10, 16):

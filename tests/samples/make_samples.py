@@ -25,6 +25,7 @@ import order_samples
 import reading_samples
 import rect_samples
 import size_samples
+import zero_samples
 from fields import FLP, REPL, f1, f2, f3, f4, f5, field
 
 ALL = []
@@ -503,7 +504,8 @@ pt("q-patch-nowhere", (0, 1, 0), "nowhere\n", "patch, all four polynomials vanis
 pt("q-patch-4096", (4096, 0, -4096), "nowhere\n", "patch, weights 4096 and -4096 pass",
    P, PHEAD, PNET)
 LIN3 = f1(1, 1) + f2(1, 0, 0, 1) + f3((0, 0, 0, 0), (7, 7, 7, 7))
-pt("q-nowhere", (0, 1), "nowhere\n", "all four polynomials vanish at s",
+pt("q-nowhere", (0, 1), "at 3ff0000000000000 3ff0000000000000 3ff0000000000000\n",
+   "all four polynomials are 7T and vanish at s: 7 7 7 7 is left there (E7), where a patch is nowhere",
    LIN3, "curve 1 1\n", "0 7 7 7 7\n1 0 0 0 0\n")
 # w negative and a zero numerator: x = 0, y = T, z = Z, w = -T - Z over (1,0), (0,1)
 LIN4 = f1(1, 1) + f2(1, 0, 0, 1) + f3((0, 0, 1, -1), (0, 1, 0, -1))
@@ -690,6 +692,7 @@ def main():
     old = ALL + edge_samples.samples() + reading_samples.samples() + rect_samples.samples()
     every = [(name, comment, rec, name and frames.with_frame(rec, text)) for name, comment, rec, text in old]
     every += frame_samples.samples() + order_samples.samples() + size_samples.samples()
+    every += zero_samples.samples()
     names = [s[0] for s in every if s[0]]
     assert len(names) == len(set(names)), [name for name in names if names.count(name) > 1]
     for f in os.listdir(OUT):
@@ -702,10 +705,11 @@ def main():
              "# direction from request E2 too and those of rectangular patches from E3, the longer ones",
              "# by a rule that stands beside them in make_samples.py or rect_samples.py (scale-*: L",
              "# divided by the multinomial) or order_samples.py (powers of linear forms) or size_samples.py",
-             "# (a value with q in a place is the sum of those with a vertex there, times its weight), the",
-             "# line `frame` of request E5 by hand in frame_samples.py and order_samples.py and by the rule",
-             "# in size_samples.py or published/frames.py elsewhere, and then compared with calculator.py",
-             "# (r7-edge-passes: 44 numbers from calculator.py).",
+             "# (a value with q in a place is the sum of those with a vertex there, times its weight) or",
+             "# zero_samples.py (what is left at a common zero is known: the curve is written as a product),",
+             "# the line `frame` of request E5 by hand in frame_samples.py and order_samples.py and by the",
+             "# rule in size_samples.py or published/frames.py elsewhere, and then compared with",
+             "# calculator.py (r7-edge-passes: 44 numbers from calculator.py).",
              "# Which refusal wins where several hold: the earlier field's; within a field a cut",
              "# header (1), then tag (2), length (3), a cut value (1), what the value says (4, 5,",
              "# 6); only then a missing field (2, at the length) and 7.  Calls: 8, 9, 12, 10."]

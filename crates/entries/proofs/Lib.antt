@@ -10,4 +10,5 @@ pub mod Flips
 pub mod FlippedFrames
 pub mod ListedOver
 pub mod Lengths
+pub mod Lines
 pub mod FirstGroup

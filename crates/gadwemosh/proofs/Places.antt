@@ -11,9 +11,11 @@ use lib.ListN.{length}
 use mir.Syntax.{w64}
 use mir.Val.{SFits}
 use Rattle.integers.proofs.Signed.{seen, back-fits}
+use Rattle.projection.specs.Projection.{foundProjection}
 use Rattle.projection.specs.declared.Projection.{Projection}
+use Rattle.machine.specs.Carried.{fourAt}
 use Rattle.gadwemosh.specs.Calls.{moveCall, pointCall}
-use Rattle.gadwemosh.specs.Projections.{ProjectionReturned, projectionWithRoom, projectionWithoutRoom, projectionReturned}
+use Rattle.gadwemosh.specs.Projections.{ProjectionReturned, projectionWithRoom, projectionWithoutRoom, projectionReturned, foundReturned}
 
 -- a call with its weights as they are handed on
 module _ {r s t u : ℤ} (fr : SFits w64 r) (fs : SFits w64 s) (ft : SFits w64 t) (fu : SFits w64 u) where
@@ -57,3 +59,16 @@ module _ (p : Projection) (bits : List ℕ) (direction : List ℤ) where
 
   pub with-room : 3 ≤ length bits → 4 ≤ length direction → projectionWithRoom p bits direction ≡ projectionReturned p bits direction
   with-room enough more = by-room true (ap₂ _&&_ (le-leb 3 (length bits) enough) (le-leb 4 (length direction) more))
+
+-- of a found point, by its eight numbers
+module _ (found : List ℤ) (bits : List ℕ) (direction : List ℤ) where
+  by-eight : (t : Bool) → leb 8 (length found) ≡ t
+      → cond t (projectionReturned (foundProjection (fourAt 0 found) (fourAt 4 found)) bits direction) (projectionWithoutRoom bits direction) ≡ foundReturned found bits direction
+  unfolding foundReturned
+  by-eight t is = sym (ap (λ b. cond b (projectionReturned (foundProjection (fourAt 0 found) (fourAt 4 found)) bits direction) (projectionWithoutRoom bits direction)) is)
+
+  pub found-short : length found < 8 → projectionWithoutRoom bits direction ≡ foundReturned found bits direction
+  found-short few = by-eight false (lt-leb 8 (length found) few)
+
+  pub found-enough : 8 ≤ length found → projectionReturned (foundProjection (fourAt 0 found) (fourAt 4 found)) bits direction ≡ foundReturned found bits direction
+  found-enough enough = by-eight true (le-leb 8 (length found) enough)

@@ -2,9 +2,9 @@
 use Prim.Native.Nat.{ℕ, _≤_}
 use mathlib.Core.Path.{_≡_}
 use mathlib.Core.List.{List, [], map}
-use lib.IntN.{ℤ, pos}
-use lib.ListN.{length, getD, take}
-use Rattle.projection.specs.Projection.{projectionOf}
+use lib.IntN.{ℤ}
+use lib.ListN.{length, take}
+use Rattle.projection.specs.Projection.{Four}
 use Rattle.projection.specs.declared.Projection.{Projection}
 use Rattle.kinds.specs.Frames.{Frames}
 use Rattle.machine.specs.Steps.{Found, after}
@@ -13,7 +13,7 @@ use Rattle.machine.specs.Lent.{polynomialsFrom, madeNumber, madePlaces, callPla
 use Rattle.machine.specs.Carried.{LentCall, lentStep, SameNet, lentFrames, LentGuaranteed}
 use Rattle.opening.specs.Opening.{polynomialsIn, numbersIn, openedIn, placesIn}
 use Rattle.gadwemosh.specs.Calls.{moveCall, pointCall}
-use Rattle.gadwemosh.specs.Projections.{ProjectionReturned, projectionReturned}
+use Rattle.gadwemosh.specs.Projections.{projectionReturned, foundReturned}
 
 -- ---- first nets
 
@@ -62,11 +62,6 @@ placesReached start calls = after lentStep (startPlaces start) (map lentCall cal
 abbrev pub machineFrames : Start → List Exported → Frames
 machineFrames start calls = lentFrames (startPolynomials start) (startNumbers start) (map lentCall calls)
 
--- what comes back from gadwemosh_project, called with the four numbers in a point's places
-abbrev pub projectedFrom : List ℤ → List ℕ → List ℤ → ProjectionReturned
-projectedFrom found bits direction =
-    projectionReturned (projectionOf (getD found 0 (pos 0)) (getD found 1 (pos 0)) (getD found 2 (pos 0)) (getD found 3 (pos 0))) bits direction
-
 -- ---- what is guaranteed of a list of exported calls on a first net
 
 pub record ExportedGuaranteed (start : Start) (calls : List Exported) : Type 0 where
@@ -83,14 +78,15 @@ pub record ExportedGuaranteed (start : Start) (calls : List Exported) : Type 0 w
   -- a further point leaves every place, as gadwemosh_point does, which is lent the net to be read
   pub pointKeeps : (r s t u : ℤ) (found : List ℤ)
       → callPlaces (pointCall r s t u) (placesReached start calls) found ≡ placesReached start calls
-  -- of a further point that the comparison machine finds, in places enough for its numbers, gadwemosh_project
-  -- gives back number, outcome and places by the machine's projection
+  -- of a further point that the comparison machine finds, in places enough for its numbers,
+  -- gadwemosh_project_found, lent these places, gives back number, outcome and places by the machine's
+  -- projection
   pub projected : (r s t u : ℤ) (found : List ℤ) (bits : List ℕ) (direction : List ℤ)
-      {x y z w : ℤ} {at : Projection}
+      {point projected : Four} {at : Projection}
       → machineStep (startPolynomials start) (machineFrames start calls) (pointCall r s t u) .answer
-      ≡ Found x y z w at
-      → 4 ≤ length found
-      → projectedFrom (callFound (pointCall r s t u) (placesReached start calls) found) bits direction
+      ≡ Found point projected at
+      → 8 ≤ length found
+      → foundReturned (callFound (pointCall r s t u) (placesReached start calls) found) bits direction
       ≡ projectionReturned at bits direction
 
 abbrev pub Demand3Exported : Type 0

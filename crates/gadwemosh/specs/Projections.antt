@@ -6,10 +6,11 @@ use mathlib.Core.List.{List}
 use lib.Dec.{leb}
 use lib.IntN.{ℤ}
 use lib.ListN.{length}
-use Rattle.projection.specs.Projection.{refusal, coordinateBits, directionNumbers}
+use Rattle.projection.specs.Projection.{refusal, coordinateBits, directionNumbers, foundProjection}
 use Rattle.projection.specs.declared.Projection.{Projection}
 use Rattle.projection.specs.declared.Projection.the-variants.{Finite, Direction, Nowhere, OutOfRange}
 use Rattle.machine.specs.Lent.{putAt}
+use Rattle.machine.specs.Carried.{fourAt}
 
 -- the outcome, a number for the case, as include/gadwemosh.h has it: 1 'a finite point', 2 'a direction',
 -- 3 'nowhere'; 0 where the four numbers are refused
@@ -44,3 +45,10 @@ projectionWithoutRoom bits direction = record { number = 11; outcome = 0; bits =
 
 unfoldable pub projectionReturned : Projection → List ℕ → List ℤ → ProjectionReturned
 projectionReturned p bits direction = cond (leb 3 (length bits) && leb 4 (length direction)) (projectionWithRoom p bits direction) (projectionWithoutRoom bits direction)
+
+-- of what gadwemosh_point found, by the eight numbers in its places; where there are not eight it is 11 too
+unfoldable pub foundReturned : List ℤ → List ℕ → List ℤ → ProjectionReturned
+foundReturned found bits direction =
+    cond (leb 8 (length found))
+    (projectionReturned (foundProjection (fourAt 0 found) (fourAt 4 found)) bits direction)
+    (projectionWithoutRoom bits direction)

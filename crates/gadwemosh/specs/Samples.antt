@@ -1,4 +1,4 @@
--- What comes back from the seven exported functions in single instances, as one table. Definition and code
+-- What comes back from the eight exported functions in single instances, as one table. Definition and code
 -- could exchange two arguments, two outcomes or two places together: include/gadwemosh.h says which is which,
 -- and these rows hold it, as with two of them exchanged something else comes back. In which order the
 -- arguments are handed over, the contracts of src/positions.rt say.
@@ -12,7 +12,7 @@ use Rattle.machine.specs.Lent.{madeNumber, madePlaces, callNumber, callPlaces, 
 use Rattle.opening.specs.Opening.{refusalIn, fieldExtent, openedIn, placesIn}
 use Rattle.text.specs.Text.{word, textOf, writtenOf, writtenNumber, writtenBytes, bufferOf}
 use Rattle.gadwemosh.specs.Calls.{moveCall, pointCall}
-use Rattle.gadwemosh.specs.Projections.{projectionReturned}
+use Rattle.gadwemosh.specs.Projections.{projectionReturned, foundReturned}
 
 -- ---- what comes back, by the arguments in the header's order: the number, and then what stands in places
 -- that the function may write
@@ -45,6 +45,11 @@ finds net r s t u found =
 abbrev projects : ℤ → ℤ → ℤ → ℤ → List ℕ → List ℤ → List ℤ
 projects x y z w bits direction =
     let back = projectionReturned (projectionOf x y z w) bits direction in
+    pos (back .number) ∷ pos (back .outcome) ∷ (map pos (back .bits) ++ back .direction)
+
+abbrev projectsFound : List ℤ → List ℕ → List ℤ → List ℤ
+projectsFound found bits direction =
+    let back = foundReturned found bits direction in
     pos (back .number) ∷ pos (back .outcome) ∷ (map pos (back .bits) ++ back .direction)
 
 abbrev writes : List ℕ → List ℕ → List ℤ
@@ -143,6 +148,16 @@ stripCoefficients =
 abbrev stripFrame : List ℤ
 stripFrame = map pos (0 ∷ 1 ∷ 1 ∷ 1 ∷ 1 ∷ 2 ∷ 1 ∷ 1 ∷ [])
 
+-- two curves of degree 2 through a common zero, at equal weights and at r: their entries with no copy of s,
+-- one and two
+abbrev chord : List ℤ
+chord =
+    lentNet 1 2 0 (map pos (0 ∷ 1 ∷ 1 ∷ 1 ∷ []))
+    ((minus 2 ∷ pos 0 ∷ pos 6 ∷ pos 0 ∷ []) ++ (pos 0 ∷ pos 0 ∷ pos 0 ∷ minus 1 ∷ []) ++ (pos 2 ∷ pos 0 ∷ minus 6 ∷ pos 2 ∷ [])) 6
+
+abbrev ray : List ℤ
+ray = lentNet 1 2 0 (map pos (0 ∷ 1 ∷ 1 ∷ 1 ∷ [])) (map pos (0 ∷ 0 ∷ 0 ∷ 0 ∷ 2 ∷ 3 ∷ 4 ∷ 5 ∷ 6 ∷ 7 ∷ 8 ∷ 9 ∷ [])) 9
+
 abbrev nets : List (Instance ℤ)
 nets =
     -- gadwemosh_first: number, net
@@ -164,11 +179,17 @@ nets =
     (facetEntries (minus 1 ∷ minus 2 ∷ minus 3 ∷ minus 4 ∷ []) (pos 9 ∷ pos 10 ∷ minus 11 ∷ pos 12 ∷ [])) 12)
     ∷ moves facet 1 3 (pos 2) (pos 3) (pos 0) (pos 0) is (pos 9 ∷ facet)
     ∷ moves (hundreds 192) 1 3 (pos 2) (pos 3) (pos 5) (pos 0) is (pos 11 ∷ hundreds 192)
-    -- gadwemosh_point: number, x, y, z, w; with 1, 2 for the first pair and 3, 5 for the second the four
-    -- entries are taken 3, 5, 6 and 10 times
-    ∷ finds tile (pos 1) (pos 2) (pos 3) (pos 5) (hundreds 5) is map pos (0 ∷ 13 ∷ 15 ∷ 16 ∷ 4 ∷ 100 ∷ [])
-    ∷ finds tile (pos 1) (pos 2) (pos 0) (pos 0) (hundreds 5) is (pos 9 ∷ hundreds 5)
-    ∷ finds tile (pos 1) (pos 2) (pos 3) (pos 5) (hundreds 3) is (pos 11 ∷ hundreds 3)
+    -- gadwemosh_point: number, x, y, z, w, and the numbers projected; with 1, 2 for the first pair and 3, 5
+    -- for the second the four entries are taken 3, 5, 6 and 10 times
+    ∷ finds tile (pos 1) (pos 2) (pos 3) (pos 5) (hundreds 9)
+    is map pos (0 ∷ 13 ∷ 15 ∷ 16 ∷ 4 ∷ 13 ∷ 15 ∷ 16 ∷ 4 ∷ 100 ∷ [])
+    ∷ finds tile (pos 1) (pos 2) (pos 0) (pos 0) (hundreds 9) is (pos 9 ∷ hundreds 9)
+    ∷ finds tile (pos 1) (pos 2) (pos 3) (pos 5) (hundreds 7) is (pos 11 ∷ hundreds 7)
+    -- at the common zero of a curve: with one copy of r where the weight of s is not 0, else with one of s
+    ∷ finds chord (pos 1) (pos 1) (pos 0) (pos 0) (hundreds 9)
+    is (map pos (0 ∷ 0 ∷ 0 ∷ 0 ∷ 0 ∷ []) ++ (minus 2 ∷ pos 0 ∷ pos 6 ∷ minus 1 ∷ pos 100 ∷ []))
+    ∷ finds ray (pos 5) (pos 0) (pos 0) (pos 0) (hundreds 9)
+    is map pos (0 ∷ 0 ∷ 0 ∷ 0 ∷ 0 ∷ 10 ∷ 15 ∷ 20 ∷ 25 ∷ 100 ∷ [])
     ∷ []
 
 -- ---- projections: number, outcome, and both buffers, of one place more than is written
@@ -193,5 +214,33 @@ projections =
     is (map pos (11 ∷ 0 ∷ 7 ∷ 7 ∷ 7 ∷ []) ++ hundreds 3)
     ∷ []
 
+-- the same of found points, by eight numbers: the first four are the point, the second four are projected
+abbrev projectionsFound : List (Instance ℤ)
+projectionsFound =
+    projectsFound (map pos (1 ∷ 1 ∷ 1 ∷ 1 ∷ 1 ∷ 2 ∷ []) ++ (minus 3 ∷ pos 4 ∷ pos 100 ∷ [])) (7 ∷ 7 ∷ 7 ∷ 7 ∷ []) (hundreds 5)
+    is (map pos (0 ∷ 1 ∷ 0x3fd0000000000000 ∷ 0x3fe0000000000000 ∷ 0xbfe8000000000000 ∷ 7 ∷ []) ++ hundreds 5)
+    -- a direction has its length, but length 1 where all of the first four are 0
+    ∷ projectsFound (map pos (0 ∷ 0 ∷ 0 ∷ 1 ∷ 10 ∷ 20 ∷ 30 ∷ 0 ∷ [])) (7 ∷ 7 ∷ 7 ∷ 7 ∷ []) (hundreds 5)
+    is map pos (0 ∷ 2 ∷ 7 ∷ 7 ∷ 7 ∷ 7 ∷ 1 ∷ 2 ∷ 3 ∷ 10 ∷ 100 ∷ [])
+    ∷ projectsFound (map pos (1 ∷ 0 ∷ 0 ∷ 0 ∷ 10 ∷ 20 ∷ 30 ∷ 0 ∷ [])) (7 ∷ 7 ∷ 7 ∷ 7 ∷ []) (hundreds 5)
+    is map pos (0 ∷ 2 ∷ 7 ∷ 7 ∷ 7 ∷ 7 ∷ 1 ∷ 2 ∷ 3 ∷ 10 ∷ 100 ∷ [])
+    ∷ projectsFound (map pos (0 ∷ 0 ∷ 0 ∷ 0 ∷ 10 ∷ 20 ∷ 30 ∷ 0 ∷ [])) (7 ∷ 7 ∷ 7 ∷ 7 ∷ []) (hundreds 5)
+    is map pos (0 ∷ 2 ∷ 7 ∷ 7 ∷ 7 ∷ 7 ∷ 1 ∷ 2 ∷ 3 ∷ 1 ∷ 100 ∷ [])
+    ∷ projectsFound (map pos (0 ∷ 0 ∷ 0 ∷ 0 ∷ 0 ∷ 0 ∷ 0 ∷ 0 ∷ [])) (7 ∷ 7 ∷ 7 ∷ 7 ∷ []) (hundreds 5)
+    is (map pos (0 ∷ 3 ∷ 7 ∷ 7 ∷ 7 ∷ 7 ∷ []) ++ hundreds 5)
+    -- the range of the second four is judged and that of the first four is not, and a buffer that is short
+    -- goes first
+    ∷ projectsFound (map pos (0 ∷ 0 ∷ 0 ∷ 281474976710657 ∷ 0 ∷ 0 ∷ 0 ∷ 1 ∷ [])) (7 ∷ 7 ∷ 7 ∷ []) (hundreds 4)
+    is (map pos (0 ∷ 1 ∷ 0 ∷ 0 ∷ 0 ∷ []) ++ hundreds 4)
+    ∷ projectsFound (map pos (0 ∷ 0 ∷ 0 ∷ 1 ∷ 0 ∷ 0 ∷ 0 ∷ 281474976710657 ∷ [])) (7 ∷ 7 ∷ 7 ∷ []) (hundreds 4)
+    is (map pos (10 ∷ 0 ∷ 7 ∷ 7 ∷ 7 ∷ []) ++ hundreds 4)
+    ∷ projectsFound (map pos (0 ∷ 0 ∷ 0 ∷ 1 ∷ 0 ∷ 0 ∷ 281474976710657 ∷ [])) (7 ∷ 7 ∷ 7 ∷ []) (hundreds 4)
+    is (map pos (11 ∷ 0 ∷ 7 ∷ 7 ∷ 7 ∷ []) ++ hundreds 4)
+    ∷ projectsFound (map pos (0 ∷ 0 ∷ 0 ∷ 1 ∷ 0 ∷ 0 ∷ 0 ∷ 281474976710657 ∷ [])) (7 ∷ 7 ∷ []) (hundreds 4)
+    is (map pos (11 ∷ 0 ∷ 7 ∷ 7 ∷ []) ++ hundreds 4)
+    ∷ projectsFound (map pos (0 ∷ 0 ∷ 0 ∷ 1 ∷ 0 ∷ 0 ∷ 0 ∷ 281474976710657 ∷ [])) (7 ∷ 7 ∷ 7 ∷ []) (hundreds 3)
+    is (map pos (11 ∷ 0 ∷ 7 ∷ 7 ∷ 7 ∷ []) ++ hundreds 3)
+    ∷ []
+
 abbrev pub instances : List (Instance ℤ)
-instances = records ++ (nets ++ projections)
+instances = records ++ (nets ++ (projections ++ projectionsFound))

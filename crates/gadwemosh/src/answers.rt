@@ -5,7 +5,8 @@ ghost use mathlib.Core.List.{[], _∷_};
 ghost use lib.ListN.{length};
 ghost use lib.Ieee.{binary64, toBits};
 ghost use Rattle.machine.specs.Lent.{putAt};
-ghost use Rattle.gadwemosh.specs.Projections.{projectionWithRoom};
+ghost use Rattle.gadwemosh.specs.Projections.{projectionWithRoom, projectionReturned};
+use crate::SHORT;
 use projection::Coords;
 use projection::Projection;
 use projection::bits;
@@ -33,7 +34,7 @@ fn put_direction(direction: &mut [i64], x: i64, y: i64, z: i64, divisor: i64)
 }
 
 // The number of a projection, its outcome, and its bit patterns or its direction, put into their places.
-pub(crate) fn write_projection(
+fn write_projection(
     outcome: &mut u8,
     patterns: &mut [u64],
     direction: &mut [i64],
@@ -65,4 +66,26 @@ pub(crate) fn write_projection(
             10
         }
     }
+}
+
+// The same where the places lent for bit patterns and for a direction are enough; else nothing is put there.
+pub(crate) fn return_projection(
+    outcome: &mut u8,
+    patterns: &mut [u64],
+    direction: &mut [i64],
+    projection: Projection,
+) -> u8
+    ensures number { λ r. ⌜ r ≡ projectionReturned projection (now (patterns .entry)) (now (direction .entry)) .number ⌝ }
+    ensures outcome { λ _. ⌜ now (outcome .exit) ≡ projectionReturned projection (now (patterns .entry)) (now (direction .entry)) .outcome ⌝ }
+    ensures patterns { λ _. ⌜ now (patterns .exit) ≡ projectionReturned projection (now (patterns .entry)) (now (direction .entry)) .bits ⌝ }
+    ensures direction { λ _. ⌜ now (direction .exit) ≡ projectionReturned projection (now (patterns .entry)) (now (direction .entry)) .direction ⌝ }
+{
+    *outcome = 0;
+    if patterns.len() < 3 {
+        return SHORT;
+    }
+    if direction.len() < 4 {
+        return SHORT;
+    }
+    write_projection(outcome, patterns, direction, projection)
 }

@@ -1,4 +1,4 @@
-// The library for callers in C and Rust: seven functions under plain names, each over one of the
+// The library for callers in C and Rust: eight functions under plain names, each over one of the
 // library's own. A net is lent as 193 numbers or more, as specs/Lent.antt of the crate machine lays them
 // out. specs/Demand3.antt carries demand 3 to these functions.
 mod answers;
@@ -17,8 +17,8 @@ ghost use Rattle.machine.specs.Lent.{
 ghost use Rattle.opening.specs.Opening.{refusalIn, fieldExtent, openedIn, placesIn};
 ghost use Rattle.text.specs.Text.{textOf, writtenOf, writtenNumber, writtenBytes, bufferOf};
 ghost use Rattle.gadwemosh.specs.Calls.{moveCall, pointCall};
-ghost use Rattle.gadwemosh.specs.Projections.{projectionReturned};
-use crate::answers::write_projection;
+ghost use Rattle.gadwemosh.specs.Projections.{projectionReturned, foundReturned};
+use crate::answers::return_projection;
 use machine::Weights;
 use nets::NET;
 use nets::find_point;
@@ -26,6 +26,7 @@ use nets::first_net;
 use nets::take_move;
 use opening::open;
 use projection::project;
+use projection::project_found;
 use records::extent_of;
 use text::Written;
 use text::write_text;
@@ -98,7 +99,8 @@ pub extern "C" fn gadwemosh_move(
     take_move(net, operation, vertex, Weights { r, s, t, u })
 }
 
-// Finds a point on a lent net: x, y, z and w go into the first four places of `found`.
+// Finds a point on a lent net: x, y, z and w go into the first four places of `found`, and the numbers
+// projected into the four behind them.
 #[no_mangle]
 pub extern "C" fn gadwemosh_point(
     net: &[i64],
@@ -132,15 +134,39 @@ pub extern "C" fn gadwemosh_project(
     ensures bits { λ _. ⌜ now (bits .exit) ≡ projectionReturned (projectionOf x y z w) (now (bits .entry)) (now (direction .entry)) .bits ⌝ }
     ensures direction { λ _. ⌜ now (direction .exit) ≡ projectionReturned (projectionOf x y z w) (now (bits .entry)) (now (direction .entry)) .direction ⌝ }
 {
-    *outcome = 0;
-    if bits.len() < 3 {
-        return SHORT;
-    }
-    if direction.len() < 4 {
-        return SHORT;
-    }
     let projection = project(x, y, z, w);
-    write_projection(outcome, bits, direction, projection)
+    return_projection(outcome, bits, direction, projection)
+}
+
+// Projects what `gadwemosh_point` found, by its eight numbers: as `gadwemosh_project` does the second four,
+// but a direction has length 1 where the first four are zeros.
+#[no_mangle]
+pub extern "C" fn gadwemosh_project_found(
+    found: &[i64],
+    outcome: &mut u8,
+    bits: &mut [u64],
+    direction: &mut [i64],
+) -> u8
+    ensures number { λ b. ⌜ b ≡ foundReturned (now (found .entry)) (now (bits .entry)) (now (direction .entry)) .number ⌝ }
+    ensures outcome { λ _. ⌜ now (outcome .exit) ≡ foundReturned (now (found .entry)) (now (bits .entry)) (now (direction .entry)) .outcome ⌝ }
+    ensures bits { λ _. ⌜ now (bits .exit) ≡ foundReturned (now (found .entry)) (now (bits .entry)) (now (direction .entry)) .bits ⌝ }
+    ensures direction { λ _. ⌜ now (direction .exit) ≡ foundReturned (now (found .entry)) (now (bits .entry)) (now (direction .entry)) .direction ⌝ }
+{
+    if found.len() < 8 {
+        *outcome = 0;
+        return SHORT;
+    }
+    let projection = project_found(
+        found[0],
+        found[1],
+        found[2],
+        found[3],
+        found[4],
+        found[5],
+        found[6],
+        found[7],
+    );
+    return_projection(outcome, bits, direction, projection)
 }
 
 // Writes the text of a record; `length` is how many bytes it has, and 0 where the buffer is too short.

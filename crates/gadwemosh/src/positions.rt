@@ -1,7 +1,7 @@
 // The exported functions called by position, as a caller in C calls them. Nobody calls these: they are here
 // for their contracts, in which the arguments stand in the order of include/gadwemosh.h. The contract of an
 // exported function names its arguments, and so does not say in which order they are handed over. Those of
-// gadwemosh_open and gadwemosh_text differ in their types.
+// gadwemosh_open, gadwemosh_project_found and gadwemosh_text differ in their types.
 ghost use mathlib.Core.Path.{_≡_};
 ghost use mathlib.Core.List.{[]};
 ghost use Rattle.projection.specs.Projection.{projectionOf};

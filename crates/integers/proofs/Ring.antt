@@ -301,10 +301,17 @@ pub ring-from : {x y u v : ℤ} (k : ℤ) → u ≡ v → x -ℤ y ≡ k *ℤ (u
 ring-from {x} {y} {u} {v} k h e = difference-zero x y (e ∙ ap (λ z. k *ℤ (z -ℤ v)) h ∙ ap (λ z. k *ℤ z) (+ℤ-invr v) ∙ *ℤ-zero k)
 
 -- a common factor that is not 0 may be cancelled: times the difference it is 0
+pub cancelled : (k a b : ℤ) → (k ≡ pos 0 → ⊥) → k *ℤ a ≡ k *ℤ b → a ≡ b
+cancelled k a b h p =
+    ⊎-elim (λ z. absurd (h z)) (difference-zero a b)
+    (*ℤ-zero-split k (a -ℤ b) (ring (k ∷ a ∷ b ∷ []) (search ring-rules depth 60) tt ∙ ap (λ x. x -ℤ k *ℤ b) p ∙ +ℤ-invr (k *ℤ b)))
+
 pub cancel : (k : ℕ) (a b : ℤ) → 0 < k → pos k *ℤ a ≡ pos k *ℤ b → a ≡ b
-cancel k a b h p =
-    ⊎-elim (λ z. absurd (not-zero (ap natAbs z))) (difference-zero a b)
-    (*ℤ-zero-split (pos k) (a -ℤ b) (ring (pos k ∷ a ∷ b ∷ []) (search ring-rules depth 60) tt ∙ ap (λ x. x -ℤ pos k *ℤ b) p ∙ +ℤ-invr (pos k *ℤ b)))
+cancel k a b h p = cancelled (pos k) a b (λ z. not-zero (ap natAbs z)) p
   where
     not-zero : k ≡ 0 → ⊥
     not-zero e = omega arith
+
+-- a product of numbers that are not 0
+pub product-nonzero : (a b : ℤ) → (a ≡ pos 0 → ⊥) → (b ≡ pos 0 → ⊥) → a *ℤ b ≡ pos 0 → ⊥
+product-nonzero a b p q e = ⊎-elim p q (*ℤ-zero-split a b e)

@@ -16,15 +16,16 @@ use Rattle.polar.specs.Scale.{multinomial, leastCommonMultiple, scale}
 use Rattle.polar.specs.Groups.{monomialsOver, countsOver}
 use Rattle.polar.specs.Polar.{polarOver, valueOver}
 use Rattle.entries.specs.Entries.{listedOver, fixed, fixedOver, entryOver}
-use Rattle.projection.specs.Projection.{projectionOf, coordinateBits}
+use Rattle.projection.specs.Projection.{projectionOf, coordinateBits, firstNotZeros, foundProjection}
 use Rattle.integers.proofs.All.{all-at, and-parts}
 use Rattle.kinds.specs.Frames.{frameOf, frameAllowed, framesOf, framesAllowed, numbersOf}
 use Rattle.machine.specs.Calls.{ownTests}
 use Rattle.machine.specs.Frames.{pointsOf, framesAfter, newNumbers}
 use Rattle.machine.specs.Sizes.{namedByReplace, namedByPoint, namedBy, allNamed, beforeSize, callTests}
+use Rattle.machine.specs.Projected.{namedAtZero}
 use Rattle.machine.specs.Steps.{foundAt, stepBy, after, answers}
-use Rattle.machine.specs.Comparison.{groups, netOver, machineTests, machineStep, machineAccepted, machinePolar, polarOf, scaledValue}
-use Rattle.machine.specs.Nets.{handedTests, judgedNumbers, netTests, netPolar, entriesAfter, largestAfter, accepted, stepOf}
+use Rattle.machine.specs.Comparison.{groups, netOver, machineTests, machineStep, machineAccepted, machinePolar, machineFour, polarOf, scaledValue}
+use Rattle.machine.specs.Nets.{handedTests, judgedNumbers, netTests, netPolar, netFour, entriesAfter, largestAfter, accepted, stepOf}
 use Rattle.machine.specs.Lent.{netAt, putNet, callNumber, callPlaces, madeNumber}
 use Rattle.machine.specs.First.{firstTests, firstRefusal}
 use Rattle.machine.specs.Samples.{Sample, answerRow, netOf, SampleHolds, samples, instances}
@@ -63,7 +64,7 @@ module _ (s : Sample) where
       }
 
 table-checked : all checked samples ≡ true
-unfolding netOver after answers stepBy machineStep machineTests machineAccepted machinePolar pointsOf framesAfter newNumbers ownTests polarOf scaledValue beforeSize namedBy namedByReplace namedByPoint allNamed callTests foundAt firstRefusal firstTests frameOf frameAllowed framesOf framesAllowed σ monomials counts monomialsOver countsOver multinomial leastCommonMultiple scale polarOver valueOver listedOver projectionOf coordinateBits
+unfolding machineFour namedAtZero firstNotZeros foundProjection netOver after answers stepBy machineStep machineTests machineAccepted machinePolar pointsOf framesAfter newNumbers ownTests polarOf scaledValue beforeSize namedBy namedByReplace namedByPoint allNamed callTests foundAt firstRefusal firstTests frameOf frameAllowed framesOf framesAllowed σ monomials counts monomialsOver countsOver multinomial leastCommonMultiple scale polarOver valueOver listedOver projectionOf coordinateBits
 table-checked = refl
 
 -- every row of the table holds
@@ -73,7 +74,7 @@ every-sample s m = checked-holds s (all-at checked samples table-checked s m)
 -- ---- single instances
 
 instances-agree : all (agreesBy eqZ) instances ≡ true
-unfolding netOver polarOf pointsOf newNumbers ownTests beforeSize namedBy namedByReplace namedByPoint allNamed callTests firstRefusal firstTests frameOf frameAllowed framesOf framesAllowed σ monomials counts monomialsOver countsOver multinomial leastCommonMultiple scale polarOver listedOver netTests handedTests judgedNumbers netPolar fixedOver entryOver fixed callNumber madeNumber netAt entriesAfter largestAfter accepted stepBy stepOf framesAfter putNet callPlaces
+unfolding netOver polarOf pointsOf newNumbers ownTests beforeSize namedBy namedByReplace namedByPoint allNamed callTests firstRefusal firstTests frameOf frameAllowed framesOf framesAllowed σ monomials counts monomialsOver countsOver multinomial leastCommonMultiple scale polarOver listedOver netTests handedTests judgedNumbers netPolar fixedOver entryOver fixed callNumber madeNumber netAt entriesAfter largestAfter accepted stepBy stepOf framesAfter putNet callPlaces netFour namedAtZero firstNotZeros foundAt foundProjection projectionOf coordinateBits
 instances-agree = refl
 
 -- every instance is right

@@ -10,7 +10,7 @@ use lib.Dec.{leb, lit≤}
 use lib.IntN.{ℤ, pos}
 use lib.ListN.{length, getD, take, drop, length-drop}
 use lib.Seq.{take-add, slice, slice-empty, slice-cons}
-use Rattle.projection.specs.Projection.{projectionOf}
+use Rattle.projection.specs.Projection.{Four, foundProjection}
 use Rattle.projection.specs.declared.Projection.{Projection}
 use Rattle.entries.proofs.ListedOver.{length-listed-over}
 use Rattle.machine.specs.Refusals.{_else_, firstFailed, allPass}
@@ -29,7 +29,7 @@ use Rattle.kinds.proofs.Frames.{numbers-back}
 use Rattle.machine.specs.First.{firstNet, firstTests, firstRefusal}
 use Rattle.machine.specs.Demand3.{Beyond}
 use Rattle.machine.specs.Lent.{netAt, putAt, putNet, enoughPlaces, unlessRefused, polynomialsFrom, madeNumber, madePlaces, room, callNumber, callPlaces, callFound}
-use Rattle.machine.specs.Carried.{LentCall, Returned, answerBy, lentStep, expected, netPlaces}
+use Rattle.machine.specs.Carried.{LentCall, Returned, fourAt, answerBy, lentStep, expected, netPlaces}
 use Rattle.machine.specs.Carried.{otherPlaces, FirstNetIn, SameNet, lentFrames, LentGuaranteed, Demand3Lent}
 use Rattle.machine.specs.declared.Call.{Call}
 use Rattle.machine.specs.declared.Call.the-variants as call
@@ -67,9 +67,9 @@ accepted-heard net (call.Move operation vertex weights) found = refl
 accepted-heard net (call.Point weights) found = refl
 
 -- a found point, as the caller has it, has the projection of the numbers in the places
-pub found-projection : (k : ℕ) (c : Call) (found : List ℤ) {x y z w : ℤ} {at : Projection} → answerBy k c found ≡ Found x y z w at
-    → projectionOf (getD found 0 (pos 0)) (getD found 1 (pos 0)) (getD found 2 (pos 0)) (getD found 3 (pos 0)) ≡ at
-unfolding answerBy foundAt
+pub found-projection : (k : ℕ) (c : Call) (found : List ℤ) {point projected : Four} {at : Projection} → answerBy k c found ≡ Found point projected at
+    → foundProjection (fourAt 0 found) (fourAt 4 found) ≡ at
+unfolding answerBy
 found-projection (suc k) c found h = absurd (let z : _≡_ {A = ℕ} 0 1 = cc in omega arith)
 found-projection zero (call.Move operation vertex weights) found h = absurd (let z : _≡_ {A = ℕ} 0 1 = cc in omega arith)
 found-projection zero (call.Point weights) found h = cc

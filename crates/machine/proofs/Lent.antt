@@ -22,8 +22,9 @@ use Rattle.kinds.proofs.Frames.{framed-numbers, length-numbers, frames-back, nu
 use Rattle.machine.specs.Refusals.{_else_}
 use Rattle.machine.specs.Calls.{ownTests}
 use Rattle.machine.specs.Sizes.{beforeSize, callTests}
+use Rattle.machine.specs.Steps.{pointValues, foundAt}
 use Rattle.machine.specs.Nets.{Net, netGroups, handedTests, judgedNumbers, netTests, entriesAfter, accepted}
-use Rattle.machine.specs.Lent.{byteOf, netAt, putAt, putNet, enoughPlaces, unlessRefused, room, callNumber, callPlaces}
+use Rattle.machine.specs.Lent.{byteOf, netAt, putAt, putNet, enoughPlaces, unlessRefused, room, callNumber, callPlaces, callFound}
 use Rattle.machine.specs.declared.Weights.{Weights}
 use Rattle.machine.specs.declared.Call.{Call}
 use Rattle.machine.specs.declared.Call.the-variants as call
@@ -446,6 +447,15 @@ point-stands w lent found = by (callNumber (call.Point w) lent found) refl
     by : (k : ℕ) → callNumber (call.Point w) lent found ≡ k → unlessRefused k (putNet (accepted (netAt lent) (call.Point w) .left) lent) lent ≡ lent
     by zero e = point-taken w lent found e
     by (suc k) e = refl
+
+-- and it writes eight numbers: the places lent for them stay as many
+pub found-length : (w : Weights) (lent found : List ℤ) → 8 ≤ length found → length (callFound (call.Point w) lent found) ≡ length found
+unfolding callFound accepted foundAt
+found-length w lent found enough = by (callNumber (call.Point w) lent found)
+  where
+    by : (k : ℕ) → length (unlessRefused k (putAt 0 (pointValues (accepted (netAt lent) (call.Point w) .answer)) found) found) ≡ length found
+    by zero = put-length 0 (pointValues (accepted (netAt lent) (call.Point w) .answer)) found enough
+    by (suc k) = refl
 
 -- ---- a part of the places that the code lends on: n places from `at` on
 

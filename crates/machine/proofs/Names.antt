@@ -2,13 +2,19 @@
 -- group, and so the counts are taken apart and put together group by group. `counts` has every list of counts
 -- with its sum, so in one group nothing is left out; over groups the lists are pairs of what the first group
 -- has and what those after it have.
-use Prim.Native.Nat.{ℕ, zero, suc, _+_, _<_}
+use Prim.Native.Nat.{ℕ, zero, suc, _+_, _-_, _<_}
 use native.Mathlib.Nat.{zero-add, suc-inj}
 use native.Mathlib.Omega.{arith}
 use mathlib.Core.Path.{_≡_, refl, sym, ap, ap₂, _∙_, subst}
 use mathlib.Core.Logic.{_⊎_, inl, inr}
+use mathlib.Core.Bool.{Bool, true, false, cond}
 use mathlib.Core.List.{List, [], _∷_, map, List·Memᴰ, List·Memᴰ·head, List·Memᴰ·not-nil, List·Memᴰ·append-cases, List·Memᴰ·eq-of-singleton, Memᴰ·map, Memᴰ·of-map, Memᴰ·append-left, Memᴰ·append-right}
+use borrow.Author.Tests.{eqb-true}
+use lib.Dec.{eqb}
+use lib.IntN.{ℤ}
 use lib.ListN.{length, replicate, length-replicate}
+use Rattle.integers.specs.Sum.{upto}
+use Rattle.integers.proofs.Sums.{upto-below}
 use Rattle.polar.specs.Order.{total, counts}
 use Rattle.polar.specs.Groups.{Group, pairs, countsOver}
 use Rattle.polar.proofs.Order.{counts-total}
@@ -18,7 +24,10 @@ use Rattle.entries.proofs.Groups.{Counted, Named, named-as, total-zeros}
 use Rattle.entries.proofs.Flips.{NoneOfQ, QOfOne}
 use Rattle.entries.proofs.Places.{member-counts}
 use Rattle.entries.proofs.ListedOver.{in-pairs, member-over, counts-over}
+use Rattle.projection.specs.Projection.{isZero}
+use Rattle.kinds.specs.Kinds.{group}
 use Rattle.machine.specs.Sizes.{namedByReplace, namedByPoint, namedBy}
+use Rattle.machine.specs.Projected.{otherCounts, lineNamedAtZero, namedAtZero}
 use Rattle.machine.specs.Names.{FromBoth, copiesOfQ, EachGroup, ReplaceTakes, NamedByReplace, PointTakes, NamedByPoint, NamesExactly}
 
 -- ---- every group
@@ -198,6 +207,31 @@ as-taken (g ∷ gs) (suc i) v (e ∷ es) c =
 
 pub as-named : (gs : List Group) (i v : ℕ) (es : List (List ℕ)) → i < length gs → Counted gs es → List·Memᴰ (asQ i v es) (namedByReplace gs i)
 as-named gs i v es h counted = to-replace gs i (asQ i v es) (h, as-taken gs i v es counted)
+
+-- ---- what is projected at a common zero
+
+-- a point of a line names its values with copies of q and of one vertex
+line-named : (m : ℕ) (s : ℤ) (es : List (List ℕ)) → List·Memᴰ es (lineNamedAtZero m s) → List·Memᴰ es (namedByPoint (group 1 m ∷ []))
+line-named m s es k =
+    let r = Memᴰ·of-map (λ d. otherCounts s (m - suc d) (suc d) ∷ []) (upto m) k in
+    subst (λ x. List·Memᴰ x (namedByPoint (group 1 m ∷ []))) (r .2) (by (r .0) (upto-below m (r .0) (r .1)) (isZero s))
+  where
+    by : (d : ℕ) → d < m → (b : Bool) → List·Memᴰ (cond b ((m - suc d) ∷ 0 ∷ suc d ∷ []) ((m - suc d) ∷ suc d ∷ 0 ∷ []) ∷ []) (namedByPoint (group 1 m ∷ []))
+    by d low true =
+        to-point (group 1 m ∷ []) _ (0, omega arith, ((record { each = refl; asMany = omega arith }, (λ less. absurd (omega arith)), (λ more. absurd (omega arith))), tt))
+    by d low false =
+        to-point (group 1 m ∷ []) _ (0, omega arith, ((record { each = refl; asMany = omega arith }, (λ less. absurd (omega arith)), (λ more. absurd (omega arith))), tt))
+
+-- and over any groups a point names all of these
+pub at-zero-named : (gs : List Group) (s : ℤ) (es : List (List ℕ)) → List·Memᴰ es (namedAtZero gs s) → List·Memᴰ es (namedByPoint gs)
+unfolding namedAtZero
+at-zero-named [] s es m = absurd (List·Memᴰ·not-nil m)
+at-zero-named (g ∷ []) s es m = by (eqb (g .dimension) 1) refl m
+  where
+    by : (b : Bool) → eqb (g .dimension) 1 ≡ b → List·Memᴰ es (cond b (lineNamedAtZero (g .degree) s) []) → List·Memᴰ es (namedByPoint (g ∷ []))
+    by true one k = subst (λ n. List·Memᴰ es (namedByPoint (group n (g .degree) ∷ []))) (sym (eqb-true (g .dimension) 1 one)) (line-named (g .degree) s es k)
+    by false one k = absurd (List·Memᴰ·not-nil k)
+at-zero-named (g ∷ h ∷ gs) s es m = absurd (List·Memᴰ·not-nil m)
 
 -- ---- all of it
 

@@ -5,7 +5,7 @@ use native.Mathlib.Nat.{not-suc-le-zero}
 use native.Mathlib.Omega.{arith}
 use mathlib.Core.Path.{_≡_, refl, sym, ap, ap₂, _∙_}
 use mathlib.Core.Bool.{Bool, true, false, _&&_, cond}
-use mathlib.Core.List.{List, [], _∷_, _++_, map, List·Memᴰ, List·Memᴰ·not-nil}
+use mathlib.Core.List.{List, [], _∷_, _++_, map, List·Memᴰ, List·Memᴰ·head, List·Memᴰ·tail, List·Memᴰ·not-nil}
 use lib.Dec.{eqb, leb, lit≤}
 use lib.IntN.{ℤ, pos, negℤ}
 use lib.ListN.{length, getD}
@@ -23,7 +23,7 @@ use Rattle.entries.specs.Entries.{listedOver, signed, asQ, onlyQ, flippedOver}
 use Rattle.entries.proofs.Signs.{signed-unseen}
 use Rattle.entries.proofs.Groups.{Counted, Named, Framed, Forms, polar-forms, fixes-over, putting-over, flipping-over, points-long, named-as, named-only, only-taken}
 use Rattle.entries.proofs.ListedOver.{member-over, counts-over, length-listed-over, entry-listed-over, listed-over-cong}
-use Rattle.projection.specs.Projection.{inRange, projectionOf}
+use Rattle.projection.specs.Projection.{inRange}
 use Rattle.machine.specs.Refusals.{_else_, firstFailed, allPass, numbered}
 use Rattle.integers.specs.Test.{all}
 use Rattle.integers.proofs.All.{all-pass, all-at, all-append, all-cong, all-map, and-parts}
@@ -32,22 +32,20 @@ use Rattle.kinds.specs.Frames.{vertexCount, Frames, numbersOf}
 use Rattle.machine.specs.Calls.{groupAt, ownAt, weightsFor, ownTests}
 use Rattle.machine.specs.Frames.{pointsOf, framesAfter, newNumbers}
 use Rattle.machine.specs.Sizes.{namedByReplace, namedBy, allNamed, beforeSize, callTests}
-use Rattle.machine.specs.Steps.{Found, foundAt, stepBy}
-use Rattle.machine.specs.Nets.{Net, netGroups, entry, netPolar, netInRange, handedTests, judgedNumbers, netTests, entriesAfter, accepted, stepOf}
-use Rattle.machine.specs.Comparison.{Polynomials, groups, polarOf, scaledValue, machinePolar, machineTests, machineAccepted, machineStep, netOver}
+use Rattle.machine.specs.Projected.{namedAtZero}
+use Rattle.machine.specs.Steps.{fourOf, foundAt, stepBy}
+use Rattle.machine.specs.Nets.{Net, netGroups, entry, netPolar, netFour, netInRange, handedTests, judgedNumbers, netTests, entriesAfter, accepted, stepOf}
+use Rattle.machine.specs.Comparison.{Polynomials, groups, polarOf, scaledValue, machinePolar, machineFour, machineTests, machineAccepted, machineStep, netOver}
 use Rattle.machine.specs.declared.Weights.{Weights}
 use Rattle.machine.specs.declared.Call.{Call}
 use Rattle.machine.specs.declared.Call.the-variants as call
 use Rattle.machine.proofs.Refusals.{none-failed, all-pass-append, row-passes}
-use Rattle.machine.proofs.Names.{by-replace, by-point, as-named}
+use Rattle.machine.proofs.Names.{by-replace, by-point, at-zero-named, as-named}
 use Rattle.machine.proofs.Frames.{framed-after, in-range-neg, in-range-after}
 use Rattle.machine.proofs.LargestAfter.{moved-largest}
 
-found-cong : (p q : ℕ → ℤ) → ((c : ℕ) → c < 4 → p c ≡ q c) → foundAt p ≡ foundAt q
-unfolding foundAt
-found-cong p q h =
-    λ i.
-    Found (e0 i) (e1 i) (e2 i) (e3 i) (projectionOf (e0 i) (e1 i) (e2 i) (e3 i))
+pub four-cong : (p q : ℕ → ℤ) → ((c : ℕ) → c < 4 → p c ≡ q c) → fourOf p ≡ fourOf q
+four-cong p q h = λ i. record { x = e0 i; y = e1 i; z = e2 i; w = e3 i }
   where
     e0 : p 0 ≡ q 0
     e0 = h 0 (lit≤ tt)
@@ -60,6 +58,11 @@ found-cong p q h =
 
     e3 : p 3 ≡ q 3
     e3 = h 3 (lit≤ tt)
+
+-- functions that agree on the members of a list
+pub map-among : {A B : Type 0} (f g : A → B) (xs : List A) → ((x : A) → List·Memᴰ x xs → f x ≡ g x) → map f xs ≡ map g xs
+map-among f g [] h = refl
+map-among f g (x ∷ xs) h = ap₂ _∷_ (h x (List·Memᴰ·head refl)) (map-among f g xs (λ y m. h y (List·Memᴰ·tail m)))
 
 -- ---- vertices
 
@@ -202,15 +205,22 @@ module _ (f : Polynomials) (frames : Frames) (long : Framed (groups f) frames) w
       ∙ sym (flipping-over gs (polarOf f c) (forms c) frames long i v h es counted)
 
   -- the found point is L × F(q)
-  found-is : (call : Call) → foundAt (λ c. netPolar net call c (onlyQ gs)) ≡ foundAt (scaledValue f (pointsOf gs frames call))
-  unfolding scaledValue machinePolar pointsOf polarOf
-  found-is call =
+  point-is : (call : Call) → netFour net call (onlyQ gs) ≡ fourOf (scaledValue f (pointsOf gs frames call))
+  unfolding netFour scaledValue machinePolar pointsOf polarOf
+  point-is call =
       let qs = pointsOver gs (weightsFor gs call) frames in
-      found-cong (λ c. netPolar net call c (onlyQ gs)) (scaledValue f (pointsOf gs frames call))
+      four-cong (λ c. netPolar net call c (onlyQ gs)) (scaledValue f (pointsOf gs frames call))
       (λ c k.
       polar-is call c (onlyQ gs) k (named-only gs)
       ∙ ap (polarOf f c) (only-taken gs qs frames (points-long gs (weightsFor gs call) frames))
       ∙ polar-diagonal gs qs c (f .coefficients))
+
+  -- and the values one of which is projected at a common zero are those of the polynomials
+  at-zero-is : (call : Call) (s : ℤ) → map (netFour net call) (namedAtZero gs s) ≡ map (machineFour f frames call) (namedAtZero gs s)
+  unfolding netFour machineFour
+  at-zero-is call s =
+      map-among (netFour net call) (machineFour f frames call) (namedAtZero gs s)
+      (λ es m. four-cong (λ c. netPolar net call c es) (λ c. machinePolar f frames call c es) (λ c k. polar-is call c es k (by-point gs es (at-zero-named gs s es m))))
 
   -- ---- ranges
 
@@ -300,7 +310,8 @@ module _ (f : Polynomials) (frames : Frames) (at : Reached f frames) where
           near = in-range-after gs frames c (at .near) (passed .1);
         },
       )
-  done (call.Point weights) r = (found-is f frames (at .long) (call.Point weights), refl, at)
+  done (call.Point weights) r =
+      (ap₂ foundAt (point-is f frames (at .long) (call.Point weights)) (at-zero-is f frames (at .long) (call.Point weights) (weights .s)), refl, at)
 
   -- a refused one leaves net and frames
   by-number : (c : Call) (k : ℕ) → firstFailed (machineTests f frames c) ≡ k

@@ -8,8 +8,9 @@ use lib.IntN.{ℤ, pos}
 use lib.ListN.{getD, take, drop}
 use lib.Seq.{slice}
 use Rattle.entries.specs.Entries.{numberCount}
+use Rattle.projection.specs.Projection.{Four, foundProjection}
 use Rattle.machine.specs.Refusals.{allPass}
-use Rattle.machine.specs.Steps.{Answer, Taken, Refused, pointValues, foundAt, Step, after, answers}
+use Rattle.machine.specs.Steps.{Answer, Taken, Found, Refused, pointValues, Step, after, answers}
 use Rattle.machine.specs.Comparison.{Polynomials, groups, netOver, machineBefore, machineStep}
 use Rattle.machine.specs.First.{firstNet, firstRefusal}
 use Rattle.kinds.specs.Frames.{Frames, frameCount, framesOf}
@@ -29,11 +30,16 @@ pub record Returned : Type 0 where
   pub answer : Answer
   pub found : List ℤ
 
--- The answer as the caller has it: by the number returned, and of a point by the four numbers in its places and what the projection tells of them.
+-- four numbers in lent places
+abbrev pub fourAt : ℕ → List ℤ → Four
+fourAt at found = record { x = getD found at (pos 0); y = getD found (1 + at) (pos 0); z = getD found (2 + at) (pos 0); w = getD found (3 + at) (pos 0) }
+
+-- The answer as the caller has it: by the number returned, and of a point by the eight numbers in its places
+-- and what the projection tells of them.
 unfoldable pub answerBy : ℕ → Call → List ℤ → Answer
 answerBy (suc k) call found = Refused (suc k)
 answerBy zero (Move operation vertex weights) found = Taken
-answerBy zero (Point weights) found = foundAt (λ i. getD found i (pos 0))
+answerBy zero (Point weights) found = Found (fourAt 0 found) (fourAt 4 found) (foundProjection (fourAt 0 found) (fourAt 4 found))
 
 -- the step that the functions make on lent places
 unfoldable pub lentStep : List ℤ → LentCall → Step Returned (List ℤ)

@@ -1,6 +1,6 @@
 -- The comparison machine of demand 3: it keeps the record's polynomials and exact, unbounded frames, one for each group, and sees no net.
 use Prim.Native.Nat.{ℕ}
-use mathlib.Core.List.{List}
+use mathlib.Core.List.{List, map}
 use lib.IntN.{ℤ, pos, _*ℤ_}
 use Rattle.integers.specs.Largest.{largestOf}
 use Rattle.polar.specs.Sigma.{Point}
@@ -9,12 +9,14 @@ use Rattle.polar.specs.Scale.{scaleOver}
 use Rattle.polar.specs.Polar.{polarOver, valueOver, terms}
 use Rattle.entries.specs.Frame.{entryPointsOver, framesWithQ}
 use Rattle.entries.specs.Entries.{listedOver}
+use Rattle.projection.specs.Projection.{Four}
 use Rattle.machine.specs.Refusals.{Test, firstFailed}
 use Rattle.kinds.specs.Kinds.{groupsOf}
 use Rattle.kinds.specs.Frames.{Frames}
 use Rattle.machine.specs.Frames.{pointsOf, framesAfter, newNumbers}
 use Rattle.machine.specs.Sizes.{beforeSize, callTests}
-use Rattle.machine.specs.Steps.{Answer, Taken, foundAt, Step, stepBy}
+use Rattle.machine.specs.Projected.{namedAtZero}
+use Rattle.machine.specs.Steps.{Answer, Taken, fourOf, foundAt, Step, stepBy}
 use Rattle.machine.specs.Nets.{Net}
 use Rattle.machine.specs.declared.Call.{Call}
 use Rattle.machine.specs.declared.Call.the-variants as call
@@ -56,6 +58,10 @@ netOver f frames =
 unfoldable pub machinePolar : Polynomials → Frames → Call → ℕ → List (List ℕ) → ℤ
 machinePolar f frames c i es = polarOf f i (entryPointsOver (framesWithQ (pointsOf (groups f) frames c) frames) es)
 
+-- the four components of it
+unfoldable pub machineFour : Polynomials → Frames → Call → List (List ℕ) → Four
+machineFour f frames c es = fourOf (λ i. machinePolar f frames c i es)
+
 -- the tests of a call before that of its size, and all of them: 'the comparison machine answers 12 too, by the q of its own frame'
 unfoldable pub machineBefore : Polynomials → Frames → Call → List Test
 machineBefore f frames c = beforeSize (groups f) c (newNumbers (groups f) frames c)
@@ -63,10 +69,13 @@ machineBefore f frames c = beforeSize (groups f) c (newNumbers (groups f) frames
 unfoldable pub machineTests : Polynomials → Frames → Call → List Test
 machineTests f frames c = callTests (groups f) c (newNumbers (groups f) frames c) (machinePolar f frames c)
 
--- an accepted move changes the frames; an accepted point answers L × F(q) with its projection
+-- an accepted move changes the frames; an accepted point answers L × F(q) with its projection, or, on a curve
+-- through a common zero, with that of what is left there
 unfoldable pub machineAccepted : Polynomials → Frames → Call → Step Answer Frames
 machineAccepted f frames (call.Move operation vertex weights) = record { answer = Taken; left = framesAfter (groups f) frames (call.Move operation vertex weights) }
-machineAccepted f frames (call.Point weights) = record { answer = foundAt (scaledValue f (pointsOf (groups f) frames (call.Point weights))); left = frames }
+machineAccepted f frames (call.Point weights) =
+    let point = fourOf (scaledValue f (pointsOf (groups f) frames (call.Point weights))) in
+    record { answer = foundAt point (map (machineFour f frames (call.Point weights)) (namedAtZero (groups f) (weights .s))); left = frames }
 
 unfoldable pub machineStep : Polynomials → Frames → Call → Step Answer Frames
 machineStep f frames c = stepBy (firstFailed (machineTests f frames c)) frames (machineAccepted f frames c)

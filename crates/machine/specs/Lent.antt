@@ -90,10 +90,11 @@ madePlaces kind degree second frame coefficients lent =
 
 -- ---- a call
 
--- a point writes four numbers into places lent for them; a move writes none
+-- a point writes eight numbers into places lent for them, its components and the numbers projected; a move
+-- writes none
 abbrev pub room : Call → List ℤ → Bool
 room (Move operation vertex weights) found = true
-room (Point weights) found = leb 4 (length found)
+room (Point weights) found = leb 8 (length found)
 
 -- its number, and after it the net's places and those lent for a point's numbers
 unfoldable pub callNumber : Call → List ℤ → List ℤ → ℕ

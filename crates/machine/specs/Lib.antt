@@ -4,6 +4,7 @@ pub mod Frames
 pub mod Sizes
 pub mod Names
 pub mod Steps
+pub mod Projected
 pub mod Nets
 pub mod Comparison
 pub mod First

@@ -2,13 +2,13 @@
 -- and q is over the frames that it carries.
 use Prim.Native.Nat.{ℕ, pred}
 use mathlib.Core.Bool.{Bool, cond}
-use mathlib.Core.List.{List, [], _∷_, _++_}
+use mathlib.Core.List.{List, [], _∷_, _++_, map}
 use lib.Dec.{eqb}
 use lib.IntN.{ℤ, pos}
 use Rattle.integers.specs.Largest.{largestOf}
 use Rattle.polar.specs.Groups.{Group}
 use Rattle.entries.specs.Entries.{entryOver, listedOver, fixedOver, flippedOver, asQ, onlyQ}
-use Rattle.projection.specs.Projection.{inRange}
+use Rattle.projection.specs.Projection.{Four, inRange}
 use Rattle.machine.specs.Refusals.{Test, _else_, firstFailed}
 use Rattle.integers.specs.Test.{all}
 use Rattle.kinds.specs.Kinds.{groupsOf, known}
@@ -16,7 +16,8 @@ use Rattle.kinds.specs.Frames.{Frames, numbersOf}
 use Rattle.machine.specs.Calls.{groupAt, ownAt, weightsFor}
 use Rattle.machine.specs.Frames.{framesAfter, newNumbers}
 use Rattle.machine.specs.Sizes.{callTests}
-use Rattle.machine.specs.Steps.{Answer, Taken, foundAt, Step, stepBy}
+use Rattle.machine.specs.Projected.{namedAtZero}
+use Rattle.machine.specs.Steps.{Answer, Taken, fourOf, foundAt, Step, stepBy}
 use Rattle.machine.specs.declared.Weights.{Weights}
 use Rattle.machine.specs.declared.Call.{Call}
 use Rattle.machine.specs.declared.Call.the-variants.{Move, Point}
@@ -41,6 +42,10 @@ entry net = entryOver (netGroups net) (net .entries)
 -- component c of the polar value with counts es of the call's q and of the vertices in each group, as the net's entries fix it
 unfoldable pub netPolar : Net → Call → ℕ → List (List ℕ) → ℤ
 netPolar net call c es = fixedOver (netGroups net) (weightsFor (netGroups net) call) (entry net c) es
+
+-- the four components of it
+unfoldable pub netFour : Net → Call → List (List ℕ) → Four
+netFour net call es = fourOf (λ c. netPolar net call c es)
 
 -- every entry of a net is in range
 abbrev pub netInRange : Net → Bool
@@ -74,7 +79,9 @@ entriesAfter net operation vertex weights =
 unfoldable pub largestAfter : Net → ℕ → ℕ → Weights → ℤ
 largestAfter net operation vertex weights = cond (eqb operation 1) (pos (largestOf (entriesAfter net operation vertex weights))) (net .largest)
 
--- What an accepted call answers and leaves: a move changes frames, entries and largest component, and the point is the polar value whose points are all q.
+-- What an accepted call answers and leaves: a move changes frames, entries and largest component, and the
+-- point is the polar value whose points are all q; where that is four zeros, a curve's values with copies of
+-- the other vertex are projected instead.
 unfoldable pub accepted : Net → Call → Step Answer Net
 accepted net (Move operation vertex weights) =
     record {
@@ -89,7 +96,9 @@ accepted net (Move operation vertex weights) =
             largest = largestAfter net operation vertex weights;
           };
     }
-accepted net (Point weights) = record { answer = foundAt (λ c. netPolar net (Point weights) c (onlyQ (netGroups net))); left = net }
+accepted net (Point weights) =
+    let gs = netGroups net in
+    record { answer = foundAt (netFour net (Point weights) (onlyQ gs)) (map (netFour net (Point weights)) (namedAtZero gs (weights .s))); left = net }
 
 -- The step of the net machine: what the library's functions do with a call.
 unfoldable pub stepOf : Net → Call → Step Answer Net

@@ -96,9 +96,13 @@ refused k = pos k ∷ []
 abbrev taken : List ℤ
 taken = refused 0
 
--- a point found, with its projection's values
+-- a point found, which is projected itself, with its projection's values
 abbrev found : List ℤ → List ℤ → List ℤ
-found numbers projected = pos 0 ∷ (numbers ++ projected)
+found numbers values = pos 0 ∷ (numbers ++ (numbers ++ values))
+
+-- four zeros found, the numbers projected there, and their projection's values
+abbrev foundAtZero : List ℤ → List ℤ → List ℤ
+foundAtZero projected values = pos 0 ∷ (four 0 0 0 0 ++ (projected ++ values))
 
 -- the bit patterns of a finite point: those of the point's quotients, each rounded once; they were worked out from the numbers beside them, not by these definitions
 abbrev finite : ℕ → ℕ → ℕ → List ℤ
@@ -235,7 +239,9 @@ samples =
       largest = 2;
       answers = refused 8 ∷ refused 8 ∷ refused 8 ∷ refused 8 ∷ refused 8 ∷ refused 8 ∷ refused 8 ∷ refused 9 ∷ [];
     }
-    ∷  -- every case of a projection: x = -4T², y = 3TZ + 6T², z = 0, w = -2TZ is nowhere, in a direction, and at 2, -4.5 and positive zero over a weight below 0
+    ∷  -- every case of a projection, off a common zero: x = -4T², y = 3TZ + 6T², z = 0, w = -2TZ is in a direction,
+    -- and at 2, -4.5 and positive zero over a weight below 0. T = 0 is a common zero: T taken out leaves 0,
+    -- 3, 0, -2
     record {
       polynomials = polynomials 1 2 0 (four 0 0 0 0 ∷ fourSigned (pos 0) (pos 3) (pos 0) (minus 2) ∷ fourSigned (minus 4) (pos 6) (pos 0) (pos 0) ∷ []);
       frame = four 0 1 1 0;
@@ -244,10 +250,148 @@ samples =
       net = four 0 0 0 0 ∷ fourSigned (pos 0) (pos 3) (pos 0) (minus 2) ∷ fourSigned (minus 8) (pos 12) (pos 0) (pos 0) ∷ [];
       largest = 12;
       answers =
-          found (four 0 0 0 0) []
+          foundAtZero (fourSigned (pos 0) (pos 3) (pos 0) (minus 2)) (finite 0 0xbff8000000000000 0)
           ∷ found (fourSigned (minus 8) (pos 12) (pos 0) (pos 0)) (direction (pos 2) (minus 3) (pos 0) 4)
           ∷ found (fourSigned (minus 8) (pos 18) (pos 0) (minus 4)) (finite 0x4000000000000000 0xc012000000000000 0)
           ∷ [];
+    }
+    -- ---- common zeros. The numbers projected were found by taking 2T - Z, T or Z out of the polynomials,
+    -- not by these definitions
+    ∷  -- x = 4TZ, y = -6TZ, z = 0, w = T²: at T = 0, by weights of which that of s is 0, a direction is left; it has no
+    -- length of its own, and elsewhere there are lengths
+    record {
+      polynomials = polynomials 1 2 0 (four 0 0 0 0 ∷ fourSigned (pos 4) (minus 6) (pos 0) (pos 0) ∷ four 0 0 0 1 ∷ []);
+      frame = four 0 1 1 0;
+      calls = point (pos 1) (pos 0) (pos 0) (pos 0) ∷ point (pos 0) (pos 1) (pos 0) (pos 0) ∷ [];
+      reached = four 0 1 1 0;
+      net = four 0 0 0 0 ∷ fourSigned (pos 4) (minus 6) (pos 0) (pos 0) ∷ four 0 0 0 2 ∷ [];
+      largest = 6;
+      answers =
+          foundAtZero (fourSigned (pos 4) (minus 6) (pos 0) (pos 0)) (direction (pos 2) (minus 3) (pos 0) 1)
+          ∷ found (four 0 0 0 2) (finite 0 0 0)
+          ∷ [];
+    }
+    ∷  -- x = (2T - Z) Z, w = (2T - Z) T at q = r + s, q = 2r + 2s and q = -r - s: r is the other vertex
+    record {
+      polynomials = polynomials 1 2 0 (fourSigned (minus 1) (pos 0) (pos 0) (pos 0) ∷ fourSigned (pos 2) (pos 0) (pos 0) (minus 1) ∷ four 0 0 0 2 ∷ []);
+      frame = four 0 1 1 1;
+      calls = point (pos 1) (pos 1) (pos 0) (pos 0) ∷ point (pos 2) (pos 2) (pos 0) (pos 0) ∷ point (minus 1) (minus 1) (pos 0) (pos 0) ∷ [];
+      reached = four 0 1 1 1;
+      net = fourSigned (minus 2) (pos 0) (pos 0) (pos 0) ∷ fourSigned (pos 0) (pos 0) (pos 0) (minus 1) ∷ four 2 0 0 2 ∷ [];
+      largest = 2;
+      answers =
+          foundAtZero (fourSigned (minus 2) (pos 0) (pos 0) (minus 1)) (finite 0x4000000000000000 0 0)
+          ∷ foundAtZero (fourSigned (minus 4) (pos 0) (pos 0) (minus 2)) (finite 0x4000000000000000 0 0)
+          ∷ foundAtZero (four 2 0 0 1) (finite 0x4000000000000000 0 0)
+          ∷ [];
+    }
+    ∷  -- (2T - Z)² times 3Z², -2T², TZ, 4T²: a zero of order 2 in degree 4
+    record {
+      polynomials =
+          polynomials 1 4 0
+          (four 3 0 0 0
+          ∷ fourSigned (minus 12) (pos 0) (pos 1) (pos 0)
+          ∷ fourSigned (pos 12) (minus 2) (minus 4) (pos 4)
+          ∷ fourSigned (pos 0) (pos 8) (pos 4) (minus 16)
+          ∷ fourSigned (pos 0) (minus 8) (pos 0) (pos 16)
+          ∷ []);
+      frame = four 0 1 1 1;
+      calls = point (pos 1) (pos 1) (pos 0) (pos 0) ∷ point (minus 2) (minus 2) (pos 0) (pos 0) ∷ [];
+      reached = four 0 1 1 1;
+      net =
+          four 36 0 0 0
+          ∷ four 0 0 3 0
+          ∷ fourSigned (minus 12) (minus 4) (minus 2) (pos 8)
+          ∷ fourSigned (pos 0) (pos 12) (minus 3) (minus 24)
+          ∷ fourSigned (pos 36) (minus 24) (pos 12) (pos 48)
+          ∷ [];
+      largest = 48;
+      answers =
+          foundAtZero (fourSigned (pos 24) (minus 4) (pos 4) (pos 8)) (finite 0x4008000000000000 0xbfe0000000000000 0x3fe0000000000000)
+          ∷ foundAtZero (fourSigned (pos 96) (minus 16) (pos 16) (pos 32)) (finite 0x4008000000000000 0xbfe0000000000000 0x3fe0000000000000)
+          ∷ [];
+    }
+    ∷  -- x = TZ², y = 5Z³, w = 2TZ² over r = (1, 0), s = (0, 1): order 2 at q = 2r, q's weight of s is 0
+    record {
+      polynomials = polynomials 1 3 0 (four 0 5 0 0 ∷ four 1 0 0 2 ∷ four 0 0 0 0 ∷ four 0 0 0 0 ∷ []);
+      frame = four 1 0 0 1;
+      calls = point (pos 2) (pos 0) (pos 0) (pos 0) ∷ point (pos 0) (pos 3) (pos 0) (pos 0) ∷ [];
+      reached = four 1 0 0 1;
+      net = four 0 0 0 0 ∷ four 0 0 0 0 ∷ four 1 0 0 2 ∷ four 0 15 0 0 ∷ [];
+      largest = 15;
+      answers = foundAtZero (four 2 0 0 4) (finite 0x3fe0000000000000 0 0) ∷ found (four 0 405 0 0) (direction (pos 0) (pos 1) (pos 0) 405) ∷ [];
+    }
+    ∷  -- (2T - Z)³, (2T - Z) TZ, (2T - Z)² T, 0: the least of the four orders counts
+    record {
+      polynomials =
+          polynomials 1 3 0
+          (fourSigned (minus 1) (pos 0) (pos 0) (pos 0)
+          ∷ fourSigned (pos 6) (minus 1) (pos 1) (pos 0)
+          ∷ fourSigned (minus 12) (pos 2) (minus 4) (pos 0)
+          ∷ four 8 0 4 0
+          ∷ []);
+      frame = four 0 1 1 1;
+      calls = point (pos 1) (pos 1) (pos 0) (pos 0) ∷ [];
+      reached = four 0 1 1 1;
+      net =
+          fourSigned (minus 3) (pos 0) (pos 0) (pos 0)
+          ∷ fourSigned (pos 3) (minus 1) (pos 1) (pos 0)
+          ∷ fourSigned (minus 3) (pos 0) (minus 2) (pos 0)
+          ∷ four 3 3 3 0
+          ∷ [];
+      largest = 3;
+      answers = foundAtZero (fourSigned (pos 0) (minus 2) (pos 0) (pos 0)) (direction (pos 0) (pos 1) (pos 0) 1) ∷ [];
+    }
+    ∷  -- 7, 0, -2, 4 times (2T - Z)³: the order is the degree
+    record {
+      polynomials =
+          polynomials 1 3 0
+          (fourSigned (minus 7) (pos 0) (pos 2) (minus 4)
+          ∷ fourSigned (pos 42) (pos 0) (minus 12) (pos 24)
+          ∷ fourSigned (minus 84) (pos 0) (pos 24) (minus 48)
+          ∷ fourSigned (pos 56) (pos 0) (minus 16) (pos 32)
+          ∷ []);
+      frame = four 0 1 1 1;
+      calls = point (pos 1) (pos 1) (pos 0) (pos 0) ∷ [];
+      reached = four 0 1 1 1;
+      net =
+          fourSigned (minus 21) (pos 0) (pos 6) (minus 12)
+          ∷ fourSigned (pos 21) (pos 0) (minus 6) (pos 12)
+          ∷ fourSigned (minus 21) (pos 0) (pos 6) (minus 12)
+          ∷ fourSigned (pos 21) (pos 0) (minus 6) (pos 12)
+          ∷ [];
+      largest = 21;
+      answers = foundAtZero (fourSigned (minus 21) (pos 0) (pos 6) (minus 12)) (finite 0x3ffc000000000000 0 0xbfe0000000000000) ∷ [];
+    }
+    ∷  -- the zero curve is nowhere
+    record {
+      polynomials = polynomials 1 1 0 (four 0 0 0 0 ∷ four 0 0 0 0 ∷ []);
+      frame = four 0 1 1 1;
+      calls = point (pos 1) (pos 1) (pos 0) (pos 0) ∷ point (pos 1) (pos 0) (pos 0) (pos 0) ∷ [];
+      reached = four 0 1 1 1;
+      net = four 0 0 0 0 ∷ four 0 0 0 0 ∷ [];
+      largest = 0;
+      answers = foundAtZero (four 0 0 0 0) [] ∷ foundAtZero (four 0 0 0 0) [] ∷ [];
+    }
+    ∷  -- a triangular patch is nowhere at a common zero: x = w = U, y = V at U = V = 0
+    record {
+      polynomials = polynomials 2 1 0 (four 0 0 0 0 ∷ four 0 1 0 0 ∷ four 1 0 0 1 ∷ []);
+      frame = pos 1 ∷ pos 0 ∷ pos 0 ∷ pos 0 ∷ pos 1 ∷ pos 0 ∷ pos 0 ∷ pos 0 ∷ pos 1 ∷ [];
+      calls = point (pos 0) (pos 0) (pos 1) (pos 0) ∷ [];
+      reached = pos 1 ∷ pos 0 ∷ pos 0 ∷ pos 0 ∷ pos 1 ∷ pos 0 ∷ pos 0 ∷ pos 0 ∷ pos 1 ∷ [];
+      net = four 1 0 0 1 ∷ four 0 1 0 0 ∷ four 0 0 0 0 ∷ [];
+      largest = 1;
+      answers = foundAtZero (four 0 0 0 0) [] ∷ [];
+    }
+    ∷  -- so is a rectangular one: x = w = T₁T₂, y = T₁Z₂ at T₁ = 0
+    record {
+      polynomials = polynomials 3 1 1 (four 0 0 0 0 ∷ four 0 0 0 0 ∷ four 0 1 0 0 ∷ four 1 0 0 1 ∷ []);
+      frame = four 0 1 1 1 ++ four 0 1 1 1;
+      calls = point (pos 1) (pos 0) (pos 1) (pos 1) ∷ [];
+      reached = four 0 1 1 1 ++ four 0 1 1 1;
+      net = four 0 0 0 0 ∷ four 0 0 0 0 ∷ four 0 1 0 0 ∷ four 1 1 0 1 ∷ [];
+      largest = 1;
+      answers = foundAtZero (four 0 0 0 0) [] ∷ [];
     }
     ∷  -- a rectangular patch: a replace in each pair, a flip in each, a point, a direction, and the refusals of vertices, weights and pairs
     record {
@@ -460,6 +604,36 @@ handedFrames =
     ∷ onZeros 3 1 (zeros 8 ++ (minus 281474976710657 ∷ [])) (flip 1) is refused 0
     ∷ []
 
+-- what a point of a handed curve's net answers, over a frame of zeros: no record has it, and its determinant
+-- is 0
+abbrev handedPoint : ℕ → List (List ℤ) → ℤ → ℤ → List ℤ
+handedPoint degree entries r s =
+    answerRow
+    (stepOf
+    (record {
+      kind = 1;
+      degree = degree;
+      second = 0;
+      frames = framesOf (group 1 degree ∷ []) (zeros 4);
+      entries = joined (λ numbers. numbers) entries;
+      largest = pos 0;
+    })
+    (point r s (pos 0) (pos 0))
+    .answer)
+
+-- x = 2 (a² - b²), w = 2b (b - a) in the weights a and b: a common zero at a = b, and none at b = 0
+abbrev handedCurve : List (List ℤ)
+handedCurve = four 2 0 0 0 ∷ fourSigned (pos 0) (pos 0) (pos 0) (minus 1) ∷ fourSigned (minus 2) (pos 0) (pos 0) (pos 2) ∷ []
+
+abbrev handedZeros : List (Instance ℤ)
+handedZeros =
+    handedPoint 2 handedCurve (pos 1) (pos 1) is foundAtZero (fourSigned (pos 2) (pos 0) (pos 0) (minus 1)) (finite 0xc000000000000000 0 0)
+    ∷ handedPoint 2 handedCurve (pos 1) (pos 0) is found (four 2 0 0 0) (direction (pos 1) (pos 0) (pos 0) 2)
+    ∷ handedPoint 2 (four 0 0 0 0 ∷ four 0 0 0 0 ∷ four 0 0 3 0 ∷ []) (pos 5) (pos 0) is foundAtZero (four 0 0 3 0) (direction (pos 0) (pos 0) (pos 1) 1)
+    ∷ handedPoint 2 (four 0 0 0 0 ∷ four 0 4 0 0 ∷ four 0 0 3 0 ∷ []) (pos 5) (pos 0) is foundAtZero (four 0 20 0 0) (direction (pos 0) (pos 1) (pos 0) 1)
+    ∷ handedPoint 1 (four 0 0 0 0 ∷ four 0 0 0 0 ∷ []) (pos 1) (pos 1) is foundAtZero (four 0 0 0 0) []
+    ∷ []
+
 -- a curve of degree 1 and zero entries, in the nine places of whose frame a number stands at place k, counted from 0
 abbrev lentFrame : ℕ → ℕ → List ℤ
 lentFrame k number = pos 1 ∷ pos 1 ∷ pos 0 ∷ (zeros k ++ (pos number ∷ zeros 189))
@@ -473,9 +647,9 @@ abbrev lentNets : List (Instance ℤ)
 lentNets =
     refused (callNumber (flip 1) (lentFrame 3 281474976710657) []) is refused 12
     ∷ refused (callNumber (flip 1) (lentFrame 4 281474976710657) []) is refused 0
-    ∷ refused (callNumber (point (pos 4097) (pos 0) (pos 0) (pos 0)) (zeros 192) (zeros 4)) is refused 11
-    ∷ refused (callNumber (point (pos 4097) (pos 0) (pos 0) (pos 0)) (zeros 193) (zeros 3)) is refused 11
-    ∷ refused (callNumber (point (pos 4097) (pos 0) (pos 0) (pos 0)) (zeros 193) (zeros 4)) is refused 4
+    ∷ refused (callNumber (point (pos 4097) (pos 0) (pos 0) (pos 0)) (zeros 192) (zeros 8)) is refused 11
+    ∷ refused (callNumber (point (pos 4097) (pos 0) (pos 0) (pos 0)) (zeros 193) (zeros 7)) is refused 11
+    ∷ refused (callNumber (point (pos 4097) (pos 0) (pos 0) (pos 0)) (zeros 193) (zeros 8)) is refused 4
     ∷ refused (callNumber (flip 3) (zeros 193) []) is refused 4
     -- kind and degrees that are no bytes are none that a net has
     ∷ lentHead (pos 1) (pos 1) (pos 0) is refused 0
@@ -662,4 +836,4 @@ twoGroups =
     ∷ []
 
 abbrev pub instances : List (Instance ℤ)
-instances = firstNets ++ handedNets ++ handedFrames ++ lentNets ++ weightPlaces ++ claims ++ fixedValues ++ twoGroups
+instances = firstNets ++ handedNets ++ handedFrames ++ handedZeros ++ lentNets ++ weightPlaces ++ claims ++ fixedValues ++ twoGroups

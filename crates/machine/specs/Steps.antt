@@ -2,39 +2,61 @@
 use Prim.Native.Nat.{ℕ, zero, suc}
 use mathlib.Core.List.{List, [], _∷_, _++_, map}
 use lib.IntN.{ℤ, pos}
-use lib.ListN.{take}
-use Rattle.projection.specs.Projection.{projectionOf, coordinateBits, directionNumbers}
+use Rattle.projection.specs.Projection.{Four, fourNumbers, fourZeros, firstNotZeros, foundProjection, coordinateBits, directionNumbers}
 use Rattle.projection.specs.declared.Projection.{Projection}
 
--- ---- answers: the move is taken, or the point found (x, y, z, w) with its projection, or the number of the refusal
+-- ---- answers
+
+-- The move is taken, or the point is found: its components x, y, z, w, the numbers projected, and their
+-- projection. Or the number of the refusal.
 pub data Answer : Type 0 where
   Taken : Answer
-  Found : ℤ → ℤ → ℤ → ℤ → Projection → Answer
+  Found : Four → Four → Projection → Answer
   Refused : ℕ → Answer
 
--- the answer for a point, by its components
-unfoldable pub foundAt : (ℕ → ℤ) → Answer
-foundAt p = Found (p 0) (p 1) (p 2) (p 3) (projectionOf (p 0) (p 1) (p 2) (p 3))
+-- four numbers by their place
+abbrev pub fourOf : (ℕ → ℤ) → Four
+fourOf p = record { x = p 0; y = p 1; z = p 2; w = p 3 }
+
+-- the answer for a point; `atZero` are the values of which the first that is not four zeros is projected
+-- where the point is four zeros
+unfoldable pub foundAt : Four → List Four → Answer
+foundAt point atZero =
+    let projected = firstNotZeros (point ∷ atZero) in
+    Found point projected (foundProjection point projected)
 
 -- the table's number, 0 where nothing is refused
 abbrev pub refusalNumber : Answer → ℕ
 refusalNumber Taken = 0
-refusalNumber (Found x y z w at) = 0
+refusalNumber (Found point projected at) = 0
 refusalNumber (Refused k) = k
+
+-- the point found, and the numbers projected; zeros where there is none
+abbrev pub foundOf : Answer → Four
+foundOf Taken = fourZeros
+foundOf (Found point projected at) = point
+foundOf (Refused k) = fourZeros
+
+abbrev pub projectedOf : Answer → Four
+projectedOf Taken = fourZeros
+projectedOf (Found point projected at) = projected
+projectedOf (Refused k) = fourZeros
+
+-- what a call writes into lent places: the components of a found point, and then the numbers projected
+abbrev pub pointValues : Answer → List ℤ
+pointValues Taken = []
+pointValues (Found point projected at) = fourNumbers point ++ fourNumbers projected
+pointValues (Refused k) = []
 
 -- the values of a projection: the three bit patterns of a finite point, or the three numbers of a direction and its length; nowhere has none
 abbrev pub projectionValues : Projection → List ℤ
 projectionValues p = map pos (coordinateBits p) ++ directionNumbers p
 
--- the values of an answer: the four components of a found point, and then its projection's values
+-- the values of an answer: those of a found point, and then its projection's
 abbrev pub answerValues : Answer → List ℤ
 answerValues Taken = []
-answerValues (Found x y z w at) = x ∷ y ∷ z ∷ w ∷ projectionValues at
+answerValues (Found point projected at) = (fourNumbers point ++ fourNumbers projected) ++ projectionValues at
 answerValues (Refused k) = []
-
--- those that a call writes into lent places: the components
-abbrev pub pointValues : Answer → List ℤ
-pointValues answer = take 4 (answerValues answer)
 
 -- ---- steps
 

@@ -2,7 +2,7 @@
 -- Numbers past the entries and weights past the vertices fix nothing (entries/proofs/Fixed.antt).
 use Prim.Native.Nat.{ℕ, suc, _+_, _*_, _-_, _<_}
 use native.Mathlib.Omega.{arith}
-use mathlib.Core.Path.{_≡_, sym, ap, ap₂, _∙_, fun-ext}
+use mathlib.Core.Path.{_≡_, refl, sym, ap, ap₂, _∙_, fun-ext}
 use mathlib.Core.Bool.{_&&_}
 use mathlib.Core.List.{List, [], _∷_, map}
 use lib.IntN.{ℤ, pos}
@@ -54,6 +54,13 @@ module _ (w n m : ℕ) (us ws xs : List ℤ) (same : (v : ℕ) → v < suc n →
       let below = upto-below (suc m) h i in
       all-cong (λ c. inRange (valuesOf w n m us (take (size w n m) xs) c h e)) (λ c. inRange (valuesOf w n m ws xs c h e)) (upto w)
       (λ c k. ap inRange (values-used c h e (upto-below w c k) (r .0) (omega (arith, r .1))))))
+
+-- so nets with the same entries have the same values in range
+pub named-front : (w n m : ℕ) (ws xs ys : List ℤ) → take (size w n m) xs ≡ take (size w n m) ys → allNamedAt w n m ws xs ≡ allNamedAt w n m ws ys
+named-front w n m ws xs ys same =
+    sym (named-used w n m ws ws xs (λ v h. refl))
+    ∙ ap (allNamedAt w n m ws) same
+    ∙ named-used w n m ws ws ys (λ v h. refl)
 
 -- ---- the size rule of a point
 

@@ -4,7 +4,7 @@ use Prim.Native.Nat.{ℕ, zero, suc, pred, _≤_, _<_}
 use native.Mathlib.Omega.{arith}
 use mathlib.Core.Path.{_≡_, refl, sym, ap, ap₂, _∙_, fun-ext, subst}
 use mathlib.Core.Bool.{Bool, true, false, cond}
-use mathlib.Core.List.{List, [], _∷_}
+use mathlib.Core.List.{List, [], _∷_, map}
 use borrow.Author.Tests.{le-leb, lt-leb}
 use lib.Dec.{eqb}
 use lib.IntN.{ℤ, pos}
@@ -24,8 +24,9 @@ use Rattle.machine.proofs.Refusals.{passes, fails}
 use Rattle.machine.specs.Calls.{groupAt, ownAt, weightsFor, ownTests}
 use Rattle.machine.specs.Frames.{newNumbers}
 use Rattle.machine.specs.Sizes.{namedBy, allNamed}
-use Rattle.machine.specs.Steps.{pointValues, foundAt}
-use Rattle.machine.specs.Nets.{Net, netPolar, handedTests, netTests, entriesAfter, accepted}
+use Rattle.machine.specs.Projected.{namedAtZero}
+use Rattle.machine.specs.Steps.{pointValues, fourOf, foundAt}
+use Rattle.machine.specs.Nets.{Net, netPolar, netFour, handedTests, netTests, entriesAfter, accepted}
 use Rattle.machine.specs.Lent.{byteOf, netAt, putAt, putNet, enoughPlaces, room, unlessRefused, callNumber, callPlaces, callFound}
 use Rattle.machine.proofs.Lent.{part-read, put-moved, head-stood, stood-sound, accepted-sound}
 use Rattle.machine.specs.declared.Weights.{Weights}
@@ -119,8 +120,10 @@ module _ (kind degree second : ℕ) (lent : List ℤ) (long : 193 ≤ length len
       (entries-are right)
 
   pub found-same : known kind degree second ≡ true → (weights : Weights) → accepted (netFrom kind degree second part) (Point weights) .answer ≡ accepted net (Point weights) .answer
-  unfolding accepted
-  found-same right weights = ap foundAt (fun-ext (λ c. polar-same right (Point weights) c (onlyQ (groupsOf kind degree second))))
+  unfolding accepted netFour
+  found-same right weights =
+      let gs = groupsOf kind degree second in
+      ap (λ P. foundAt (fourOf (λ c. P c (onlyQ gs))) (map (λ es. fourOf (λ c. P c es)) (namedAtZero gs (weights .s)))) (fun-ext (λ c. fun-ext (λ es. polar-same right (Point weights) c es)))
 
 -- ---- the net that stands in the places
 

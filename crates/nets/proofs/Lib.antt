@@ -10,6 +10,9 @@ pub mod Vertices
 pub mod Steps
 pub mod Made
 pub mod PointMade
+pub mod ZeroPlaces
+pub mod ZeroLine
+pub mod ProjectedMade
 pub mod InPlaces
 pub mod Moves
 pub mod Lists

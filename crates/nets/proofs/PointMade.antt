@@ -6,29 +6,30 @@ use native.Mathlib.Omega.{arith}
 use native.Mathlib.Decide.{decLt}
 use mathlib.Core.Path.{_≡_, refl, sym, ap, ap₂, _∙_, subst}
 use mathlib.Core.Bool.{Bool, true, false, _&&_}
-use mathlib.Core.List.{List, [], _∷_}
+use mathlib.Core.List.{List, [], _∷_, _++_}
 use lib.Dec.{lit≤}
 use lib.IntN.{ℤ, pos, natAbs}
 use lib.ListN.{length, getD, take, drop, replicate}
+use lib.Seq.{drop-drop}
 use Rattle.integers.specs.Sum.{upto}
 use Rattle.integers.specs.Test.{all}
 use Rattle.integers.proofs.All.{and-one, all-at}
 use Rattle.integers.proofs.Sums.{below-upto}
 use Rattle.polar.specs.Order.{counts}
 use Rattle.polar.specs.Groups.{Group, countsOver}
-use Rattle.projection.specs.Projection.{inRange}
+use Rattle.projection.specs.Projection.{inRange, Four, fourNumbers}
 use Rattle.entries.specs.Entries.{entryOver, fixedOver, onlyQ}
 use Rattle.entries.specs.Rows.{size}
 use Rattle.entries.proofs.Places.{length-counts}
 use Rattle.entries.proofs.Fixed.{fixed-cong}
 use Rattle.entries.proofs.Listed.{first-digit}
 use Rattle.entries.proofs.Groups.{total-zeros, length-zeros}
-use Rattle.kinds.specs.Kinds.{group, laterGroups, laterDimension}
-use Rattle.kinds.proofs.Limits.{later-none, later-one, pairs-only}
+use Rattle.kinds.specs.Kinds.{group, dimensionOf, laterGroups, laterDimension}
+use Rattle.kinds.proofs.Limits.{limits, later-none, later-one, pairs-only}
 use Rattle.machine.specs.Calls.{weightList, shares, ownTests}
 use Rattle.machine.specs.Sizes.{namedBy, namedByPoint, allNamed}
-use Rattle.machine.specs.Steps.{foundAt, pointValues}
-use Rattle.machine.specs.Nets.{netPolar, accepted}
+use Rattle.machine.specs.Steps.{fourOf, foundOf, foundAt}
+use Rattle.machine.specs.Nets.{netPolar, netFour, accepted}
 use Rattle.machine.specs.Lent.{putAt}
 use Rattle.machine.proofs.Lent.{front-put}
 use Rattle.machine.specs.declared.Weights.{Weights}
@@ -36,10 +37,12 @@ use Rattle.machine.specs.declared.Call.the-variants.{Point}
 use Rattle.nets.specs.Rows.{written, weightSum, level}
 use Rattle.nets.specs.Levels.{valuesOf, namedAt, allNamedAt, Descends}
 use Rattle.nets.specs.Calls.{netFrom, InOrder, laterWeights, LaterDescends, LaterDescended, Pointed}
-use Rattle.nets.proofs.GroupPoint.{named-used, values-left, named-point}
+use Rattle.nets.specs.Zeros.{LineAsked, pointProjected, projectedPut}
+use Rattle.nets.proofs.GroupPoint.{named-used, named-front, values-left, named-point}
 use Rattle.nets.proofs.LevelValues.{level-named, level-last, length-level}
 use Rattle.nets.proofs.FirstMoves.{counts-some, polarBy, sizeBy, point-size, point-value}
-use Rattle.nets.proofs.Made.{light, n, w, over, used, groups-are, entries-used, net-sized, net-ranged, row-in, number-by, part-size, later-sized}
+use Rattle.nets.proofs.Made.{light, rowNumbers, n, w, over, used, right, groups-are, entries-used, net-sized, net-long, net-ranged, row-in, number-by, part-size, later-sized}
+use Rattle.nets.proofs.ZeroLine.{net-projected}
 
 -- ---- copies
 
@@ -47,6 +50,10 @@ use Rattle.nets.proofs.Made.{light, n, w, over, used, groups-are, entri
 four-put : (xs : List ℤ) (g : ℕ → ℤ) → 4 ≤ length xs → written xs 0 4 g ≡ putAt 0 (g 0 ∷ g 1 ∷ g 2 ∷ g 3 ∷ []) xs
 unfolding written
 four-put xs g h = front-put (g 0 ∷ g 1 ∷ g 2 ∷ g 3 ∷ []) xs h
+
+-- four numbers, and four behind them
+two-fours : (p q : Four) (found : List ℤ) → putAt 4 (fourNumbers q) (putAt 0 (fourNumbers p) found) ≡ putAt 0 (fourNumbers p ++ fourNumbers q) found
+two-fours p q found = ap (λ l. fourNumbers p ++ (fourNumbers q ++ l)) (drop-drop 4 4 found)
 
 -- degree 0 has one entry
 one-entry : (j : ℕ) → length (counts j 0) ≡ 1
@@ -62,9 +69,9 @@ named-same v d m us ws xs same = sym (named-used v d m us us xs (λ u p. refl)) 
 -- ---- a point in order
 
 point-found : {kind degree second : ℕ} {places : List ℤ} {weights : Weights} (ordered : InOrder kind degree second places (Point weights))
-    → accepted (netFrom kind degree second places) (Point weights) .answer ≡ foundAt (λ c. polarBy (over ordered) (Point weights) (used ordered) c (onlyQ (over ordered)))
-unfolding accepted netPolar
-point-found {weights = weights} ordered = ap₂ (λ g xs. foundAt (λ c. polarBy g (Point weights) xs c (onlyQ g))) (groups-are ordered) (entries-used ordered)
+    → foundOf (accepted (netFrom kind degree second places) (Point weights) .answer) ≡ fourOf (λ c. polarBy (over ordered) (Point weights) (used ordered) c (onlyQ (over ordered)))
+unfolding accepted netPolar netFour foundAt
+point-found {weights = weights} ordered = ap₂ (λ g xs. fourOf (λ c. polarBy g (Point weights) xs c (onlyQ g))) (groups-are ordered) (entries-used ordered)
 
 module _ {kind degree second : ℕ} {places : List ℤ} {weights : Weights} (ordered : InOrder kind degree second places (Point weights)) where
   abbrev d : ℕ
@@ -137,6 +144,18 @@ module _ {kind degree second : ℕ} {places : List ℤ} {weights : Weights} (ord
             light = both-light .1;
           }
 
+      -- the entries of a curve are what the putting of the numbers projected asks for
+      pub line-asked : (free : List ℤ) → size v d degree ≤ length free → kind ≡ 1 → LineAsked degree weights places free
+      unfolding countsOver
+      line-asked free enough one =
+          let at = limits kind degree second (right ordered) in
+          let entries : Descends v d degree weights places = record { sized = net-sized ordered; long = net-long ordered; range = net-ranged ordered; light = both-light .0 } in
+          let line = subst Line one (entries, named-front v d degree ws places room (sym copied) ∙ sym passed, enough) in
+          record { ready = line .0; named = line .1; free = line .2; low = at .degree-low; high = omega (arith, at .degree-below) }
+        where
+          Line : ℕ → Type 0
+          Line k = Descends (rowNumbers k second) (dimensionOf k) degree weights places × (allNamedAt (rowNumbers k second) (dimensionOf k) degree ws places ≡ true) × (size (rowNumbers k second) (dimensionOf k) degree ≤ length free)
+
       -- what is answered and left, by whether the second group's levels are in range
       module _ (b : Bool) (left : List ℤ) (descended : LaterDescended kind second weights row b left) where
         -- the groups after the first, their rule and their point
@@ -205,17 +224,27 @@ module _ {kind degree second : ℕ} {places : List ℤ} {weights : Weights} (ord
         pub point-refused : b ≡ false → (found : List ℤ) → Pointed (netFrom kind degree second places) (Point weights) 10 found found
         point-refused no-it-is-not found = record { number-is = sym (number-by ordered false (size-by ∙ no-it-is-not)); places = refl }
 
-        pub point-taken : b ≡ true → (found after : List ℤ) → 4 ≤ length found → after ≡ written found 0 4 (λ i. getD left i (pos 0)) → Pointed (netFrom kind degree second places) (Point weights) 0 found after
-        unfolding foundAt
-        point-taken yes-it-is found after room-for is = record {
-          number-is = sym (number-by ordered true (size-by ∙ yes-it-is));
-          places = is ∙ four-put found (λ i. getD left i (pos 0)) room-for ∙ ap (λ xs. putAt 0 xs found) (sym values-are);
-        }
+        -- the point is copied, and the numbers projected are put behind it
+        pub point-taken : b ≡ true → (found first after : List ℤ) → 4 ≤ length found → first ≡ written found 0 4 (λ i. getD left i (pos 0)) → after ≡ projectedPut kind degree weights places first
+            → Pointed (netFrom kind degree second places) (Point weights) 0 found after
+        unfolding accepted foundAt
+        point-taken yes-it-is found first after room-for copy is =
+            record {
+              number-is = sym (number-by ordered true (size-by ∙ yes-it-is));
+              places =
+                  is
+                  ∙ ap (projectedPut kind degree weights places) (copy ∙ four-put found (λ i. getD left i (pos 0)) room-for ∙ ap (λ xs. putAt 0 xs found) (sym values-are))
+                  ∙ two-fours point (pointProjected kind degree weights places point) found
+                  ∙ ap (λ q. putAt 0 (fourNumbers point ++ fourNumbers q) found) (sym (net-projected degree second places weights kind));
+            }
           where
+            point : Four
+            point = foundOf (accepted (netFrom kind degree second places) (Point weights) .answer)
+
             value : (c : ℕ) → c < 4 → polarBy (over ordered) (Point weights) (used ordered) c (onlyQ (over ordered)) ≡ getD left c (pos 0)
             value c k = whole-value c k ∙ rest-is .1 yes-it-is c k
 
-            values-are : pointValues (accepted (netFrom kind degree second places) (Point weights) .answer) ≡ getD left 0 (pos 0) ∷ getD left 1 (pos 0) ∷ getD left 2 (pos 0) ∷ getD left 3 (pos 0) ∷ []
+            values-are : fourNumbers point ≡ getD left 0 (pos 0) ∷ getD left 1 (pos 0) ∷ getD left 2 (pos 0) ∷ getD left 3 (pos 0) ∷ []
             values-are =
-                ap pointValues (point-found ordered)
+                ap fourNumbers (point-found ordered)
                 ∙ (λ i. value 0 (omega arith) i ∷ value 1 (omega arith) i ∷ value 2 (omega arith) i ∷ value 3 (omega arith) i ∷ [])

@@ -1,6 +1,6 @@
 -- One step of a row's blend, on plain numbers: what stands at and past the place is as it was, so the bound holds and the new number is the blend of the old ones.
 use Prim.Native.Nat.{ℕ, _+_, _*_, _-_, _^_, _≤_, _<_}
-use native.Mathlib.Nat.{mul-le-mul-left}
+use native.Mathlib.Nat.{add-comm, mul-le-mul-left}
 use native.Mathlib.Omega.{arith}
 use mathlib.Core.Path.{_≡_, sym, ap, ap₂, _∙_, subst}
 use mathlib.Core.List.{List}
@@ -17,6 +17,10 @@ use Rattle.nets.proofs.Lists.{write-next, write-still}
 -- what an element that was read is: its range is known from its type
 pub element : (v : ℤ) → mag v < 2 ^ 63 → seen v ≡ v
 element v h = back-fits {z = v} (sfits-of h)
+
+-- k places further on
+pub further : (xs : List ℤ) (at k : ℕ) → mag (getD xs (at + k) (pos 0)) < 2 ^ 63 → seen (getD xs (at + k) (pos 0)) ≡ getD xs (k + at) (pos 0)
+further xs at k h = element (getD xs (at + k) (pos 0)) h ∙ ap (λ i. getD xs i (pos 0)) (add-comm at k)
 
 -- three products whose weights are W in all
 pub three-small : (a x b y c z : ℤ) (B : ℕ) → natAbs x ≤ B → natAbs y ≤ B → natAbs z ≤ B → (natAbs a + natAbs b + natAbs c) * B < 2 ^ 63

@@ -24,6 +24,7 @@ use Rattle.machine.specs.First.{firstTests, firstNet}
 use Rattle.machine.specs.Lent.{putAt, putNet, unlessRefused, polynomialsFrom}
 use Rattle.machine.specs.declared.Weights.{Weights}
 use Rattle.machine.specs.declared.Call.{Call}
+use Rattle.machine.specs.declared.Call.the-variants as call
 use Rattle.nets.specs.Rows.{Sized}
 use Rattle.nets.specs.Levels.{Descends, Descended}
 
@@ -72,6 +73,14 @@ pub record LaterDescends (kind second : ℕ) (weights : Weights) (xs : List ℤ)
 pub record LaterDescended (kind second : ℕ) (weights : Weights) (xs : List ℤ) (b : Bool) (ys : List ℤ) : Type 0 where
   pub none : laterDimension kind ≡ 0 → (b ≡ true) × (ys ≡ xs)
   pub some : (laterDimension kind ≡ 0 → ⊥) → Descended 4 (laterDimension kind) second (laterWeights weights) xs b ys
+
+-- what finding a point in a room asks for: a point in order, eight places for what is found, and a room for
+-- the entries, which are `count` numbers
+pub record PointAsked (kind degree second : ℕ) (weights : Weights) (entries room found : List ℤ) (count : ℕ) : Type 0 where
+  pub ordered : InOrder kind degree second entries (call.Point weights)
+  pub eight : 8 ≤ length found
+  pub free : count ≤ length room
+  pub counted : count ≡ numberCount (groupsOf kind degree second)
 
 -- the number of a point that only its size may refuse, and the places lent for its numbers after it
 pub record Pointed (net : Net) (call : Call) (number : ℕ) (before after : List ℤ) : Type 0 where

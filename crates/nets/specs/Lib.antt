@@ -7,3 +7,4 @@ pub mod FirstNet
 pub mod Frames
 pub mod Calls
 pub mod Sides
+pub mod Zeros

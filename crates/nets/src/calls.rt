@@ -7,7 +7,6 @@ ghost use lib.IntN.{pos};
 ghost use lib.ListN.{length, getD};
 ghost use Rattle.integers.specs.Test.{all};
 ghost use Rattle.projection.specs.Projection.{isZero};
-ghost use Rattle.entries.specs.Entries.{numberCount};
 ghost use Rattle.entries.specs.Rows.{size};
 ghost use Rattle.kinds.specs.Kinds.{group, groupsOf, dimensionOf};
 ghost use Rattle.machine.specs.Refusals.{_else_, firstFailed};
@@ -32,6 +31,7 @@ ghost use Rattle.nets.specs.Calls.{
   laterWeights,
   LaterDescends,
   LaterDescended,
+  PointAsked,
   Pointed,
 };
 use crate::flips::flip_entries;
@@ -45,6 +45,7 @@ use crate::rows::entries_within;
 use crate::rows::numbers;
 use crate::sides::descend_line;
 use crate::sides::descend_triangle;
+use crate::zeros::put_projected;
 use integers::is_within;
 use kinds::dimension_of;
 use kinds::known_kind;
@@ -571,28 +572,30 @@ fn descend_later(cur: &mut [i64], kind: u8, second: u8, weights: Weights) -> boo
 }
 
 // The point that weights name which are not refused: the first group's levels, and then the second group's on
-// the one row that they leave. The answer is 10, or 0 and its four numbers in `found`. The work is done in a
-// room.
+// the one row that they leave. The answer is 10, or 0 and in `found` its four numbers and the numbers
+// projected. The work is done in a room, on a copy of the entries, which are `count` numbers.
 pub(crate) fn point_in(
     cur: &mut [i64],
     entries: &[i64],
+    count: usize,
     kind: u8,
     degree: u8,
     second: u8,
     weights: Weights,
     found: &mut [i64],
 ) -> u8
-    requires { ⌜ InOrder kind degree second (now entries) (Call.Point weights) × (4 ≤ length (now found)) × (numberCount (groupsOf kind degree second) ≤ length (now cur)) ⌝ }
+    requires { ⌜ PointAsked kind degree second weights (now entries) (now cur) (now found) count ⌝ }
     ensures { λ k. ⌜ Pointed (netFrom kind degree second (now (entries .entry))) (Call.Point weights) k (now (found .entry)) (now (found .exit)) ⌝ }
 {
-    copy(&mut *cur, entries, number_count(kind, degree, second));
+    copy(&mut *cur, entries, count);
     if !descend_first(&mut *cur, kind, degree, second, weights) {
         return 10;
     }
     if !descend_later(&mut *cur, kind, second, weights) {
         return 10;
     }
-    copy(found, cur, 4);
+    copy(&mut *found, cur, 4);
+    put_projected(cur, entries, kind, degree, weights, found);
     0
 }
 
@@ -605,13 +608,32 @@ pub(crate) fn make_point(
     weights: Weights,
     found: &mut [i64],
 ) -> u8
-    requires { ⌜ InOrder kind degree second (now entries) (Call.Point weights) × (4 ≤ length (now found)) ⌝ }
+    requires { ⌜ InOrder kind degree second (now entries) (Call.Point weights) × (8 ≤ length (now found)) ⌝ }
     ensures { λ k. ⌜ Pointed (netFrom kind degree second (now (entries .entry))) (Call.Point weights) k (now (found .entry)) (now (found .exit)) ⌝ }
 {
-    if number_count(kind, degree, second) <= FEW {
+    let count = number_count(kind, degree, second);
+    if count <= FEW {
         let mut cur = [0; FEW];
-        return point_in(&mut cur, entries, kind, degree, second, weights, found);
+        return point_in(
+            &mut cur,
+            entries,
+            count,
+            kind,
+            degree,
+            second,
+            weights,
+            found,
+        );
     }
     let mut cur = [0; PLACES];
-    point_in(&mut cur, entries, kind, degree, second, weights, found)
+    point_in(
+        &mut cur,
+        entries,
+        count,
+        kind,
+        degree,
+        second,
+        weights,
+        found,
+    )
 }

@@ -9,6 +9,7 @@ mod frames;
 mod levels;
 mod rows;
 mod sides;
+mod zeros;
 
 ghost use mathlib.Core.Path.{_≡_};
 ghost use mathlib.Core.List.{[], _∷_};
@@ -316,8 +317,8 @@ pub fn take_move(net: &mut [i64], operation: u8, vertex: u8, weights: Weights) -
     make_moved(net, kind, degree, second, operation, vertex, weights)
 }
 
-// Finds a point of a net: x, y, z and w go into the first four places of `found`, or nothing does. The tests are in
-// the order of the table.
+// Finds a point of a net: x, y, z and w go into the first four places of `found` and the numbers projected
+// into the next four, or nothing does. The tests are in the order of the table.
 pub fn find_point(net: &[i64], weights: Weights, found: &mut [i64]) -> u8
     ensures number { λ k. ⌜ k ≡ callNumber (Call.Point weights) (now (net .entry)) (now (found .entry)) ⌝ }
     ensures found { λ _. ⌜ now (found .exit) ≡ callFound (Call.Point weights) (now (net .entry)) (now (found .entry)) ⌝ }
@@ -325,7 +326,7 @@ pub fn find_point(net: &[i64], weights: Weights, found: &mut [i64]) -> u8
     if net.len() < NET {
         return 11;
     }
-    if found.len() < 4 {
+    if found.len() < 8 {
         return 11;
     }
     let kind = byte_of(net[0]);

@@ -5,3 +5,4 @@ pub mod Finite
 pub mod Gcd
 pub mod Samples
 pub mod Signed
+pub mod Zeros

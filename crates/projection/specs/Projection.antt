@@ -118,6 +118,50 @@ unfoldable pub projectionOf : ℤ → ℤ → ℤ → ℤ → Projection
 unfolding projectionBy
 projectionOf x y z w = projectionBy (allInRange x y z w) (isZero w) (allZero x y z) x y z w
 
+-- ---- four numbers together, and what is projected where they are zeros
+
+-- x, y, z and w of a point
+pub record Four : Type 0 where
+  pub x : ℤ
+  pub y : ℤ
+  pub z : ℤ
+  pub w : ℤ
+
+abbrev pub four : ℤ → ℤ → ℤ → ℤ → Four
+four x y z w = record { x = x; y = y; z = z; w = w }
+
+abbrev pub fourNumbers : Four → List ℤ
+fourNumbers p = p .x ∷ p .y ∷ p .z ∷ p .w ∷ []
+
+abbrev pub FourInRange : Four → Type 0
+FourInRange p = allInRange (p .x) (p .y) (p .z) (p .w) ≡ true
+
+abbrev pub projectionOfFour : Four → Projection
+projectionOfFour p = projectionOf (p .x) (p .y) (p .z) (p .w)
+
+abbrev pub fourZeros : Four
+fourZeros = four (pos 0) (pos 0) (pos 0) (pos 0)
+
+abbrev pub isFourZeros : Four → Bool
+isFourZeros p = allZero (p .x) (p .y) (p .z) && isZero (p .w)
+
+-- of several fours the first that is not four zeros; four zeros where all are
+unfoldable pub firstNotZeros : List Four → Four
+firstNotZeros [] = fourZeros
+firstNotZeros (p ∷ ps) = cond (isFourZeros p) (firstNotZeros ps) p
+
+-- 'A direction found so has no length of its own and prints 1 as its fourth number'
+abbrev pub withoutLength : Projection → Projection
+withoutLength (Finite p) = Finite p
+withoutLength (Direction d) = Direction (record { x = d .x; y = d .y; z = d .z; length = pos 1 })
+withoutLength Nowhere = Nowhere
+withoutLength OutOfRange = OutOfRange
+
+-- The projection of a found point by the numbers projected. Where the point is not four zeros these are its
+-- own, and it reads as ever; 'found so' is a point of four zeros.
+unfoldable pub foundProjection : Four → Four → Projection
+foundProjection point projected = cond (isFourZeros point) (withoutLength (projectionOfFour projected)) (projectionOfFour projected)
+
 -- ---- number and values of each case
 
 -- the table's number: 10 for a component out of range, 0 where nothing is refused

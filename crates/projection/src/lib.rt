@@ -24,6 +24,10 @@ ghost use Rattle.projection.specs.Projection.{
   directionOf,
   projectionOf,
   Projected,
+  four,
+  isFourZeros,
+  withoutLength,
+  foundProjection,
 };
 use integers::is_within;
 use integers::magnitude;
@@ -98,6 +102,16 @@ pub fn all_zero(x: i64, y: i64, z: i64) -> bool
         return false;
     }
     z == 0
+}
+
+// Whether four numbers are all 0.
+pub fn four_zeros(x: i64, y: i64, z: i64, w: i64) -> bool
+    ensures { λ r. ⌜ r ≡ isFourZeros (four x y z w) ⌝ }
+{
+    if !all_zero(x, y, z) {
+        return false;
+    }
+    w == 0
 }
 
 // Whether the first nonzero one of three numbers is negative.
@@ -209,6 +223,46 @@ pub fn project(x: i64, y: i64, z: i64, w: i64) -> Projection
         return Projection::Nowhere;
     }
     Projection::Direction(direction(x, y, z))
+}
+
+// ---- what is left at a common zero
+
+// A direction without a length of its own.
+fn without_length(projection: Projection) -> Projection
+    ensures { λ r. ⌜ r ≡ withoutLength projection ⌝ }
+{
+    match projection {
+        Projection::Finite(p) => Projection::Finite(p),
+        Projection::Direction(d) => Projection::Direction(ReducedVector {
+            x: d.x,
+            y: d.y,
+            z: d.z,
+            length: 1,
+        }),
+        Projection::Nowhere => Projection::Nowhere,
+        Projection::OutOfRange => Projection::OutOfRange,
+    }
+}
+
+// The projection of a found point x, y, z, w, of which px, py, pz and pw are the numbers projected: the same
+// four or, where these are zeros, what is left there.
+pub fn project_found(
+    x: i64,
+    y: i64,
+    z: i64,
+    w: i64,
+    px: i64,
+    py: i64,
+    pz: i64,
+    pw: i64,
+) -> Projection
+    ensures { λ r. ⌜ r ≡ foundProjection (four x y z w) (four px py pz pw) ⌝ }
+{
+    let projection = project(px, py, pz, pw);
+    if !four_zeros(x, y, z, w) {
+        return projection;
+    }
+    without_length(projection)
 }
 
 // ---- bit patterns

@@ -13,22 +13,16 @@ use Rattle.polar.specs.Groups.{monomialsOver, countsOver}
 use Rattle.polar.specs.Scale.{multinomial, leastCommonMultiple, scale}
 use Rattle.polar.specs.Polar.{polarOver, valueOver}
 use Rattle.entries.specs.Entries.{listedOver}
-use Rattle.projection.specs.Projection.{quotientOf, coordsOf, projectionOf}
+use Rattle.projection.specs.Projection.{quotientOf, coordsOf, projectionOf, firstNotZeros, foundProjection}
 use Rattle.kinds.specs.Frames.{frameOf, frameAllowed, framesOf, framesAllowed}
 use Rattle.kinds.specs.Scales.{scaleOf}
 use Rattle.machine.specs.Calls.{ownTests}
 use Rattle.machine.specs.Frames.{pointsOf, framesAfter, newNumbers}
 use Rattle.machine.specs.Sizes.{namedByReplace, namedByPoint, namedBy, allNamed, beforeSize, callTests}
+use Rattle.machine.specs.Projected.{namedAtZero}
 use Rattle.machine.specs.Steps.{foundAt, stepBy, after, answers}
-use Rattle.machine.specs.Comparison.{
-  netOver,
-  machineTests,
-  machineStep,
-  machineAccepted,
-  machinePolar,
-  polarOf,
-  scaledValue,
-}
+use Rattle.machine.specs.Comparison.{netOver, machineTests, machineStep, machineAccepted}
+use Rattle.machine.specs.Comparison.{machinePolar, polarOf, scaledValue, machineFour}
 use Rattle.machine.specs.First.{firstTests, firstRefusal}
 use Rattle.bytes.specs.Numbers.{frameNumbers, coefficientsOf}
 use Rattle.bytes.specs.Moves.{callAt}
@@ -64,7 +58,7 @@ use Rattle.text.specs.Told.{written, refused}
 use Rattle.text.specs.Samples.{BufferVerdicts, instances}
 
 instances-agree : all (agreesBy eqb) instances ≡ true
-unfolding decimal decimalBy signedDecimal hexBits line refusedLine headLine moveLine moveLines frameLine entryLine entryLines netLines pointRefusedLine projectionLine pointLine acceptedText textOf writtenOf bufferOf σ monomials counts monomialsOver countsOver multinomial leastCommonMultiple scale polarOver valueOver listedOver quotientOf coordsOf projectionOf frameOf frameAllowed framesOf framesAllowed scaleOf ownTests pointsOf framesAfter newNumbers namedByReplace namedByPoint namedBy allNamed beforeSize callTests foundAt stepBy after answers netOver machineTests machineStep machineAccepted machinePolar polarOf scaledValue firstTests firstRefusal frameNumbers coefficientsOf readingOf layoutRead polynomialsIn numbersIn refusalIn openedLayout movesIn pointIn toBits callAt
+unfolding decimal decimalBy signedDecimal hexBits line refusedLine headLine moveLine moveLines frameLine entryLine entryLines netLines pointRefusedLine projectionLine pointLine acceptedText textOf writtenOf bufferOf σ monomials counts monomialsOver countsOver multinomial leastCommonMultiple scale polarOver valueOver listedOver quotientOf coordsOf projectionOf frameOf frameAllowed framesOf framesAllowed scaleOf ownTests pointsOf framesAfter newNumbers namedByReplace namedByPoint namedBy allNamed beforeSize callTests foundAt stepBy after answers netOver machineTests machineStep machineAccepted machinePolar polarOf scaledValue firstTests firstRefusal frameNumbers coefficientsOf readingOf layoutRead polynomialsIn numbersIn refusalIn openedLayout movesIn pointIn toBits callAt machineFour namedAtZero firstNotZeros foundProjection
 instances-agree = refl
 
 pub every-instance : AllRight instances

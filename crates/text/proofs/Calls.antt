@@ -5,16 +5,17 @@ use mathlib.Core.Path.{_≡_, refl, sym, ap, _∙_, subst}
 use mathlib.Core.Bool.{true, cond}
 use mathlib.Core.List.{List, [], _∷_, _++_, map, append-nil}
 use lib.Dec.{eqb}
-use lib.IntN.{ℤ, pos}
-use lib.ListN.{length, getD}
+use lib.IntN.{ℤ}
+use lib.ListN.{length}
 use borrow.Author.Tests.{ne-eqb}
 use Rattle.polar.specs.Order.{joined}
-use Rattle.projection.specs.Projection.{projectionOf}
+use Rattle.projection.specs.Projection.{foundProjection}
 use Rattle.machine.specs.Refusals.{firstFailed}
 use Rattle.machine.specs.Steps.{refusalNumber, pointValues, foundAt, stepBy, after, answers}
 use Rattle.machine.specs.Calls.{ownTests}
 use Rattle.machine.specs.Nets.{Net, netGroups, netTests, accepted, stepOf}
 use Rattle.machine.specs.Lent.{netAt, putAt, unlessRefused, room, callNumber, callPlaces, callFound}
+use Rattle.machine.specs.Carried.{fourAt}
 use Rattle.machine.specs.declared.Weights.{Weights}
 use Rattle.machine.specs.declared.Call.{Call}
 use Rattle.machine.specs.declared.Call.the-variants as call
@@ -100,7 +101,7 @@ module _ (net : Net) (value : List ℕ) where
       ap (λ b. joined pointLine (answers stepOf net (cond b [] (call.Point (weightsOf value) ∷ [])))) (ne-eqb (length value) 0 h)
       ∙ append-nil (pointLine (stepOf net (call.Point (weightsOf value)) .answer))
 
--- the point as the code finds it, in four places
+-- the point as the code finds it, in eight places
 module _ (lent : List ℤ) (stands : Stands lent) (w : Weights) (found : List ℤ) (roomy : room (call.Point w) found ≡ true) {k : ℕ} (is : k ≡ callNumber (call.Point w) lent found) where
   number-is : firstFailed (netTests (netAt lent) (call.Point w)) ≡ k
   number-is = sym (is ∙ number-there lent stands (call.Point w) found roomy)
@@ -113,15 +114,10 @@ module _ (lent : List ℤ) (stands : Stands lent) (w : Weights) (found : List �
       by zero h = absurd (h refl)
       by (suc n) h = refl
 
-  pub point-found : k ≡ 0 → {new : List ℤ} → new ≡ callFound (call.Point w) lent found → {x y z t : ℤ}
-      → x ≡ getD new 0 (pos 0) → y ≡ getD new 1 (pos 0) → z ≡ getD new 2 (pos 0) → t ≡ getD new 3 (pos 0)
-      → pointLine (stepOf (netAt lent) (call.Point w) .answer) ≡ projectionLine (projectionOf x y z t)
+  pub point-found : k ≡ 0 → {new : List ℤ} → new ≡ callFound (call.Point w) lent found
+      → pointLine (stepOf (netAt lent) (call.Point w) .answer) ≡ projectionLine (foundProjection (fourAt 0 new) (fourAt 4 new))
   unfolding stepOf stepBy accepted foundAt pointLine callFound
-  point-found none {new} left a b c d =
+  point-found none {new} left =
       let made = accepted (netAt lent) (call.Point w) in
       let places : new ≡ putAt 0 (pointValues (made .answer)) found = left ∙ ap (λ n. unlessRefused n (putAt 0 (pointValues (made .answer)) found) found) (sym is ∙ none) in
-      ap (λ n. pointLine (stepBy n (netAt lent) made .answer)) (number-is ∙ none)
-      ∙ sym
-      (λ i.
-      projectionLine
-      (projectionOf ((a ∙ ap (λ l. getD l 0 (pos 0)) places) i) ((b ∙ ap (λ l. getD l 1 (pos 0)) places) i) ((c ∙ ap (λ l. getD l 2 (pos 0)) places) i) ((d ∙ ap (λ l. getD l 3 (pos 0)) places) i)))
+      ap (λ n. pointLine (stepBy n (netAt lent) made .answer)) (number-is ∙ none) ∙ sym (ap (λ l. projectionLine (foundProjection (fourAt 0 l) (fourAt 4 l))) places)

@@ -19,9 +19,9 @@ use Rattle.polar.specs.Groups.{Group, countsOver}
 use Rattle.polar.specs.Scale.{product}
 use Rattle.entries.proofs.Groups.{Counted}
 use Rattle.entries.proofs.ListedOver.{counts-over}
-use Rattle.projection.specs.Projection.{limit, inRange, allInRange, isZero, allZero, isNegative, firstNonzero, negatedIf, gcdOf, coordsOf, directionOf, projectionBy, projectionOf}
+use Rattle.projection.specs.Projection.{limit, inRange, allInRange, isZero, allZero, isNegative, firstNonzero, negatedIf, gcdOf, coordsOf, directionOf, projectionBy, projectionOf, Four, isFourZeros, withoutLength, foundProjection}
 use Rattle.projection.specs.declared.Coords.{Coords}
-use Rattle.projection.specs.declared.Projection.the-variants.{Finite, Direction}
+use Rattle.projection.specs.declared.Projection.the-variants.{Finite}
 use Rattle.projection.proofs.Gcd.{gcd-up-to}
 use Rattle.projection.proofs.Signed.{within, natAbs-negated, quot-small}
 use Rattle.kinds.specs.Kinds.{groupsOf, dimensionOf, laterGroups, known}
@@ -33,11 +33,10 @@ use Rattle.kinds.proofs.Frames.{length-numbers}
 use Rattle.kinds.proofs.Scales.{up-to, scale-read, row-low}
 use Rattle.machine.specs.Refusals.{Test, _else_, firstFailed}
 use Rattle.machine.specs.Calls.{ownTests}
-use Rattle.machine.specs.Frames.{pointsOf}
 use Rattle.machine.specs.Sizes.{beforeSize, callTests}
 use Rattle.machine.specs.Steps.{refusalNumber, foundAt, stepBy, after, answers}
 use Rattle.machine.specs.Nets.{Net, netGroups, netInRange}
-use Rattle.machine.specs.Comparison.{Polynomials, groups, scaledValue, machineTests, machineAccepted, machineStep, netOver}
+use Rattle.machine.specs.Comparison.{Polynomials, groups, machineTests, machineAccepted, machineStep, netOver}
 use Rattle.machine.specs.declared.Call.{Call}
 use Rattle.machine.specs.declared.Call.the-variants as call
 use Rattle.machine.proofs.Over.{Reached}
@@ -294,20 +293,16 @@ refused-point-room number small =
 reduced-room : (b : Bool) (v d : ℤ) → natAbs v ≤ limit → length (signedDecimal (negatedIf b (quotZ v d))) ≤ 16
 reduced-room b v d h = length-component (negatedIf b (quotZ v d)) (omega (arith, natAbs-negated b (quotZ v d), quot-small v d))
 
-direction-room : (x y z : ℤ) → natAbs x ≤ limit → natAbs y ≤ limit → natAbs z ≤ limit → length (projectionLine (Direction (directionOf x y z))) ≤ 72
-unfolding projectionLine directionOf
-direction-room x y z a b c =
+direction-room : (x y z n : ℤ) → natAbs x ≤ limit → natAbs y ≤ limit → natAbs z ≤ limit → natAbs n ≤ limit
+    → let d = directionOf x y z in
+    length (line (word "far" ∷ signedDecimal (d .x) ∷ signedDecimal (d .y) ∷ signedDecimal (d .z) ∷ signedDecimal n ∷ [])) ≤ 72
+unfolding directionOf
+direction-room x y z n a b c h =
     let g = pos (gcdOf x y z) in
     let negative = isNegative (firstNonzero x y z) in
     line-room 72
-    (word "far" ∷ signedDecimal (negatedIf negative (quotZ x g)) ∷ signedDecimal (negatedIf negative (quotZ y g)) ∷ signedDecimal (negatedIf negative (quotZ z g)) ∷ signedDecimal g ∷ [])
-    (omega (
-      arith,
-      reduced-room negative x g a,
-      reduced-room negative y g b,
-      reduced-room negative z g c,
-      length-component g (gcd-up-to limit (natAbs x ∷ natAbs y ∷ natAbs z ∷ []) (a, (b, (c, tt)))),
-    ))
+    (word "far" ∷ signedDecimal (negatedIf negative (quotZ x g)) ∷ signedDecimal (negatedIf negative (quotZ y g)) ∷ signedDecimal (negatedIf negative (quotZ z g)) ∷ signedDecimal n ∷ [])
+    (omega (arith, reduced-room negative x g a, reduced-room negative y g b, reduced-room negative z g c, length-component n h))
     (omega arith)
 
 finite-room : (p : Coords) → length (projectionLine (Finite p)) ≤ 72
@@ -317,22 +312,39 @@ finite-room p =
     (omega (arith, length-hexBits (toBits binary64 (p .x)), length-hexBits (toBits binary64 (p .y)), length-hexBits (toBits binary64 (p .z))))
     (omega arith)
 
-projection-room : (x y z w : ℤ) → length (projectionLine (projectionOf x y z w)) ≤ 72
-unfolding projectionOf projectionBy projectionLine
-projection-room x y z w = by (allInRange x y z w) (isZero w) (allZero x y z) refl
+-- a found point, whether a direction has a length of its own or not
+left-room : (p left : Four) → length (projectionLine (foundProjection p left)) ≤ 72
+unfolding foundProjection projectionOf projectionBy projectionLine directionOf
+left-room p left = by (isFourZeros p) (allInRange x y z w) (isZero w) (allZero x y z) refl
   where
-    by : (a b c : Bool) → allInRange x y z w ≡ a → length (projectionLine (projectionBy a b c x y z w)) ≤ 72
-    by false b c h = refused-point-room 10 (omega arith)
-    by true false c h = finite-room (coordsOf x y z w)
-    by true true false h = let in-range = within x y z w h in direction-room x y z (in-range .0) (in-range .1) (in-range .2)
-    by true true true h = line-room 72 (word "nowhere" ∷ []) (omega arith) (omega arith)
+    x : ℤ
+    x = left .x
+
+    y : ℤ
+    y = left .y
+
+    z : ℤ
+    z = left .z
+
+    w : ℤ
+    w = left .w
+
+    by : (e a b c : Bool) → allInRange x y z w ≡ a → length (projectionLine (cond e (withoutLength (projectionBy a b c x y z w)) (projectionBy a b c x y z w))) ≤ 72
+    by true false b c h = refused-point-room 10 (omega arith)
+    by true true false c h = finite-room (coordsOf x y z w)
+    by true true true false h = let in-range = within x y z w h in direction-room x y z (pos 1) (in-range .0) (in-range .1) (in-range .2) (lit≤ tt)
+    by true true true true h = line-room 72 (word "nowhere" ∷ []) (omega arith) (omega arith)
+    by false false b c h = refused-point-room 10 (omega arith)
+    by false true false c h = finite-room (coordsOf x y z w)
+    by false true true false h =
+        let in-range = within x y z w h in
+        direction-room x y z (pos (gcdOf x y z)) (in-range .0) (in-range .1) (in-range .2) (gcd-up-to limit (natAbs x ∷ natAbs y ∷ natAbs z ∷ []) (in-range .0, (in-range .1, (in-range .2, tt))))
+    by false true true true h = line-room 72 (word "nowhere" ∷ []) (omega arith) (omega arith)
 
 point-room : (j : ℕ) (f : Polynomials) (frames : Frames) (c : Call) → j ≤ 12 → length (pointLine (stepBy j frames (machineAccepted f frames c) .answer)) ≤ 72
 unfolding stepBy machineAccepted foundAt pointLine
 point-room zero f frames (call.Move operation vertex weights) h = omega arith
-point-room zero f frames (call.Point weights) h =
-    let v = scaledValue f (pointsOf (groups f) frames (call.Point weights)) in
-    projection-room (v 0) (v 1) (v 2) (v 3)
+point-room zero f frames (call.Point weights) h = left-room _ _
 point-room (suc j) f frames c h = refused-point-room (suc j) h
 
 points-room : (f : Polynomials) (frames : Frames) (calls : List Call) → length (joined pointLine (answers (machineStep f) frames calls)) ≤ length calls * 72

@@ -9,7 +9,7 @@ use lib.ListN.{replicate}
 use Rattle.polar.specs.Groups.{countsOver}
 use Rattle.integers.specs.Sum.{upto}
 use Rattle.integers.specs.Instances.{Instance, _is_}
-use Rattle.projection.specs.Projection.{coordsOf}
+use Rattle.projection.specs.Projection.{coordsOf, four, fourZeros}
 use Rattle.projection.specs.declared.Projection.the-variants.{Finite, Direction, Nowhere, OutOfRange}
 use Rattle.kinds.specs.Kinds.{groupsOf}
 use Rattle.machine.specs.Steps.{Taken, Found, Refused}
@@ -128,7 +128,10 @@ points =
     ∷ projectionLine Nowhere is word "nowhere\n"
     ∷ projectionLine OutOfRange is word "point refused 10\n"
     ∷ pointLine Taken is []
-    ∷ pointLine (Found (pos 0) (pos 0) (pos 0) (pos 0) Nowhere) is word "nowhere\n"
+    -- the line is the projection's, whatever the found components are
+    ∷ pointLine (Found fourZeros fourZeros Nowhere) is word "nowhere\n"
+    ∷ pointLine (Found fourZeros (four (pos 2) (pos 4) (pos 6) (pos 0)) (Direction (record { x = pos 1; y = pos 2; z = pos 3; length = pos 1 })))
+    is word "far 1 2 3 1\n"
     ∷ pointLine (Refused 8) is word "point refused 8\n"
     ∷ []
 

@@ -101,7 +101,7 @@ projectionLine OutOfRange = pointRefusedLine (refusal OutOfRange)
 
 unfoldable pub pointLine : Answer → List ℕ
 pointLine Taken = []
-pointLine (Found x y z w at) = projectionLine at
+pointLine (Found point projected at) = projectionLine at
 pointLine (NotTaken number) = pointRefusedLine number
 
 -- ---- the whole text of an accepted record: f are its polynomials, `frames` its frames, `moves` its moves, and `points` its point, or nothing where it has none

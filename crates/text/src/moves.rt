@@ -14,7 +14,7 @@ use bytes::move_at;
 use bytes::point_weights;
 use nets::find_point;
 use nets::take_move;
-use projection::project;
+use projection::project_found;
 
 // Makes move k of a record's value, the moves being counted from 0, and answers the number of its refusal, 0
 // where it is taken. A move that is no proper one is passed over; any other is judged as it is made.
@@ -58,10 +58,23 @@ pub(crate) fn write_point(out: &mut [u8], at: usize, net: &[i64], value: &[u8]) 
     if value.len() == 0 {
         return at;
     }
-    let mut found = [0i64; 4];
+    let mut found = [0i64; 8];
     let number = find_point(net, point_weights(value), &mut found);
     if number != 0 {
         return write_point_refused(out, at, number);
     }
-    write_projection(out, at, project(found[0], found[1], found[2], found[3]))
+    write_projection(
+        out,
+        at,
+        project_found(
+            found[0],
+            found[1],
+            found[2],
+            found[3],
+            found[4],
+            found[5],
+            found[6],
+            found[7],
+        ),
+    )
 }

@@ -14,7 +14,7 @@ use independent::first::Given;
 use independent::handed::Net;
 use independent::laws::run_laws;
 use independent::library::Library;
-use independent::projection::Room;
+use independent::projection::{Room, FOUND};
 use independent::record::{Lookup, Refusal};
 use std::process::ExitCode;
 use std::time::Instant;
@@ -46,6 +46,9 @@ const BEHIND: [i64; 2] = [0x5a5a_5a5a_5a5a, -0x5a5a_5a5a_5a5b];
 fn answer(number: u8) -> Result<(), u8> {
     if number == 0 { Ok(()) } else { Err(number) }
 }
+
+/// The package says how many places a point wants; the comparison has it from the specification.
+const _: () = assert!(raw::FOUND == FOUND);
 
 struct Static;
 
@@ -85,6 +88,15 @@ impl Library for Static {
         let mut bits = Lent::of(&room.bits, BEHIND.map(|number| number as u64));
         let mut direction = Lent::of(&room.direction, BEHIND);
         let number = raw::project(point, &mut room.outcome, bits.lend(), direction.lend());
+        bits.back(&mut room.bits);
+        direction.back(&mut room.direction);
+        number
+    }
+
+    fn project_found(&mut self, found: &[i64], room: &mut Room) -> u8 {
+        let mut bits = Lent::of(&room.bits, BEHIND.map(|number| number as u64));
+        let mut direction = Lent::of(&room.direction, BEHIND);
+        let number = raw::project_found(found, &mut room.outcome, bits.lend(), direction.lend());
         bits.back(&mut room.bits);
         direction.back(&mut room.direction);
         number

@@ -24,7 +24,9 @@ pub enum Call {
 #[derive(Clone, Copy, Debug, PartialEq, Eq)]
 pub enum Answer {
     Taken,
-    Point { x: i64, y: i64, z: i64, w: i64, projection: Projection },
+    /// The point's four numbers, the numbers projected, which are others at a common zero of a curve alone,
+    /// and their projection.
+    Point { x: i64, y: i64, z: i64, w: i64, projected: [i64; 4], projection: Projection },
     Refused(u8),
 }
 

@@ -3,13 +3,13 @@
 
 use crate::calls::{Answer, Call, NO_WEIGHTS};
 use crate::counts::Counts;
-use crate::generate::{any_claim, any_first, any_record, any_room, any_run, any_shape, encode, everywhere, four_numbers, handed, made};
-use crate::generate::{Caller, Mood};
+use crate::generate::{any_claim, any_first, any_found, any_record, any_room, any_run, any_shape, encode, everywhere, four_numbers};
+use crate::generate::{handed, made, with_zero, Caller, Mood};
 use crate::handed::{Net, LARGEST};
 use crate::library::{answer, Library};
 use crate::exact::Exact;
 use crate::machine::Machine;
-use crate::projection::project_into;
+use crate::projection::{project_found_into, project_into, FOUND};
 use crate::random::Random;
 use crate::record::{field_of, read_with_net, told_kind, Record, Refusal};
 use crate::shape::{Kind, Shape};
@@ -29,6 +29,9 @@ const ALL_TAGS_ONCE_IN: usize = 32;
 /// Before one call in so many on a handed net, another number is put in the place of its largest
 /// component: a replace that is taken would else leave none but right ones.
 const CLAIM_ONCE_IN: usize = 3;
+
+/// One handed net in so many is a curve's with a common zero, and the calls begin there.
+const ZERO_ONCE_IN: usize = 3;
 
 /// Bits of a weight.
 pub const WEIGHT_BITS: u32 = 64;
@@ -91,7 +94,11 @@ impl Run<'_> {
 
     /// Calls on a net of any numbers.
     fn handed_list(&mut self) -> Result<(), String> {
-        let mut net = any_run(&mut self.random);
+        let (mut net, opening) = if self.random.once_in(ZERO_ONCE_IN) {
+            with_zero(&mut self.random)
+        } else {
+            (any_run(&mut self.random), Vec::new())
+        };
         self.counts.run(&net);
         let start = net.clone();
         let shape = if net.is_short() { None } else { net.shape() };
@@ -99,7 +106,9 @@ impl Run<'_> {
         let mood = self.random.pick(&[Mood::Plain, Mood::Units, Mood::Wide, Mood::Broken]);
         let mut caller = Caller::blind(kind, mood, WEIGHT_BITS);
         let mut calls = Vec::new();
-        for _ in 0..self.random.below(25) {
+        let length = opening.len() + self.random.below(25);
+        caller.open_with(opening);
+        for _ in 0..length {
             let call = caller.next(&mut self.random, &[]);
             if self.random.once_in(CLAIM_ONCE_IN) {
                 any_claim(&mut self.random, &mut net);
@@ -122,7 +131,7 @@ impl Run<'_> {
             self.check_text(&bytes)?;
             self.check_first()?;
         }
-        (0..20).try_for_each(|_| self.check_projection())
+        (0..20).try_for_each(|_| self.check_projection().and_then(|()| self.check_projection_of_found()))
     }
 
     /// One record damaged at every byte and cut at every length.
@@ -146,15 +155,21 @@ impl Run<'_> {
         let before = net.clone();
         let mut model = net.clone();
         let modelled = model.answer(call);
+        let by_a_machine = expected.is_some();
         let mut expected = expected.unwrap_or(modelled);
         if modelled != expected {
             return Err(format!("the handed net answers {modelled:?}, the machine {expected:?}"));
         }
-        let mut found = vec![self.random.next() as i64; self.random.pick(&[4, 4, 4, 4, 5, 9, 3, 0])];
+        let mut found = vec![self.random.next() as i64; self.random.pick(&[8, 8, 8, 8, 8, 9, 13, 7, 4, 0])];
         let mut wanted = found.clone();
         match (*call, expected) {
-            (Call::Point { .. }, _) if found.len() < 4 => expected = Answer::Refused(11),
-            (_, Answer::Point { x, y, z, w, .. }) => wanted[..4].copy_from_slice(&[x, y, z, w]),
+            (Call::Point { .. }, _) if found.len() < FOUND => expected = Answer::Refused(11),
+            (Call::Point { weights }, Answer::Point { x, y, z, w, projected, projection }) => {
+                wanted[..FOUND].copy_from_slice(&[[x, y, z, w], projected].concat());
+                if before.kind() == Some(Kind::Curve) && [x, y, z, w] == [0; 4] {
+                    self.counts.common_zero(by_a_machine, &before, weights, &projection);
+                }
+            }
             _ => {}
         }
         if let (Call::Point { weights }, Ok(shape)) = (*call, before.judged(call)) {
@@ -265,6 +280,19 @@ impl Run<'_> {
                 let (said, should) = (String::from_utf8_lossy(&buffer), String::from_utf8_lossy(&wanted));
                 return Err(format!("text {given:?}\n{said}\nexpected {wanted_answer:?}\n{should}\nrecord {}", hex(bytes)));
             }
+        }
+        Ok(())
+    }
+
+    fn check_projection_of_found(&mut self) -> Result<(), String> {
+        let found = any_found(&mut self.random);
+        let mut room = any_room(&mut self.random);
+        let (before, mut wanted) = (room.clone(), room.clone());
+        let expected = project_found_into(&found, &mut wanted);
+        let given = self.library.project_found(&found, &mut room);
+        self.counts.projection_of_found(&found, expected, &wanted);
+        if given != expected || room != wanted {
+            return Err(format!("found {found:?} into {before:?}: {given} {room:?}, expected {expected} {wanted:?}"));
         }
         Ok(())
     }

@@ -5,9 +5,9 @@ use crate::calls::{Answer, Call, Weights, FLIP, REPLACE};
 use crate::closing::Closing;
 use crate::handed::{Net, ENTRIES, LARGEST, PLACES};
 use crate::named::{beyond, named, GROUPS};
-use crate::projection::{Projection, Room, COORDINATES, DIRECTION};
+use crate::projection::{Projection, Room, COORDINATES, DIRECTION, FOUND};
 use crate::record::{Lookup, Refusal};
-use crate::shape::{Kind, Shape, RANGE};
+use crate::shape::{in_range, Kind, Shape, RANGE};
 use crate::text::Outcome;
 
 /// The refusals that a program can give for a record, and those that a library can give: 11
@@ -72,6 +72,26 @@ pub struct Counts {
     pub worked_out: [u64; 6],
     /// First nets over a place that held another number, from records and without.
     pub firsts_over: [u64; 2],
+    /// Common zeros of curves at which points were found: along lists on records, and on handed nets.
+    pub zeros: [Zeros; 2],
+    /// What is projected after a point, as `FOUNDS` names it.
+    pub founds: [u64; 9],
+    /// Points whose own numbers are four zeros and that are read as finite and as a direction, in whatever
+    /// answered.
+    pub read_at_zeros: [u64; 2],
+}
+
+/// Points found at which all four polynomials vanish.
+#[derive(Clone, Copy, Debug, Default)]
+pub struct Zeros {
+    /// At place N, those of order N + 1.
+    pub orders: [u64; 10],
+    /// As `NAMED_BY` has it.
+    pub named_by: [u64; 3],
+    /// As `READ` has it.
+    pub read: [u64; 3],
+    /// Those over a frame of determinant 0; no record's frame has one.
+    pub flat: u64,
 }
 
 /// How often each shape came, in the order of `Shape::all`.
@@ -111,6 +131,22 @@ const OPTIONAL: [&str; 5] = [
     "neither moves nor a point", "moves alone", "a point alone", "both, of one length",
     "both, of two lengths",
 ];
+
+/// Which weights name a common zero.
+const NAMED_BY: [&str; 3] = ["weight of s 0", "weight of r 0", "neither 0"];
+
+/// What a common zero is read as; nowhere only where all entries are 0.
+const READ: [&str; 3] = ["finite", "direction", "zero net"];
+
+/// Projections of eight numbers and more, by both fours, and of fewer.
+const FOUNDS: [&str; 9] = [
+    "fewer than eight numbers", "more than eight", "a direction beside four zeros, of a divisor beyond 1",
+    "a direction of such a divisor beside others", "a finite point beside four zeros", "four zeros twice",
+    "the first four alone out of range", "the second four alone out of range", "too few places",
+];
+
+/// Along lists on records, and on handed nets.
+const ZEROS: [&str; 2] = ["lists on records", "handed nets"];
 
 /// In the order of `GROUPS`.
 const ALONE: [&str; 4] = ["a curve", "a patch", "the first pair", "the second pair"];
@@ -306,6 +342,51 @@ impl Counts {
         }
     }
 
+    /// A point found at a common zero of a curve, along a list on a record or else on a handed net.
+    pub fn common_zero(&mut self, by_a_machine: bool, net: &Net, weights: Weights, projection: &Projection) {
+        let Some(shape) = net.shape() else { return };
+        let zeros = &mut self.zeros[usize::from(!by_a_machine)];
+        let Some(left) = net.left(shape, weights) else {
+            zeros.read[2] += u64::from(*projection == Projection::Nowhere);
+            return;
+        };
+        zeros.orders[left.order - 1] += 1;
+        zeros.named_by[if weights[1] == 0 { 0 } else { 1 + usize::from(weights[0] != 0) }] += 1;
+        zeros.read[usize::from(matches!(projection, Projection::Direction { .. }))] += 1;
+        let frame: Vec<i128> = net.frame(shape).iter().map(|&number| i128::from(number)).collect();
+        zeros.flat += u64::from(frame[0] * frame[3] == frame[1] * frame[2]);
+    }
+
+    /// What the projection of a found point answers and leaves.
+    pub fn projection_of_found(&mut self, found: &[i64], number: u8, room: &Room) {
+        self.calls += 1;
+        let told = room.told(number).expect("an outcome that there is");
+        match told {
+            Ok(kind) => self.all.projected(&kind),
+            Err(number) => self.all.refused(number),
+        }
+        let Some((first, second)) = found.first_chunk::<FOUND>().map(|eight| eight.split_at(FOUND / 2)) else {
+            self.founds[0] += 1;
+            return;
+        };
+        let zeros = first == [0; 4];
+        let divided = |x: i64, y: i64, z: i64| [x, y, z].map(i64::abs) != [second[0], second[1], second[2]].map(i64::abs);
+        let out = |four: &[i64]| !four.iter().all(|&number| in_range(number));
+        let far = matches!(told, Ok(Projection::Direction { x, y, z, .. }) if divided(x, y, z));
+        let cases = [
+            false,
+            found.len() > FOUND,
+            far && zeros,
+            far && !zeros,
+            zeros && matches!(told, Ok(Projection::Finite { .. })),
+            zeros && told == Ok(Projection::Nowhere),
+            told.is_ok() && out(first),
+            told == Err(10) && !out(first),
+            room.is_short(),
+        ];
+        self.founds.iter_mut().zip(cases).for_each(|(count, is)| *count += u64::from(is));
+    }
+
     /// What a projection answers and leaves.
     pub fn projection(&mut self, number: u8, room: &Room) {
         self.calls += 1;
@@ -376,8 +457,11 @@ impl Counts {
 
     fn inner_answer(&mut self, kind: Option<Kind>, answer: &Answer) {
         self.tally(kind, |tally| tally.answered(answer));
-        if let Answer::Point { x, y, z, w, .. } = answer {
+        if let Answer::Point { x, y, z, w, projection, .. } = answer {
             self.limit(&[*x, *y, *z, *w]);
+            let zero = [*x, *y, *z, *w] == [0; 4];
+            self.read_at_zeros[0] += u64::from(zero && matches!(projection, Projection::Finite { .. }));
+            self.read_at_zeros[1] += u64::from(zero && matches!(projection, Projection::Direction { .. }));
         }
     }
 
@@ -402,7 +486,9 @@ impl Counts {
         let of = |kind: Kind| move |what: String| format!("{what} of a {}", kind.word());
         let answers = Kind::ALL.into_iter().flat_map(|kind| self.kinds[place(kind)].missing(numbers).into_iter().map(of(kind)));
         let lent = if numbers.contains(&11) { self.missing_of_what_is_lent() } else { Vec::new() };
-        answers.chain(self.shapes.missing()).chain(lent).collect()
+        let words = ["a finite point at a common zero", "a direction at a common zero"].map(str::to_string);
+        let zeros = words.into_iter().zip(self.read_at_zeros).filter(|word| word.1 == 0).map(|word| word.0);
+        answers.chain(self.shapes.missing()).chain(zeros).chain(lent).collect()
     }
 
     fn missing_of_what_is_lent(&self) -> Vec<String> {
@@ -420,7 +506,7 @@ impl Counts {
             [(format!("12 for the handed frame of a {word}"), tally.frames_beyond), (format!("12 for q of a {word}"), tally.qs_beyond())]
         });
         let all = firsts.into_iter().chain(runs).chain(second).chain(lookups).chain(rooms).chain(stages).chain(frames).chain(twelve);
-        let all = all.chain(self.counts_of_the_largest()).chain(self.counts_of_size());
+        let all = all.chain(self.counts_of_the_largest()).chain(self.counts_of_size()).chain(self.counts_of_zeros());
         let optional = OPTIONAL.map(|word| format!("a lookup in a record with {word}"));
         let all = all.chain(optional.into_iter().zip(self.optional));
         all.filter(|word| word.1 == 0).map(|word| word.0).collect()
@@ -440,6 +526,35 @@ impl Counts {
         let firsts = ["of a record", "without a record"].into_iter().zip(self.firsts_over);
         let firsts = firsts.map(|(way, count)| (format!("a first net {way} over another number"), count));
         claims.chain(kinds).chain(worked_out).chain(firsts).collect()
+    }
+
+    /// What is counted of common zeros and of projections after a point, each with its words.
+    fn counts_of_zeros(&self) -> Vec<(String, u64)> {
+        let of = |(whose, zeros): (&str, Zeros)| {
+            let orders = (1..).zip(zeros.orders).map(|(order, count)| (format!("of order {order}"), count));
+            let named_by = NAMED_BY.into_iter().zip(zeros.named_by).map(|(word, count)| (format!("with {word}"), count));
+            let read = READ.into_iter().zip(zeros.read).map(|(word, count)| (format!("that is read as {word}"), count));
+            let all: Vec<(String, u64)> = orders.chain(named_by).chain(read).collect();
+            all.into_iter().map(|(word, count)| (format!("{whose}: a common zero {word}"), count)).collect::<Vec<_>>()
+        };
+        let flat = ("a common zero over a frame of determinant 0".to_string(), self.zeros[1].flat);
+        let founds = FOUNDS.map(|word| format!("projected after a point: {word}")).into_iter().zip(self.founds);
+        ZEROS.into_iter().zip(self.zeros).flat_map(of).chain([flat]).chain(founds).collect()
+    }
+
+    /// The same in three lines.
+    fn lines_of_zeros(&self) -> String {
+        let counted = |words: &[&str], counts: &[u64]| {
+            words.iter().zip(counts).map(|(word, count)| format!("{word} {count}")).collect::<Vec<String>>().join(", ")
+        };
+        let mut lines = String::new();
+        for (whose, zeros) in ZEROS.into_iter().zip(self.zeros) {
+            let orders: Vec<String> = (1..).zip(zeros.orders).map(|(order, count)| format!("{order}:{count}")).collect();
+            lines += &format!("\ncommon zeros of curves, {whose}: orders {}", orders.join(" "));
+            lines += &format!("; {}; {}", counted(&NAMED_BY, &zeros.named_by), counted(&READ, &zeros.read));
+        }
+        lines += &format!("; over a frame of determinant 0 {}", self.zeros[1].flat);
+        lines + &format!("\nprojected after a point: {}", counted(&FOUNDS, &self.founds))
     }
 
     /// What is counted of calls refused for one value alone, each with its words.
@@ -489,6 +604,8 @@ impl Counts {
     fn closing_lines(&self, numbers: &[usize]) -> String {
         let (calls, read, answered) = (self.calls, self.records_read, self.all.line(numbers));
         let mut line = format!("calls {calls}; records accepted {read}; {answered}; at 2^48 exactly {}", self.at_the_limit);
+        let [finite, direction] = self.read_at_zeros;
+        line += &format!("; at common zeros finite {finite} direction {direction}");
         if self.lists > 0 {
             line += &format!("; lists {}, a number of the frame 2^48 exactly after {} of them", self.lists, self.full_frames);
             let ([short, exact, longer], [curve, patch, rect]) = (self.runs, self.second_degrees);
@@ -506,6 +623,7 @@ impl Counts {
             let frames = FRAMES.iter().zip(self.frames).map(|(word, count)| format!("{word} {count}"));
             line += &format!("\nframes: {}", frames.collect::<Vec<String>>().join("; "));
             line += &self.line_of_size();
+            line += &self.lines_of_zeros();
             line += &self.lines_of_the_largest();
         }
         let kinds = Kind::ALL.map(|kind| format!("\n{}: {}", kind.word(), self.kinds[place(kind)].line(numbers)));
@@ -539,11 +657,14 @@ mod tests {
     fn each_kind_must_have_every_refusal_and_projection() {
         let full = Tally { taken: 1, found: 3, refusals: [1; 13], frames_beyond: 0, finite: 1, direction: 1, nowhere: 1 };
         let mut counts = Counts { all: full, kinds: [full; 3], shapes: Shapes(vec![1; Shape::all().len()]), ..Counts::default() };
+        counts.read_at_zeros = [1; 2];
         assert_eq!(counts.missing(OF_A_PROGRAM), Vec::<String>::new());
         counts.kinds[2].refusals[7] = 0;
         counts.kinds[2].nowhere = 0;
         counts.shapes.0[42] = 0;
-        assert_eq!(counts.missing(OF_A_PROGRAM), ["refusal 7 of a rect", "nowhere of a rect", "rect of degrees [5, 5]"]);
+        counts.read_at_zeros[1] = 0;
+        let wanted = ["refusal 7 of a rect", "nowhere of a rect", "rect of degrees [5, 5]", "a direction at a common zero"];
+        assert_eq!(counts.missing(OF_A_PROGRAM), wanted);
         let missing = counts.missing(OF_A_LIBRARY);
         assert!(missing.contains(&"a point of a rect refused with the second".to_string()));
         assert!(missing.contains(&"12 for the handed frame of a curve".to_string()));

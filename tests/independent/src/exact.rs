@@ -103,6 +103,28 @@ impl Exact {
         Exact::tidy(self.negative != (n < 0), product_sizes(&self.digits, &[n.unsigned_abs()]))
     }
 
+    /// The quotient; nothing if the divisor, which is not 0, does not divide this number. Multiples of the
+    /// divisor by powers of two are taken off, the largest first.
+    pub fn over(&self, divisor: &Exact) -> Option<Exact> {
+        let (mut quotient, mut rest, size) = (Exact::zero(), self.abs(), divisor.abs());
+        let powers = (rest.bits() + 1).saturating_sub(size.bits());
+        for power in (0..powers).rev() {
+            let part = size.mul(&Exact::power_of_two(power));
+            if part <= rest {
+                rest = rest.sub(&part);
+                quotient.increase(&Exact::power_of_two(power));
+            }
+        }
+        quotient.negative = self.negative != divisor.negative && !quotient.is_zero();
+        rest.is_zero().then_some(quotient)
+    }
+
+    fn power_of_two(power: usize) -> Exact {
+        let mut digits = vec![0; power / 64];
+        digits.push(1 << (power % 64));
+        Exact { negative: false, digits }
+    }
+
     fn tidy(negative: bool, digits: Vec<u64>) -> Exact {
         let mut number = Exact { negative, digits };
         number.trim();
@@ -289,6 +311,22 @@ mod tests {
             assert_eq!(a.cmp(&b), a.sub(&b).cmp(&Exact::zero()));
             assert_eq!(a.mul_i64(-7), a.mul(&Exact::from_i64(-7)));
         }
+    }
+
+    #[test]
+    fn a_product_over_a_factor_is_the_other() {
+        let mut random = Random::new(12);
+        let (one, seven) = (Exact::from_i64(1), Exact::from_i64(-7));
+        for _ in 0..500 {
+            let (a, b) = (large(&mut random), large(&mut random));
+            let product = a.mul(&b);
+            assert_eq!(product.over(&b), Some(a.clone()));
+            assert_eq!(product.neg().over(&b), Some(a.neg()));
+            assert_eq!(product.add(&one).over(&b.mul(&seven)), None);
+            assert_eq!(a.over(&one), Some(a));
+            assert_eq!(Exact::zero().over(&b), Some(Exact::zero()));
+        }
+        assert_eq!(seven.over(&Exact::from_i64(14)), None);
     }
 
     #[test]

@@ -5,7 +5,10 @@
 //! largest component that it claims, which a replace works out anew and a flip hands on.
 
 use crate::calls::{place_of, refused_by_itself, Answer, Call, Weights, FLIP, REPLACE};
-use crate::projection::project;
+use crate::exact::Exact;
+use crate::left::{left, Left};
+use crate::polar::trinomial;
+use crate::projection::project_found;
 use crate::record::Record;
 use crate::shape::{in_range, Copies, Kind, Shape, RANGE};
 use std::ops::Range;
@@ -187,7 +190,7 @@ impl Net {
         let entries = self.used(shape);
         let (operation, vertex, weights) = match *call {
             Call::Move { operation, vertex, weights } => (operation, vertex, weights),
-            Call::Point { weights } => return found(at_point(shape, entries, weights).map_err(|_| 10)?),
+            Call::Point { weights } => return self.found(shape, weights),
         };
         let new = self.new_vertex(shape, operation, vertex, weights);
         if operation == FLIP {
@@ -199,6 +202,26 @@ impl Net {
         }
         self.write_vertex(shape, vertex, &new);
         Ok(Answer::Taken)
+    }
+
+    fn found(&self, shape: Shape, weights: Weights) -> Result<Answer, u8> {
+        let point = at_point(shape, self.used(shape), weights).map_err(|_| 10)?;
+        let zero = shape.kind == Kind::Curve && point == [0; 4];
+        let projected = if zero { self.left(shape, weights).map_or(point, |left| left.numbers) } else { point };
+        let [x, y, z, w] = point;
+        Ok(Answer::Point { x, y, z, w, projected, projection: project_found(point, projected)? })
+    }
+
+    /// What is left of a curve at weights at which its point is four zeros; nothing if all entries are. The
+    /// entries, times their binomials, are the coefficients of four forms in the weights of s and r, whatever
+    /// the frame.
+    pub fn left(&self, shape: Shape, [r, s, ..]: Weights) -> Option<Left> {
+        let degree = shape.degrees[0];
+        let entries = self.used(shape);
+        let coefficient = |k: usize, c: usize| Exact::from_i64(entries[k][c]).mul_i64(trinomial(degree, (k, 0)));
+        let forms = [0, 1, 2, 3].map(|c| (0..=degree).map(|k| coefficient(k, c)).collect());
+        let other = if s == 0 { [1, 0] } else { [0, 1] };
+        left(forms, &[s, r].map(Exact::from_i64), &other.map(Exact::from_i64))
     }
 
     /// The numbers of a vertex in its places; they are known to be 64-bit ones.
@@ -222,11 +245,6 @@ fn within_range(number: i128) -> bool {
 /// Kind, degree and second degree.
 pub fn head(shape: Shape) -> [i64; 3] {
     [i64::from(shape.kind.number()), shape.degrees[0] as i64, shape.degrees[1] as i64]
-}
-
-fn found(point: [i64; 4]) -> Result<Answer, u8> {
-    let [x, y, z, w] = point;
-    Ok(Answer::Point { x, y, z, w, projection: project(point)? })
 }
 
 fn all_in_range(entries: &[[i64; 4]]) -> bool {
@@ -304,6 +322,7 @@ fn at_point(mut shape: Shape, mut entries: Entries, weights: Weights) -> Result<
 mod tests {
     use super::*;
     use crate::calls::NO_WEIGHTS;
+    use crate::projection::Projection;
 
     #[test]
     fn only_numbers_in_use_are_read_and_written() {
@@ -427,6 +446,39 @@ mod tests {
                 assert_eq!(answer(frame, RANGE, point([0, 2, 0, 0])), 12);
                 assert_eq!(answer(frame, RANGE + 1, flip), 10);
             }
+        }
+    }
+
+    /// Of degree 2 with entries 0, e and f, over any frame: αr is a zero of order 1 and αe is projected
+    /// there; with e = 0 it is of order 2, and f is projected, whatever α is.
+    #[test]
+    fn a_common_zero_of_a_handed_net() {
+        let shape = Shape::curve(2);
+        let at = |entries: [[i64; 4]; 3], frame: [i64; 4], r, s| {
+            let mut net = zeros(shape, &frame);
+            net.write_entries(&entries);
+            let before = net.clone();
+            let answer = net.answer(&Call::Point { weights: [r, s, 0, 0] });
+            assert_eq!(net, before);
+            match answer {
+                Answer::Point { x, y, z, w, projected, projection } => ([x, y, z, w], projected, projection),
+                _ => unreachable!("a point in range"),
+            }
+        };
+        let far = |length| Projection::Direction { x: 2, y: -3, z: 0, length };
+        let [e, f] = [[-4, 6, 0, 0], [0, 0, 0, 8]];
+        for frame in [[0, 0, 0, 0], [1, 2, 2, 4], [0, 1, 1, 1], [RANGE, 0, 0, -RANGE]] {
+            assert_eq!(at([[0; 4], e, f], frame, 1, 0), ([0; 4], e, far(1)));
+            assert_eq!(at([[0; 4], e, f], frame, -3, 0), ([0; 4], [12, -18, 0, 0], far(1)));
+            assert_eq!(at([f, e, [0; 4]], frame, 0, 5), ([0; 4], [-20, 30, 0, 0], far(1)));
+            assert_eq!(at([e, e, [0; 4]], frame, 1, 0), (e, e, far(2)));
+            let finite = at([[0; 4], [0; 4], f], frame, 7, 0);
+            assert_eq!(finite, ([0; 4], f, Projection::Finite { x: 0, y: 0, z: 0 }));
+            assert_eq!(at([[0; 4]; 3], frame, 7, 1), ([0; 4], [0; 4], Projection::Nowhere));
+            // e (a − b)(a + b): between r and s, l = a − b and r is the other vertex; e (a − b)^2
+            let against = e.map(|number| -number);
+            assert_eq!(at([e, [0; 4], against], frame, 2, 2), ([0; 4], e.map(|n| 2 * n), far(1)));
+            assert_eq!(at([e, against, e], frame, 3, 3), ([0; 4], e, far(1)));
         }
     }
 

@@ -18,6 +18,7 @@ pub mod generate;
 pub mod handed;
 pub mod law_counts;
 pub mod laws;
+pub mod left;
 pub mod library;
 pub mod machine;
 pub mod named;

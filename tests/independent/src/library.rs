@@ -3,7 +3,7 @@
 use crate::calls::{Answer, Call, Weights};
 use crate::first::Given;
 use crate::handed::Net;
-use crate::projection::{project_into, Room};
+use crate::projection::{project_found_into, project_into, Room, FOUND};
 use crate::record::{self, Lookup, Refusal};
 use crate::text::text_into;
 
@@ -19,11 +19,15 @@ pub trait Library {
     /// Takes a move.
     fn take(&mut self, net: &mut Net, operation: u8, vertex: u8, weights: Weights) -> Result<(), u8>;
 
-    /// Finds a point and writes it into the first four places.
+    /// Finds a point and writes its numbers into the first four places, the numbers projected into the next
+    /// four.
     fn find(&mut self, net: &Net, weights: Weights, found: &mut [i64]) -> Result<(), u8>;
 
     /// Projects four numbers into the places lent for it; 0 or the refusal's number.
     fn project(&mut self, point: [i64; 4], room: &mut Room) -> u8;
+
+    /// Projects what `find` wrote into the places lent for it; 0 or the refusal's number.
+    fn project_found(&mut self, found: &[i64], room: &mut Room) -> u8;
 
     /// Writes netprint's text; its length.
     fn text(&mut self, record: &[u8], buffer: &mut [u8]) -> Result<usize, u8>;
@@ -57,9 +61,9 @@ impl Library for Model {
     }
 
     fn find(&mut self, net: &Net, weights: Weights, found: &mut [i64]) -> Result<(), u8> {
-        let room = found.first_chunk_mut::<4>().ok_or(11)?;
+        let room = found.first_chunk_mut::<FOUND>().ok_or(11)?;
         match net.clone().answer(&Call::Point { weights }) {
-            Answer::Point { x, y, z, w, .. } => *room = [x, y, z, w],
+            Answer::Point { x, y, z, w, projected: [a, b, c, d], .. } => *room = [x, y, z, w, a, b, c, d],
             Answer::Refused(number) => return Err(number),
             Answer::Taken => unreachable!("a point is found or refused"),
         }
@@ -68,6 +72,10 @@ impl Library for Model {
 
     fn project(&mut self, point: [i64; 4], room: &mut Room) -> u8 {
         project_into(point, room)
+    }
+
+    fn project_found(&mut self, found: &[i64], room: &mut Room) -> u8 {
+        project_found_into(found, room)
     }
 
     fn text(&mut self, record: &[u8], buffer: &mut [u8]) -> Result<usize, u8> {
@@ -92,13 +100,13 @@ pub fn answer(library: &mut dyn Library, net: &mut Net, call: &Call, found: &mut
 /// A library that found a point without room for it has not answered it, and neither has
 /// one that tells an outcome that there is not.
 fn projected(library: &mut dyn Library, found: &[i64]) -> Result<Answer, u8> {
-    let Some(&[x, y, z, w]) = found.first_chunk::<4>() else {
+    let Some(&[x, y, z, w, a, b, c, d]) = found.first_chunk::<FOUND>() else {
         return Ok(Answer::Taken);
     };
     let mut room = Room::enough();
-    let number = library.project([x, y, z, w], &mut room);
+    let number = library.project_found(found, &mut room);
     let Some(projection) = room.told(number) else {
         return Ok(Answer::Taken);
     };
-    Ok(Answer::Point { x, y, z, w, projection: projection? })
+    Ok(Answer::Point { x, y, z, w, projected: [a, b, c, d], projection: projection? })
 }

@@ -4,9 +4,10 @@
 use crate::calls::{place_of, refused_by_itself, Answer, Call, Weights, FLIP};
 use crate::exact::Exact;
 use crate::polar::{parameter, Parameter, Polynomials, Whole};
-use crate::projection::project;
+use crate::left::left;
+use crate::projection::project_found;
 use crate::record::Record;
-use crate::shape::Shape;
+use crate::shape::{Kind, Shape};
 
 #[derive(Clone, Debug)]
 pub struct Machine {
@@ -105,8 +106,22 @@ impl Machine {
         let found = self.polynomials.scaled_value(&qs);
         let small = |component: &Exact| component.when_in_range().expect("a named polar value, so in range");
         let [x, y, z, w] = [small(&found[0]), small(&found[1]), small(&found[2]), small(&found[3])];
-        let projection = project([x, y, z, w]).expect("in range");
-        Answer::Point { x, y, z, w, projection }
+        let projected = self.projected([x, y, z, w], weights);
+        let projection = project_found([x, y, z, w], projected).expect("in range");
+        Answer::Point { x, y, z, w, projected, projection }
+    }
+
+    /// The numbers projected of a point found at these weights. At a common zero of a curve the linear form
+    /// that vanishes at q is divided out of the polynomials; there q's weight of s says whether r or s is the
+    /// other vertex.
+    fn projected(&self, found: [i64; 4], weights: Weights) -> [i64; 4] {
+        if self.shape().kind != Kind::Curve || found != [0; 4] {
+            return found;
+        }
+        let in_plane = |[t, _, z]: &Parameter<Exact>| [t.clone(), z.clone()];
+        let q = in_plane(&named(&self.frame, &weights));
+        let other = in_plane(&self.frame[if weights[1] == 0 { 1 } else { 0 }]);
+        left(self.polynomials.scaled_forms(), &q, &other).map_or(found, |left| left.numbers)
     }
 
     /// The vertices, group by group.

@@ -6,6 +6,7 @@
 //! product.
 
 use crate::exact::Exact;
+use crate::left::Form;
 use crate::shape::{in_range, Exponents, Group, Shape};
 
 pub type Parameter<N> = [N; 3];
@@ -152,6 +153,12 @@ impl Polynomials {
             }
         }
         value
+    }
+
+    /// L × F of a curve, each component as a form in T and Z.
+    pub fn scaled_forms(&self) -> [Form; 4] {
+        let of = |c: usize| self.coefficients.iter().map(|a| Exact::from_i64(a[c] * self.scale)).collect();
+        [0, 1, 2, 3].map(of)
     }
 
     /// The scaled polar value of listed points, m for a group of degree m, one after the

@@ -17,6 +17,9 @@ pub const COORDINATES: usize = 3;
 /// How many a direction takes, with its length.
 pub const DIRECTION: usize = 4;
 
+/// How many numbers a found point has: its own four, and the numbers projected.
+pub const FOUND: usize = 8;
+
 /// The places lent for a projection: its case, the bit patterns of a finite point, the
 /// numbers of a direction and its length.
 #[derive(Clone, Debug, PartialEq, Eq)]
@@ -71,6 +74,22 @@ impl Room {
 pub fn project_into(point: [i64; 4], room: &mut Room) -> u8 {
     let answer = if room.is_short() { Err(11) } else { project(point) };
     room.tell(answer)
+}
+
+/// What a point found: the numbers and the room are judged first (11), then the range of the numbers
+/// projected (10).
+pub fn project_found_into(found: &[i64], room: &mut Room) -> u8 {
+    let numbers = found.first_chunk::<FOUND>().filter(|_| !room.is_short());
+    let answer = numbers.ok_or(11).and_then(|&[x, y, z, w, a, b, c, d]| project_found([x, y, z, w], [a, b, c, d]));
+    room.tell(answer)
+}
+
+/// A direction found where the point's own numbers are four zeros has no length of its own.
+pub fn project_found(point: [i64; 4], projected: [i64; 4]) -> Result<Projection, u8> {
+    match (point, project(projected)?) {
+        ([0, 0, 0, 0], Projection::Direction { x, y, z, .. }) => Ok(Projection::Direction { x, y, z, length: 1 }),
+        (_, projection) => Ok(projection),
+    }
 }
 
 /// Any four numbers may come, so the range is tested before the case is chosen.
@@ -157,5 +176,19 @@ mod tests {
             }
         }
         assert!(project([RANGE, -RANGE, RANGE, -RANGE]).is_ok());
+    }
+
+    #[test]
+    fn the_length_of_a_found_direction() {
+        let direction = |length| Ok(Projection::Direction { x: 2, y: -3, z: 0, length });
+        assert_eq!(project_found([0, 0, 0, 0], [-4, 6, 0, 0]), direction(1));
+        assert_eq!(project_found([-4, 6, 0, 0], [-4, 6, 0, 0]), direction(2));
+        assert_eq!(project_found([0, 0, 0, 1], [-4, 6, 0, 0]), direction(2));
+        assert_eq!(project_found([RANGE + 1, 0, 0, 0], [-4, 6, 0, 0]), direction(2));
+        assert_eq!(project_found([0, 0, 0, 0], [-4, 6, RANGE + 1, 0]), Err(10));
+        assert_eq!(project_found([0, 0, 0, 0], [0, 0, 0, 0]), Ok(Projection::Nowhere));
+        let mut room = Room::enough();
+        assert_eq!((project_found_into(&[0, 0, 0, 0, -4, 6, 0], &mut room), room.outcome), (11, 0));
+        assert_eq!((project_found_into(&[0, 0, 0, 0, -4, 6, 0, 0, 9], &mut room), room.outcome), (0, 2));
     }
 }

@@ -1,5 +1,5 @@
-//! Document 01's samples, the circle record with its text and B1 to B10, and two
-//! rectangular patches: one worked out by hand, and document 000's torus.
+//! Document 01's samples, the circle record with its text and B1 to B10, two rectangular patches: one worked
+//! out by hand, and document 000's torus, and the circle entered at degree 4.
 
 use crate::calls::{Answer, Call, Weights, FLIP, NO_WEIGHTS, REPLACE};
 use crate::compare::{check_net, first_net};
@@ -161,7 +161,8 @@ pub fn check_samples() -> Result<(), String> {
     weight_samples()?;
     saddle_samples()?;
     torus_samples()?;
-    frame_samples()
+    frame_samples()?;
+    zero_samples()
 }
 
 fn circle_samples() -> Result<(), String> {
@@ -180,7 +181,7 @@ fn folium_samples() -> Result<(), String> {
     let mut bench = Bench::new(&folium());
     same("B6", bench.entries(), vec![[0, 0, 0, 3], [3, 0, 0, 3], [6, 3, 0, 3], [9, 9, 0, 6]])?;
     let projection = Projection::Direction { x: 1, y: -1, z: 0, length: 9 };
-    let wanted = Answer::Point { x: -9, y: 9, z: 0, w: 0, projection };
+    let wanted = Answer::Point { x: -9, y: 9, z: 0, w: 0, projected: [-9, 9, 0, 0], projection };
     same("B7", bench.call(Call::Point { weights: [2, -1, 0, 0] })?, wanted)
 }
 
@@ -262,6 +263,32 @@ fn frame_samples() -> Result<(), String> {
     same("negative", bench.frame(), &[0, 1 << 48, 1, 1 - (1 << 48)])?;
     bench.call(flip(1))?;
     same("-2^48", bench.frame(), &[0, -(1 << 48), 1, 1 - (1 << 48)])
+}
+
+/// A point's own numbers, and the numbers projected.
+fn both(answer: Answer) -> [[i64; 4]; 2] {
+    match answer {
+        Answer::Point { projected, .. } => [components(answer), projected],
+        _ => [[i64::MIN; 4]; 2],
+    }
+}
+
+/// E7: the circle times T(2T − Z) over r = (0, 1) and s = (1, 1), scale 12. At r what is left is −1 times the
+/// circle's 1 0 0 1, T is 1 at s, and the binomial of 4 over 1 is 4. At r + s, which is (1, 2), what is left
+/// is the circle's 3 4 0 5, and 2T − Z is −1 at r. Then r + s takes the place of s, where T is 1 too.
+fn zero_samples() -> Result<(), String> {
+    let rows = [[0, 0, 0, 0], [-1, 0, 0, -1], [2, -2, 0, 2], [1, 4, 0, -1], [-2, 0, 0, 2]];
+    let mut bench = Bench::new(&curve([[0, 0, 1], [1, 0, 1]], &rows));
+    let at = |bench: &mut Bench, weights| bench.call(Call::Point { weights }).map(both);
+    same("circle of degree 4 at r", at(&mut bench, [1, 0, 0, 0])?, [[0; 4], [-3, 0, 0, -3]])?;
+    same("at 1/2", at(&mut bench, [1, 1, 0, 0])?, [[0; 4], [-9, -12, 0, -15]])?;
+    same("at 1/2 by -2 and -2", at(&mut bench, [-2, -2, 0, 0])?, [[0; 4], [72, 96, 0, 120]])?;
+    same("at s, no zero", at(&mut bench, [0, 1, 0, 0])?, [[0, 24, 0, 24]; 2])?;
+    bench.call(replace(2, [1, 1, 0, 0]))?;
+    same("at 1/2, which is s", at(&mut bench, [0, 1, 0, 0])?, [[0; 4], [-9, -12, 0, -15]])?;
+    same("at r again", at(&mut bench, [2, 0, 0, 0])?, [[0; 4], [-24, 0, 0, -24]])?;
+    let mut bench = Bench::new(&curve([[0, 0, 1], [1, 0, 1]], &[[0; 4]; 4]));
+    same("the zero curve", at(&mut bench, [1, 1, 0, 0])?, [[0; 4]; 2])
 }
 
 #[cfg(test)]

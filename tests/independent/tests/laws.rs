@@ -301,6 +301,10 @@ impl Library for Spoiled {
         Model.project(point, room)
     }
 
+    fn project_found(&mut self, found: &[i64], room: &mut Room) -> u8 {
+        Model.project_found(found, room)
+    }
+
     fn text(&mut self, record: &[u8], buffer: &mut [u8]) -> Result<usize, u8> {
         Model.text(record, buffer)
     }

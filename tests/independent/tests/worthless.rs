@@ -1,17 +1,17 @@
 //! Libraries that are wrong in one place each, the paper's worthless boards among
 //! them. The comparison must find every one.
 
-use independent::calls::{place_of, Call, Weights, FLIP, REPLACE};
+use independent::calls::{place_of, Answer, Call, Weights, FLIP, REPLACE};
 use independent::compare::compare_calls;
 use independent::first::Given;
 use independent::handed::{largest, Net, ENTRIES, FRAME, LARGEST, PLACES};
 use independent::library::{Library, Model};
 use independent::named::{is_beyond, named, Name, GROUPS};
-use independent::polar::scale;
-use independent::projection::{project, Projection, Room, COORDINATES, DIRECTION};
+use independent::polar::{scale, trinomial};
+use independent::projection::{project, project_found, project_into, Projection, Room, COORDINATES, DIRECTION, FOUND};
 use independent::record::{read_with_net, told_kind, Lookup, Refusal};
 use independent::shape::{in_range, Copies, Kind, Shape, RANGE};
-use independent::text::text;
+use independent::text::{outcome, text, write, Outcome};
 
 #[derive(Clone, Copy, Debug, PartialEq)]
 enum Fault {
@@ -159,6 +159,45 @@ enum Fault {
     LengthsModulo(u16),
     FieldsFourAndFiveExchanged,
     RefusesABufferOfTheTextsLength,
+    ZeroNotProjected,
+    ZeroByRAlone,
+    ZeroBySAlone,
+    ZeroByTheWeightOfR,
+    ZeroLeavesOut(usize),
+    ZeroScanEndsBeforeM,
+    ZeroByTheNextOne,
+    ZeroOfEachComponent,
+    ZeroByTheWeightAlone,
+    ZeroReduced,
+    ZeroNegated,
+    ZeroTimesTheBinomial,
+    ZeroOverAFlatFrameNowhere,
+    ZeroAtVerticesAlone,
+    ZerosOfAPatchScanned(Kind),
+    FoundReplacedByTheNumbersProjected,
+    ProjectedAtZerosAlone,
+    ProjectedOfPatchesNotWritten,
+    ProjectedOnARefusal,
+    FourPlacesEnough,
+    SevenPlacesEnough,
+    LengthKept,
+    LengthOneEverywhere,
+    LengthByTheWeightOfTheFirstFour,
+    LengthByThreeOfTheFirstFour,
+    LengthByTheSecondFour,
+    FoundByTheFirstFour,
+    FoundJudgesTheFirstFour,
+    FoundJudgesBothFours,
+    FoundOfAnyRange,
+    FoundOfFourNumbers,
+    FoundOfSevenNumbers,
+    FoundOfEightNumbersAlone,
+    FoundOutcomeKept,
+    FoundRangeBeforeRoom,
+    FoundWithoutRoom,
+    TextZeroNowhere,
+    TextLengthKept,
+    TextLengthOne,
 }
 
 /// A size test that does not look at some of the values that a replace or a point names: in one group of one
@@ -470,7 +509,7 @@ impl Spoiled {
                 return Some(if large { Err(12) } else { answer });
             }
             (Fault::TwelveAfterSizeOfAPoint, Err(12)) => {
-                let size = self.model.find(&over_zeros(net, shape), weights, &mut [0; 4]);
+                let size = self.model.find(&over_zeros(net, shape), weights, &mut [0; FOUND]);
                 return Some(if size == Err(10) { size } else { answer });
             }
             (Fault::NegativeFramesNotTested, Err(12)) if net.frame(shape).iter().any(|&number| number > RANGE) => return None,
@@ -484,8 +523,126 @@ impl Spoiled {
         }
     }
 
+    /// The numbers projected, wrong at a common zero of a curve or elsewhere, in the places for a point,
+    /// which held `lent`. Nothing if this fault has no say here.
+    fn spoil_projected(&self, net: &Net, weights: Weights, (found, lent): (&mut [i64], &[i64]), answer: Result<(), u8>) -> Option<()> {
+        let eight = found.first_chunk_mut::<FOUND>()?;
+        let (point, projected) = eight.split_at_mut(4);
+        if answer.is_err() {
+            return self.is(Fault::ProjectedOnARefusal).then(|| projected.fill(0));
+        }
+        let (shape, zero) = (net.shape()?, point == [0; 4]);
+        let zero_of_a_curve = zero && shape.kind == Kind::Curve;
+        let wrong = match self.fault {
+            Fault::FoundReplacedByTheNumbersProjected => {
+                point.copy_from_slice(projected);
+                return Some(());
+            }
+            Fault::ProjectedAtZerosAlone if !zero => [lent[4], lent[5], lent[6], lent[7]],
+            Fault::ProjectedOfPatchesNotWritten if shape.kind != Kind::Curve => [lent[4], lent[5], lent[6], lent[7]],
+            Fault::ZerosOfAPatchScanned(kind) if zero && kind == shape.kind => *net.used(shape).iter().find(|entry| **entry != [0; 4])?,
+            _ if zero_of_a_curve => self.wrong_at_a_zero(net, shape, weights, [projected[0], projected[1], projected[2], projected[3]])?,
+            _ => return None,
+        };
+        projected.copy_from_slice(&wrong);
+        Some(())
+    }
+
+    /// What a library takes for the numbers projected at a common zero of a curve, where these are right.
+    fn wrong_at_a_zero(&self, net: &Net, shape: Shape, weights: Weights, right: [i64; 4]) -> Option<[i64; 4]> {
+        let degree = shape.degrees[0];
+        let polar = |vertex: usize, d: usize| {
+            let mut copies = [0; 4];
+            copies[vertex] = d;
+            expand(net, shape, copies, &vec![(0, &weights[..2]); degree - d]).map(|number| number as i64)
+        };
+        let first = |values: Vec<[i64; 4]>| values.into_iter().find(|value| *value != [0; 4]).unwrap_or([0; 4]);
+        let scan = |vertex: usize| (1..=degree).map(|d| polar(vertex, d)).collect::<Vec<_>>();
+        let other = if weights[1] == 0 { 1 } else { 0 };
+        let order = net.left(shape, weights)?.order;
+        let divisor = right.iter().fold(0, |found, number| divisor(found, number.abs()));
+        Some(match self.fault {
+            Fault::ZeroNotProjected => [0; 4],
+            Fault::ZeroByRAlone => first(scan(0)),
+            Fault::ZeroBySAlone => first(scan(1)),
+            Fault::ZeroByTheWeightOfR => first(scan(if weights[0] == 0 { 0 } else { 1 })),
+            Fault::ZeroLeavesOut(left_out) => first((1..=degree).filter(|d| *d != left_out).map(|d| polar(other, d)).collect()),
+            Fault::ZeroScanEndsBeforeM => first((1..degree).map(|d| polar(other, d)).collect()),
+            Fault::ZeroByTheNextOne => polar(other, degree.min(order + 1)),
+            Fault::ZeroOfEachComponent => {
+                let values = scan(other);
+                [0, 1, 2, 3].map(|c| values.iter().map(|value| value[c]).find(|number| *number != 0).unwrap_or(0))
+            }
+            Fault::ZeroByTheWeightAlone => scan(other).into_iter().find(|value| value[3] != 0).unwrap_or([0; 4]),
+            Fault::ZeroReduced => right.map(|number| number / divisor),
+            Fault::ZeroNegated => right.map(|number| -number),
+            Fault::ZeroTimesTheBinomial => right.map(|number| number * trinomial(degree, (order, 0))),
+            Fault::ZeroOverAFlatFrameNowhere if flat(net.frame(shape)) => [0; 4],
+            Fault::ZeroAtVerticesAlone if weights[0] != 0 && weights[1] != 0 => [0; 4],
+            _ => return None,
+        })
+    }
+
+    /// A projection of what a point found that is wrong in itself. Nothing if this fault has no say here.
+    fn spoil_projection_of_found(&mut self, found: &[i64], room: &mut Room) -> Option<u8> {
+        let Some(&[a, b, c, d, x, y, z, w]) = found.first_chunk::<FOUND>() else {
+            return match self.fault {
+                Fault::FoundOfFourNumbers => found.first_chunk::<4>().map(|four| project_into(*four, room)),
+                Fault::FoundOfSevenNumbers => found.get(4..7).map(|three| project_into([three[0], three[1], three[2], 0], room)),
+                Fault::FoundOutcomeKept => Some(11),
+                _ => None,
+            };
+        };
+        let (first, second) = ([a, b, c, d], [x, y, z, w]);
+        let (out, all_out) = (!first.iter().all(|&number| in_range(number)), !second.iter().all(|&number| in_range(number)));
+        let far = |one: bool| match project(second) {
+            Ok(Projection::Direction { x, y, z, .. }) if one => Ok(Projection::Direction { x, y, z, length: 1 }),
+            answer => answer,
+        };
+        if room.is_short() {
+            return match self.fault {
+                Fault::FoundRangeBeforeRoom if all_out => Some(room.tell(Err(10))),
+                Fault::FoundWithoutRoom if project(second) == Ok(Projection::Nowhere) => Some(room.tell(Ok(Projection::Nowhere))),
+                _ => None,
+            };
+        }
+        let answer = match self.fault {
+            Fault::LengthKept => far(false),
+            Fault::LengthOneEverywhere => far(true),
+            Fault::LengthByTheWeightOfTheFirstFour => far(d == 0),
+            Fault::LengthByThreeOfTheFirstFour => far([a, b, c] == [0; 3]),
+            Fault::LengthByTheSecondFour => far(second == [0; 4]),
+            Fault::FoundByTheFirstFour => project_found(first, first),
+            Fault::FoundJudgesTheFirstFour if out || all_out => if out { Err(10) } else { Ok(Projection::Nowhere) },
+            Fault::FoundJudgesBothFours if out => Err(10),
+            Fault::FoundOfAnyRange if all_out => Ok(Projection::Nowhere),
+            Fault::FoundOfEightNumbersAlone if found.len() > FOUND => Err(11),
+            _ => return None,
+        };
+        Some(room.tell(answer))
+    }
+
+    /// A text with the line of the point spoiled at a common zero of a curve, or with every length.
+    fn spoil_point_line(&self, record: &[u8]) -> Option<String> {
+        let mut outcome = outcome(record);
+        let Outcome::Made { point: Some(Answer::Point { x, y, z, w, projected, projection }), .. } = &mut outcome else {
+            return None;
+        };
+        let zero = [*x, *y, *z, *w] == [0; 4];
+        match (self.fault, &mut *projection) {
+            (Fault::TextZeroNowhere, _) if zero => *projection = Projection::Nowhere,
+            (Fault::TextLengthKept, _) => *projection = project(*projected).ok()?,
+            (Fault::TextLengthOne, Projection::Direction { length, .. }) => *length = 1,
+            _ => return None,
+        }
+        Some(write(&outcome))
+    }
+
     /// A text with the line of the frame spoiled.
     fn spoil_text(&self, record: &[u8]) -> Option<String> {
+        if let Some(spoiled) = self.spoil_point_line(record) {
+            return Some(spoiled);
+        }
         let right = text(record);
         let lines: Vec<&str> = right.split_inclusive('\n').collect();
         let at = lines.iter().position(|line| line.starts_with("frame"))?;
@@ -575,6 +732,11 @@ impl Spoiled {
         }
         Some(read)
     }
+}
+
+/// A point and the numbers projected, which are its own, in the places for both.
+fn write_found(found: &mut [i64], point: [i64; 4]) {
+    found[..FOUND].copy_from_slice(&[point, point].concat());
 }
 
 /// A call that is refused for the number in the place of the largest component.
@@ -844,31 +1006,44 @@ impl Library for Spoiled {
             let [r1, s1, r2, s2] = weights;
             return self.model.find(net, [r2, s2, r1, s1], found);
         }
+        let lent = found.to_vec();
         let answer = self.model.find(net, weights, found);
         if let Some(spoiled) = self.spoil_point(net, answer, weights, found) {
             return spoiled;
         }
+        if self.spoil_projected(net, weights, (found, &lent), answer).is_some() {
+            return answer;
+        }
         match self.fault {
+            Fault::FourPlacesEnough | Fault::SevenPlacesEnough if answer == Err(11) => {
+                let least = if self.is(Fault::FourPlacesEnough) { 4 } else { 7 };
+                let mut enough = [0; FOUND];
+                if found.len() < least || self.model.find(net, weights, &mut enough).is_err() {
+                    return answer;
+                }
+                found.copy_from_slice(&enough[..found.len()]);
+                return Ok(());
+            }
             Fault::SecondStageLeftOut if answer == Err(10) => {
                 if let Some(value) = self.without_second_stage(net, weights) {
-                    found[..4].copy_from_slice(&value);
+                    write_found(found, value);
                     return Ok(());
                 }
             }
             Fault::SymmetricSizeTest if answer.is_ok() => {
                 if let Some(shape) = rect(net) {
                     let [r1, s1, r2, s2] = weights;
-                    return self.model.find(&net.with_pairs_exchanged(shape), [r2, s2, r1, s1], &mut [0; 4]);
+                    return self.model.find(&net.with_pairs_exchanged(shape), [r2, s2, r1, s1], &mut [0; FOUND]);
                 }
             }
             Fault::LeavesOut(left_out) if answer == Err(10) => {
                 if let Some(value) = left_out.find(net, weights) {
-                    found[..4].copy_from_slice(&value);
+                    write_found(found, value);
                     return Ok(());
                 }
             }
             Fault::SecondPairIdle if answer == Err(9) && weights[..2] != [0, 0] => {
-                found[..4].fill(0);
+                write_found(found, [0; 4]);
                 return Ok(());
             }
             Fault::FourthWeightOfAPoint if answer == Err(8) && rect(net).is_none() => {
@@ -878,13 +1053,13 @@ impl Library for Spoiled {
                 if let Some(shape) = net.shape().filter(|s| usable(net, *s)) {
                     let value = plain_point(net, shape, weights);
                     if within(&[value], RANGE) {
-                        found[..4].copy_from_slice(&value.map(|c| c as i64));
+                        write_found(found, value.map(|c| c as i64));
                         return Ok(());
                     }
                 }
             }
             Fault::PointWithoutRoom if answer == Err(11) && !net.is_short() && net.shape().is_none() => return Err(4),
-            Fault::PointPastItsPlaces if answer.is_ok() => found[4..].fill(0),
+            Fault::PointPastItsPlaces if answer.is_ok() => found[FOUND..].fill(0),
             _ => {}
         }
         answer
@@ -944,6 +1119,21 @@ impl Library for Spoiled {
             _ => answer,
         };
         room.tell(answer)
+    }
+
+    /// The second four go through `project`, with what is wrong there.
+    fn project_found(&mut self, found: &[i64], room: &mut Room) -> u8 {
+        if let Some(number) = self.spoil_projection_of_found(found, room) {
+            return number;
+        }
+        let Some(&[a, b, c, d, x, y, z, w]) = found.first_chunk::<FOUND>() else {
+            return room.tell(Err(11));
+        };
+        let number = self.project([x, y, z, w], room);
+        if number == 0 && room.outcome == 2 && [a, b, c, d] == [0; 4] {
+            room.direction[DIRECTION - 1] = 1;
+        }
+        number
     }
 
     fn field(&mut self, record: &[u8], tag: u8) -> Lookup {
@@ -1040,6 +1230,15 @@ fn every_fault_is_found() {
         LargestBeyondTheRangeRefused, LargestWrittenOnARefusal, LargestWrittenOnARefusalForSize, LargestLeftByAFirstNet,
         LargestLeftByARecordsNet, LargestOfTheCoefficients, LargestOfAFirstNetNeverFalling,
         LargestWrittenByARefusedFirstNet, TextWithTheLargest, LargestJudgedByAPoint, LargestClearedByAFlip,
+        ZeroNotProjected, ZeroByRAlone, ZeroBySAlone, ZeroByTheWeightOfR, ZeroScanEndsBeforeM, ZeroByTheNextOne,
+        ZeroOfEachComponent, ZeroByTheWeightAlone, ZeroReduced, ZeroNegated, ZeroTimesTheBinomial,
+        ZeroOverAFlatFrameNowhere, ZeroAtVerticesAlone, ZerosOfAPatchScanned(Kind::Patch),
+        ZerosOfAPatchScanned(Kind::Rect), FoundReplacedByTheNumbersProjected, ProjectedAtZerosAlone,
+        ProjectedOfPatchesNotWritten, ProjectedOnARefusal, FourPlacesEnough, SevenPlacesEnough, LengthKept,
+        LengthOneEverywhere, LengthByTheWeightOfTheFirstFour, LengthByThreeOfTheFirstFour, LengthByTheSecondFour,
+        FoundByTheFirstFour, FoundJudgesTheFirstFour, FoundJudgesBothFours, FoundOfAnyRange, FoundOfFourNumbers,
+        FoundOfSevenNumbers, FoundOfEightNumbersAlone, FoundOutcomeKept, FoundRangeBeforeRoom, FoundWithoutRoom,
+        TextZeroNowhere, TextLengthKept, TextLengthOne,
         FieldsFourAndFiveExchanged, RefusesABufferOfTheTextsLength, TagsModulo(8), TagsModulo(16),
         TagsModulo(32), TagsModulo(64), TagsModulo(128), LengthsModulo(1024), LengthsModulo(2048),
         LengthsModulo(4096), LengthsModulo(8192), LengthsModulo(16384), LengthsModulo(32768),
@@ -1052,6 +1251,7 @@ fn every_fault_is_found() {
     ];
     let alone = |fault| [(fault, Spared::FirstNets), (fault, Spared::Replaces)];
     let sizes = LeftOut::all().into_iter().map(LeavesOut);
+    let sizes = sizes.chain((1..=10).map(ZeroLeavesOut));
     let whole = faults.into_iter().chain(sizes).map(|fault| (fault, Spared::Nothing));
     for (fault, spared) in whole.chain(of_either.into_iter().flat_map(alone)) {
         let mut library = Spoiled { fault, spared, model: Model };

@@ -29,7 +29,7 @@ returns c = let s = c .before in found-short (point s) (s .args .net .now) (s .a
 returns-2 : tie.Need-returns-2
 returns-2 c =
     let s = c .before .before in
-    found-narrow (point s) (s .args .net .now) (s .args .found .now) (c .before .if1 .left) (lt-leb 4 (length (s .args .found .now)) (c .if2 .taken))
+    found-narrow (point s) (s .args .net .now) (s .args .found .now) (c .before .if1 .left) (lt-leb 8 (length (s .args .found .now)) (c .if2 .taken))
 
 -- ---- the net in the places
 
@@ -63,7 +63,7 @@ module _ (c : tie.After-byte-of3) where
       }
 
   roomy : room (point start) (start .args .found .now) ≡ true
-  roomy = le-leb 4 (length (start .args .found .now)) (first .before .before .if2 .left)
+  roomy = le-leb 8 (length (start .args .found .now)) (first .before .before .if2 .left)
 
   -- a refused point writes nothing
   refused : {k : ℕ} → (k ≡ 0 → ⊥) → k ≡ callNumber (point start) (start .args .net .now) (start .args .found .now)

@@ -32,10 +32,14 @@ pub enum Mood {
     /// Lists that begin with a call of which one named polar value alone is out of range, one
     /// of q and of vertices.
     Mixed,
+    /// Curves with a common zero of any order, and points at it by several weights.
+    Zero,
 }
 
 impl Mood {
-    pub const ALL: [Mood; 9] = [
+    /// `Mixed` comes twice. Of every ten lists of a comparison seven are about one of these, in turn, so
+    /// their number and ten have no common divisor.
+    pub const ALL: [Mood; 11] = [
         Mood::Plain,
         Mood::Units,
         Mood::Wide,
@@ -44,6 +48,8 @@ impl Mood {
         Mood::Edge,
         Mood::Cancel,
         Mood::Frame,
+        Mood::Mixed,
+        Mood::Zero,
         Mood::Mixed,
     ];
 
@@ -88,6 +94,11 @@ impl Caller {
     /// A caller that knows no record.
     pub fn blind(kind: Kind, mood: Mood, weight_bits: u32) -> Caller {
         Caller { kind, mood, aims: Vec::new(), still: Vec::new(), weight_bits, back: None, opening: Vec::new() }
+    }
+
+    /// Calls to make before any other, the last first.
+    pub fn open_with(&mut self, calls: Vec<Call>) {
+        self.opening = calls;
     }
 
     pub fn next(&mut self, random: &mut Random, frame: &[Parameter<Exact>]) -> Call {
@@ -138,10 +149,21 @@ impl Caller {
             let aim = random.pick(&self.aims);
             let span = self.kind.spans()[aim.group].clone();
             if let Some(aimed) = weights_for(&frame[span.clone()], aim.point) {
-                weights[span].copy_from_slice(&aimed);
+                weights[span].copy_from_slice(&self.multiple(random, &aimed));
             }
         }
         weights
+    }
+
+    /// The weights, or where a list is about zeros at times a multiple of them.
+    fn multiple(&self, random: &mut Random, weights: &[i64]) -> Vec<i64> {
+        let by = if self.mood == Mood::Zero { random.pick(&[1, 1, 1, -1, 2, -3, 16]) } else { 1 };
+        let multiple: Vec<i64> = weights.iter().map(|weight| by * weight).collect();
+        if multiple.iter().all(|weight| weight.abs() <= LARGEST_WEIGHT) {
+            multiple
+        } else {
+            weights.to_vec()
+        }
     }
 
     fn replace(&self, random: &mut Random) -> Call {
@@ -204,7 +226,7 @@ impl Caller {
 
     fn weight(&self, random: &mut Random) -> i64 {
         match self.mood {
-            Mood::Plain | Mood::Cancel | Mood::Mixed => random.between(-3, 3),
+            Mood::Plain | Mood::Cancel | Mood::Mixed | Mood::Zero => random.between(-3, 3),
             Mood::Units | Mood::Growth | Mood::Frame => random.between(-1, 1),
             Mood::Wide | Mood::Broken => wide(random),
             Mood::Edge => random.sign() * random.pick(&[0, 0, 0, 0, 1, 1, 2, 16]),

@@ -1,7 +1,8 @@
 //! Handed nets and quadruples of any numbers.
 
+use super::polynomials::degree_and_order;
 use super::records::any_shape;
-use crate::calls::{Call, FLIP, NO_WEIGHTS};
+use crate::calls::{Answer, Call, FLIP, NO_WEIGHTS, REPLACE};
 use crate::handed::{head, Net, ENTRIES, FRAME, LARGEST, PLACES};
 use crate::projection::Room;
 use crate::random::Random;
@@ -31,6 +32,73 @@ pub fn handed(random: &mut Random) -> Net {
         shape_outside(random, &mut net);
     }
     net
+}
+
+/// A curve's net with a common zero of any order up to its degree, or of zeros alone, in order, over any
+/// frame in range, often one with determinant 0, and calls to begin with, the last first: points at the zero,
+/// flips between them. Its entries come from no record: those at r, or at s, are zeros, and replaces with a
+/// weight of ±1 for the vertex bring the zero elsewhere.
+pub fn with_zero(random: &mut Random) -> (Net, Vec<Call>) {
+    let (degree, order) = degree_and_order(random);
+    let (shape, order) = (Shape::curve(degree), if random.once_in(6) { degree + 1 } else { order });
+    let length = PLACES + random.pick(&[0, 0, 0, 1, 7]);
+    let mut net = Net((0..length).map(|_| any_number(random)).collect());
+    let mut entries = vec![[0; 4]; order];
+    let sort = random.pick(&[0, 0, 2, 3]);
+    entries.extend((order..=degree).map(|_| [0; 4].map(|_| entry_number(random, sort))));
+    if random.once_in(3) && order <= degree {
+        entries[order][3] = 0;
+    }
+    let mut weights = [1, 0];
+    if random.once_in(2) {
+        entries.reverse();
+        weights = [0, 1];
+    }
+    net.write(shape, &entries);
+    net.write_frame(&[0; 4]);
+    for _ in 0..random.below(3) {
+        weights = moved_zero(random, &mut net, weights);
+    }
+    any_flat_frame(random, &mut net);
+    any_claim(random, &mut net);
+    (net, points_at(random, weights))
+}
+
+/// Replaces a vertex v of a curve by ev + ku, e being 1 or −1, where that is taken, and gives the weights
+/// that name the same q as before.
+fn moved_zero(random: &mut Random, net: &mut Net, [r, s]: [i64; 2]) -> [i64; 2] {
+    let (vertex, e, k) = (1 + random.below(2) as u8, random.sign(), random.between(-2, 2));
+    let (own, after) = if vertex == 1 { ([e, k], [e * r, s - e * k * r]) } else { ([k, e], [r - e * k * s, e * s]) };
+    let weights = [own[0], own[1], 0, 0];
+    match net.answer(&Call::Move { operation: REPLACE, vertex, weights }) {
+        Answer::Taken => after,
+        _ => [r, s],
+    }
+}
+
+/// A frame of numbers in range; every second time s is a multiple of r, or both are 0.
+fn any_flat_frame(random: &mut Random, net: &mut Net) {
+    let sort = random.below(6);
+    let mut frame = [0; 4].map(|_| frame_number(random, sort));
+    if random.once_in(2) {
+        let (by, r) = (random.between(-2, 2), [0; 2].map(|_| random.between(-4, 4)));
+        frame = [r[0], r[1], by * r[0], by * r[1]];
+    }
+    net.write_frame(&frame);
+}
+
+/// Points at multiples of the weights, and at what flips make of them.
+fn points_at(random: &mut Random, [mut r, mut s]: [i64; 2]) -> Vec<Call> {
+    let mut calls = Vec::new();
+    for _ in 0..3 {
+        let by = random.pick(&[1, 1, -1, 2, 3, 7, 100]);
+        calls.push(Call::Point { weights: [by * r, by * s, 0, 0] });
+        let vertex = 1 + random.below(2) as u8;
+        (r, s) = if vertex == 1 { (-r, s) } else { (r, -s) };
+        calls.push(Call::Move { operation: FLIP, vertex, weights: NO_WEIGHTS });
+    }
+    calls.reverse();
+    calls
 }
 
 /// A handed net with kind, degrees, entries and frame in order, so that every flip is taken, and
@@ -149,6 +217,23 @@ pub fn any_room(random: &mut Random) -> Room {
         bits: (0..bits).map(|_| random.next()).collect(),
         direction: (0..direction).map(|_| any_number(random)).collect(),
     }
+}
+
+/// Numbers as a point leaves them, and others: eight, often more, at times fewer.
+pub fn any_found(random: &mut Random) -> Vec<i64> {
+    let (mut first, mut second) = (four_numbers(random), four_numbers(random));
+    match random.below(6) {
+        0..=2 => first = [0; 4],
+        3 => second = first,
+        4 => first = [0, 0, 0, random.sign() * random.pick(&[1, 7, RANGE, RANGE + 1])],
+        _ => {}
+    }
+    if random.once_in(3) {
+        second[3] = 0;
+    }
+    let mut found = [first, second].concat();
+    found.resize(random.pick(&[8, 8, 8, 8, 8, 8, 9, 12, 7, 4, 3, 0]), 0);
+    found
 }
 
 /// Four numbers to project, of every case.

@@ -2,7 +2,7 @@
 
 use crate::random::Random;
 use crate::record::LARGEST_COEFFICIENT;
-use crate::shape::{Exponents, Group, Shape};
+use crate::shape::{Exponents, Group, Kind, Shape};
 
 /// Coefficients with something to aim at.
 pub struct Sort {
@@ -59,7 +59,7 @@ fn some_components(random: &mut Random, shape: Shape) -> Vec<[i64; 4]> {
 }
 
 /// The marked components have a common linear factor, which is 0 at the point aimed at.
-fn vanishing(random: &mut Random, shape: Shape, marked: [bool; 4]) -> Sort {
+pub fn vanishing(random: &mut Random, shape: Shape, marked: [bool; 4]) -> Sort {
     let group = random.below(shape.groups().len());
     let own = shape.groups()[group];
     let point = random_parameter(random, own.vertices, 2);
@@ -72,6 +72,33 @@ fn vanishing(random: &mut Random, shape: Shape, marked: [bool; 4]) -> Sort {
         coefficients.iter_mut().zip(product).for_each(|(entry, a)| entry[component] = a);
     }
     Sort { coefficients, aims: vec![Aim { group, point }] }
+}
+
+/// A degree of a curve and the order of a common zero: each order as often as the others, often that of the
+/// degree.
+pub fn degree_and_order(random: &mut Random) -> (usize, usize) {
+    let largest = Kind::Curve.largest_degree();
+    let order = 1 + random.below(largest);
+    let degree = if random.once_in(3) { order } else { order + random.below(largest + 1 - order) };
+    (degree, order)
+}
+
+/// A curve whose polynomials all vanish at the point aimed at, at least to this order; some to a higher one,
+/// w often, and some are 0.
+pub fn common_zero(random: &mut Random, shape: Shape, point: [i64; 3], order: usize) -> Sort {
+    let (degree, form) = (shape.degrees[0], [point[2], 0, -point[0]]);
+    let mut coefficients = vec![[0; 4]; shape.places()];
+    for component in 0..4 {
+        let once_in = if component == 3 { 3 } else { 8 };
+        let own = degree.min(order + usize::from(random.once_in(once_in)));
+        let size = if random.once_in(8) { 0 } else { 3 };
+        let mut product: Vec<i64> = (0..=degree - own).map(|_| random.between(-size, size)).collect();
+        for below in degree - own..degree {
+            product = times_form(shape.with_degree(0, below), 0, &product, form);
+        }
+        coefficients.iter_mut().zip(product).for_each(|(entry, a)| entry[component] = a);
+    }
+    Sort { coefficients, aims: vec![Aim { group: 0, point }] }
 }
 
 /// Of a group with so many vertices.

@@ -3,7 +3,8 @@
 use super::caller::{Caller, Mood};
 use super::damage::damaged;
 use super::mixed::one_beyond;
-use super::polynomials::{any_sort, power_of_form, random_parameter, tame, without_coordinate, Aim};
+use super::polynomials::{any_sort, common_zero, degree_and_order, power_of_form, random_parameter, tame, vanishing};
+use super::polynomials::{without_coordinate, Aim};
 use crate::calls::{seats, Answer, Call, Weights, LARGEST_WEIGHT, NO_WEIGHTS, REPLACE};
 use crate::machine::Machine;
 use crate::polar::{multinomial, scale};
@@ -42,6 +43,7 @@ pub fn made(random: &mut Random, shape: Shape, mood: Mood) -> Made {
             Mood::Edge => Some(at_the_edge(random, shape)),
             Mood::Cancel => Some(cancelling(random, shape)),
             Mood::Mixed => one_beyond(random, shape.kind),
+            Mood::Zero => Some(through_a_zero(random, shape)),
             _ => Some(ordinary(random, shape)),
         };
         if let Some(made) = made.filter(|made| made.record.first_net().is_ok()) {
@@ -55,6 +57,26 @@ pub fn made(random: &mut Random, shape: Shape, mood: Mood) -> Made {
 fn ordinary(random: &mut Random, shape: Shape) -> Made {
     let sort = any_sort(random, shape);
     let frame = random_frame(random, shape.kind);
+    built(shape, frame, sort.coefficients, sort.aims, Vec::new())
+}
+
+/// A curve with a common zero of any order up to its degree, often at a vertex; a patch with a common factor,
+/// or in its place a curve.
+fn through_a_zero(random: &mut Random, shape: Shape) -> Made {
+    if shape.kind != Kind::Curve && random.once_in(2) {
+        let sort = vanishing(random, shape, [true; 4]);
+        return built(shape, random_frame(random, shape.kind), sort.coefficients, sort.aims, Vec::new());
+    }
+    let ((degree, order), point) = (degree_and_order(random), random_parameter(random, 2, 2));
+    let shape = Shape::curve(degree);
+    let sort = common_zero(random, shape, point, order);
+    let mut frame = random_frame(random, Kind::Curve);
+    let mut at_a_vertex = frame.clone();
+    let sign = random.sign();
+    at_a_vertex[random.below(2)] = point.map(|number| sign * number);
+    if random.once_in(2) && is_frame(Kind::Curve, &at_a_vertex) {
+        frame = at_a_vertex;
+    }
     built(shape, frame, sort.coefficients, sort.aims, Vec::new())
 }
 

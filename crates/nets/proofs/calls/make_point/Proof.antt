@@ -10,13 +10,19 @@ point-in-requires : tie.Need-point-in-requires
 point-in-requires c κs =
     let branch = c .before .before in
     let s = branch .before .before in
-    let count = branch .before .number-count .ensures .entries in
-    (s .pre .0, s .pre .1, omega (arith, branch .if1 .taken, count))
+    record { ordered = s .pre .0; eight = s .pre .1; free = branch .if1 .taken; counted = branch .before .number-count .ensures .entries }
 
 point-in-requires-2 : tie.Need-point-in-requires-2
 point-in-requires-2 c κs =
-    let s = c .before .before .before .before in
-    (s .pre .0, s .pre .1, entries-fit (s .args .kind) (s .args .degree) (s .args .second) (right (s .pre .0)))
+    let n = c .before .before .before in
+    let s = n .before in
+    let count = n .number-count .ensures .entries in
+    record {
+      ordered = s .pre .0;
+      eight = s .pre .1;
+      free = omega (arith, count, entries-fit (s .args .kind) (s .args .degree) (s .args .second) (right (s .pre .0)));
+      counted = count;
+    }
 
 pub make-point-spec : {M : Type 1} → statement M
 make-point-spec =

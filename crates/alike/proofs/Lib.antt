@@ -1,0 +1,4 @@
+pub mod Scaled
+pub mod Numbers
+pub mod Lists
+pub mod Multiples

@@ -1,0 +1,2 @@
+pub mod CommonZero
+pub mod HandedZero
