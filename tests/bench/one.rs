@@ -55,7 +55,8 @@ fn main() {
     let (mut frame, mut coefficients) = ([0; 9], [0; PLACES]);
     assert_eq!(plain::read(&s, &mut frame, &mut coefficients).0, 0);
 
-    let (mut lent, mut made, mut found, mut out) = ([0i64; NET], [0i64; NET], [0i64; FOUND], [0u8; plain::LONGEST_TEXT]);
+    let (mut lent, mut made) = ([0i64; NET], [0i64; NET]);
+    let (mut found, mut out) = ([0i64; FOUND], [0u8; plain::LONGEST_TEXT]);
     let (mut offset, mut length) = (0u64, 0u64);
     let number = raw::open(&s, &mut lent, &mut offset)
         + raw::first(kind, degree, second, &frame, &coefficients, &mut made)
@@ -64,7 +65,8 @@ fn main() {
         + raw::text(&s, &mut out, &mut length);
     assert_eq!(number, 0);
 
-    let (mut net, mut first, mut same, mut text) = ([0i64; NET], [0i64; NET], [0i64; FOUND], [0u8; plain::LONGEST_TEXT]);
+    let (mut net, mut first) = ([0i64; NET], [0i64; NET]);
+    let (mut same, mut text) = ([0i64; FOUND], [0u8; plain::LONGEST_TEXT]);
     let mut layout = plain::Layout::default();
     let number = plain_open(black_box(&s), black_box(&mut net), &mut layout)
         + plain_first(black_box(shape), black_box(&frame), black_box(&coefficients), black_box(&mut first))
