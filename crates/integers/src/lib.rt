@@ -1,5 +1,7 @@
 // The integers: definitions (specs/) and laws (proofs/) that other crates cite, the absolute value of any
 // i64, and the test of a limit.
+#![tactic(auto)]
+
 ghost use Rattle.std.specs.Prelude.{◌≡◌, true, pos, nat_abs};
 ghost use Rattle.std.specs.Int.Signed.{lt_z, mag};
 ghost use Rattle.integers.specs.Test.{within, all};
