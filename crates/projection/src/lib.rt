@@ -3,6 +3,8 @@
 // specs/Projection.antt for all numbers; `bits` is for the callers who print a coordinate. The other
 // functions are parts of `project`: those that require numbers in range are called after the test
 // of the range.
+#![tactic(auto)]
+
 ghost use Rattle.std.specs.Prelude.{◌≡◌, false, [], ◌∷◌, ◌≤◌, pos, nat_abs};
 ghost use Rattle.std.specs.Float.{binary64};
 ghost use Rattle.std.specs.Float.Ieee.{to_bits};

@@ -8,79 +8,84 @@ use Rattle.projection.specs.Projection.{all_in_range, all_zero, is_zero, coords_
 use Rattle.projection.proofs.Cases.{projected}
 use Rattle.integers.proofs.Signed.{seen}
 use Rattle.projection.proofs.Signed.{at-three, at-four, is-zero, not-zero, within}
-use Rattle.projection.proofs.project.Statement.{statement}
+use Rattle.projection.proofs.project.Goals as goal
+use Rattle.projection.proofs.project.Lts as lts
 use Rattle.projection.proofs.project.Tie as tie
+use Rattle.projection.proofs.project.Reads as reads
 
-returns : tie.Need-returns
+abbrev After-all_zero : Type 0
+After-all_zero = lts.After-all_zero tie.the-claims reads.Pre reads.Post
+
+abbrev Else-not-all_in_range : Type 0
+Else-not-all_in_range = lts.Else1 tie.the-claims reads.Pre reads.Post
+
+pub all_zero-requires : goal.all_zero-requires
+all_zero-requires c = search rules
+
+pub returns-then-not-all_in_range : goal.returns-then-not-all_in_range
 unfolding projection_of projection_by
-returns c =
+returns-then-not-all_in_range c =
     let start = c.before.before in
     let a = start.args in
     let f = start.ranges in
-    let out = sym (at-four all_in_range a.x a.y a.z a.w f.x f.y f.z f.w) ∙ sym c.before.all-in-range.ensures ∙ not-true c.before.all-in-range.result c.if1.true in
+    let out = sym (at-four all_in_range a.x a.y a.z a.w f.x f.y f.z f.w) ∙ sym c.all_in_range.ensures ∙ not-true c.all_in_range.result c.if-not-all_in_range.true-raw in
     projected a.x a.y a.z a.w
     (sym (ap (λ (b : Bool). projection_by b (is_zero a.w) (all_zero a.x a.y a.z) a.x a.y a.z a.w) out))
 
 -- past the first test the numbers are in range, as they were read and as they are
-read-ranged : (c : tie.Else1) → let a = c.before.before.args in all_in_range (seen a.x) (seen a.y) (seen a.z) (seen a.w) ≡ true
-read-ranged c = sym c.before.all-in-range.ensures ∙ not-false c.before.all-in-range.result c.if1.false
+read-ranged : (c : Else-not-all_in_range) → let a = c.args in all_in_range (seen a.x) (seen a.y) (seen a.z) (seen a.w) ≡ true
+read-ranged c = sym c.all_in_range.ensures ∙ not-false c.all_in_range.result c.if-not-all_in_range.false-raw
 
-ranged : (c : tie.Else1) → let a = c.before.before.args in all_in_range a.x a.y a.z a.w ≡ true
+ranged : (c : Else-not-all_in_range) → let a = c.args in all_in_range a.x a.y a.z a.w ≡ true
 ranged c =
-    let a = c.before.before.args in
-    let f = c.before.before.ranges in
+    let a = c.args in
+    let f = c.ranges in
     sym (at-four all_in_range a.x a.y a.z a.w f.x f.y f.z f.w) ∙ read-ranged c
 
-finite-point-requires : tie.Need-finite-point-requires
-finite-point-requires c κs =
-    let a = c.before.before.before.args in
+pub finite_point-requires : goal.finite_point-requires
+finite_point-requires c =
+    let a = c.args in
     within (seen a.x) (seen a.y) (seen a.z) (seen a.w) (read-ranged c.before)
 
-returns-2 : tie.Need-returns-2
+pub returns-then-w-ne0 : goal.returns-then-w-ne0
 unfolding projection_of projection_by
-returns-2 c =
+returns-then-w-ne0 c =
     let start = c.before.before.before.before in
     let a = start.args in
     let f = start.ranges in
     projected a.x a.y a.z a.w
-    (ap Finite (c.finite-point.ensures ∙ at-four coords_of a.x a.y a.z a.w f.x f.y f.z f.w)
+    (ap Finite (c.finite_point.ensures ∙ at-four coords_of a.x a.y a.z a.w f.x f.y f.z f.w)
     ∙ sym (ap (λ (b : Bool). projection_by b (is_zero a.w) (all_zero a.x a.y a.z) a.x a.y a.z a.w) (ranged c.before.before)
-    ∙ ap (λ (b : Bool). projection_by true b (all_zero a.x a.y a.z) a.x a.y a.z a.w) (not-zero a.w f.w c.before.if2.true)))
+    ∙ ap (λ (b : Bool). projection_by true b (all_zero a.x a.y a.z) a.x a.y a.z a.w) (not-zero a.w f.w c.if-w-ne0.true)))
 
 -- past the second test w is 0
-weightless : (c : tie.Else2) → let a = c.before.before.before.args in
+weightless : (c : goal.Else-w-ne0) → let a = c.args in
     projection_of a.x a.y a.z a.w ≡ projection_by true true (all_zero a.x a.y a.z) a.x a.y a.z a.w
 unfolding projection_of
 weightless c =
     let start = c.before.before.before in
     let a = start.args in
     ap (λ (b : Bool). projection_by b (is_zero a.w) (all_zero a.x a.y a.z) a.x a.y a.z a.w) (ranged c.before)
-    ∙ ap (λ (b : Bool). projection_by true b (all_zero a.x a.y a.z) a.x a.y a.z a.w) (is-zero a.w start.ranges.w c.if2.false)
+    ∙ ap (λ (b : Bool). projection_by true b (all_zero a.x a.y a.z) a.x a.y a.z a.w) (is-zero a.w start.ranges.w c.if-w-ne0.false)
 
-zero_test : (c : tie.After-all-zero) → let a = c.before.before.before.before.args in c.all-zero.result ≡ all_zero a.x a.y a.z
+zero_test : (c : After-all_zero) → let a = c.args in c.all_zero.result ≡ all_zero a.x a.y a.z
 zero_test c =
     let start = c.before.before.before.before in
     let a = start.args in
     let f = start.ranges in
-    c.all-zero.ensures ∙ at-three all_zero a.x a.y a.z f.x f.y f.z
+    c.all_zero.ensures ∙ at-three all_zero a.x a.y a.z f.x f.y f.z
 
-returns-3 : tie.Need-returns-3
+pub returns-then-all_zero : goal.returns-then-all_zero
 unfolding projection_by
-returns-3 c =
-    let a = c.before.before.before.before.before.args in
+returns-then-all_zero c =
+    let a = c.args in
     projected a.x a.y a.z a.w
     (sym (weightless c.before.before
-    ∙ ap (λ (b : Bool). projection_by true true b a.x a.y a.z a.w) (sym (zero_test c.before) ∙ c.if3.true)))
+    ∙ ap (λ (b : Bool). projection_by true true b a.x a.y a.z a.w) (sym (zero_test c.before) ∙ c.if-all_zero.true)))
 
-direction-requires : tie.Need-direction-requires
-direction-requires c κs =
-    let a = c.before.before.before.before.before.args in
-    let r = within (seen a.x) (seen a.y) (seen a.z) (seen a.w) (read-ranged c.before.before.before) in
-    (r.0, r.1, r.2, sym c.before.all-zero.ensures ∙ c.if3.false)
-
-returns-4 : tie.Need-returns-4
+pub returns : goal.returns
 unfolding projection_by
-returns-4 c =
+returns c =
     let tested = c.before.before in
     let start = tested.before.before.before.before in
     let a = start.args in
@@ -88,17 +93,4 @@ returns-4 c =
     projected a.x a.y a.z a.w
     (ap Direction (c.direction.ensures ∙ at-three direction_of a.x a.y a.z f.x f.y f.z)
     ∙ sym (weightless tested.before
-    ∙ ap (λ (b : Bool). projection_by true true b a.x a.y a.z a.w) (sym (zero_test tested) ∙ c.before.if3.false)))
-
-pub project-spec : {M : Type 1} → statement M
-project-spec =
-    tie.close
-    (tie.spec
-    (λ c κs. search rules)
-    returns
-    finite-point-requires
-    returns-2
-    (λ c κs. search rules)
-    returns-3
-    direction-requires
-    returns-4)
+    ∙ ap (λ (b : Bool). projection_by true true b a.x a.y a.z a.w) (sym (zero_test tested) ∙ c.if-all_zero.false)))
