@@ -3,6 +3,8 @@
 // which also says what to touch to add a kind.
 //
 // Every function answers every number; a byte that is no kind has no vertices.
+#![tactic(auto)]
+
 ghost use Rattle.std.specs.Prelude.{◌≡◌, true, ◌&&◌, ℕ, suc, ◌*◌, ◌≤◌, leb, eqb, nat_abs, ◌+ℤ◌, ◌-ℤ◌, ◌*ℤ◌, length, take};
 ghost use Rattle.integers.specs.Test.{within, all};
 ghost use Rattle.entries.specs.Entries.{number_count};

@@ -1,0 +1,10 @@
+-- `later_count` meets its contract: four numbers to an entry of the second group where there is one; the degree is a byte, so nothing wraps.
+use borrow.Author.Rules.{rules}
+use Rattle.kinds.proofs.Counts.{later-count, no-later-count}
+use Rattle.kinds.proofs.later_count.Goals as goal
+
+pub returns-in-3 : goal.returns-in-3
+returns-in-3 c = let a = c.before.args in later-count a.kind a.second c.match.keys1
+
+pub returns-in_default : goal.returns-in_default
+returns-in_default c = let a = c.before.args in no-later-count a.kind a.second c.match.rest.1
