@@ -1,9 +1,10 @@
 // Calls: what the library's functions are asked. What a call does to a net, the comparison machine and
 // the theorem about every list of calls are in specs/ and proofs/; the code is in the crate nets.
+#![tactic(auto)]
 
 // The weights of a call, in the order of the vertices: of r, s and t, or of r1, s1, r2 and s2 at a point
 // of a rectangular patch. Those of a move are of the vertices of its pair, or of all in other kinds.
-#[derive(Drop)]
+#[derive(Clone, Copy)]
 pub struct Weights {
     pub r: i64,
     pub s: i64,

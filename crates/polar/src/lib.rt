@@ -1,1 +1,2 @@
 // Polar forms
+#![tactic(auto)]

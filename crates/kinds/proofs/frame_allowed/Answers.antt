@@ -32,7 +32,7 @@ pub later_dimension-later-requires : goal.later_dimension-later-requires
 later_dimension-later-requires c = search rules
 
 pub returns-then-n-eq0 : goal.returns-then-n-eq0
-returns-then-n-eq0 c p q = let a = c.before.before.args in no-frame a.kind p q a.numbers.now (sym c.before.dimension-of.ensures ∙ c.if1.true)
+returns-then-n-eq0 c p q = let a = c.args in no-frame a.kind p q a.numbers.now (sym c.dimension_of-n.ensures ∙ c.if-n-eq0.true)
 
 -- there is a group where the dimension is not 0
 some : (c : Else-n-eq0) → dimension_of c.args.kind ≡ 0 → ⊥
@@ -48,8 +48,8 @@ found c b e =
 pub returns-then-not-group_allowed : goal.returns-then-not-group_allowed
 returns-then-not-group_allowed c p q =
     let branch = c.before.before.before in
-    let a = branch.before.before.args in
-    first_out a.kind p q a.numbers.now (some branch) (found c.before false (not-true c.before.group-allowed.result c.if2.true))
+    let a = branch.args in
+    first_out a.kind p q a.numbers.now (some branch) (found c.before false (not-true c.group_allowed.result c.if-not-group_allowed.true-raw))
 
 passed : (c : goal.Else-not-group_allowed) → let a = c.args in frame_allowed (suc (dimension_of a.kind)) a.numbers.now ≡ true
 passed c = found c.before true (not-false c.group_allowed.result c.if-not-group_allowed.false-raw)
@@ -58,8 +58,8 @@ pub returns-then-later-eq0 : goal.returns-then-later-eq0
 returns-then-later-eq0 c p q =
     let second = c.before.before in
     let branch = second.before.before.before in
-    let a = branch.before.before.args in
-    no_other a.kind p q a.numbers.now (some branch) (passed second) (sym c.before.later-dimension.ensures ∙ c.if3.true)
+    let a = branch.args in
+    no_other a.kind p q a.numbers.now (some branch) (passed second) (sym c.later_dimension-later.ensures ∙ c.if-later-eq0.true)
 
 -- what stands behind the first pair's numbers
 last-five : (xs : List ℤ) → length xs ≡ 9 → take 5 (drop 4 xs) ≡ drop 4 xs
@@ -74,10 +74,10 @@ returns c p q =
     let third = c.before.before in
     let second = third.before.before in
     let branch = second.before.before.before in
-    let a = branch.before.before.args in
+    let a = branch.args in
     let long : length a.numbers.now ≡ 9 = search rules in
     let rest : take 5 (drop 4 a.numbers.now) ≡ drop (suc (dimension_of a.kind) * suc (dimension_of a.kind)) a.numbers.now =
     last-five a.numbers.now long ∙ ap (λ n. drop (suc n * suc n) a.numbers.now) (sym (pair third).1) in
-    c.group-allowed2.ensures
-    ∙ ap₂ (λ n xs. frame_allowed (suc n) xs) third.before.later-dimension.ensures rest
-    ∙ other-by a.kind p q a.numbers.now (some branch) (passed second) (λ none. third.if3.false (third.before.later-dimension.ensures ∙ none))
+    c.group_allowed-2.ensures
+    ∙ ap₂ (λ n xs. frame_allowed (suc n) xs) third.later_dimension-later.ensures rest
+    ∙ other-by a.kind p q a.numbers.now (some branch) (passed second) (λ none. third.if-later-eq0.false (third.later_dimension-later.ensures ∙ none))

@@ -31,7 +31,7 @@ found c b e =
     ∙ e
 
 pub returns-then-not-all_within : goal.returns-then-not-all_within
-returns-then-not-all_within c = let a = c.before.before.before.args in frame-out a.dimension a.numbers.now (found c.before false (not-true c.before.all-within.result c.if1.true))
+returns-then-not-all_within c = let a = c.args in frame-out a.dimension a.numbers.now (found c.before false (not-true c.all_within.result c.if-not-all_within.true-raw))
 
 passed : (c : goal.Else-not-all_within) → let a = c.args in all (within 4) (take (suc a.dimension * suc a.dimension) a.numbers.now) ≡ true
 passed c = found c.before true (not-false c.all_within.result c.if-not-all_within.false-raw)

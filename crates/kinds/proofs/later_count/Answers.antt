@@ -4,7 +4,7 @@ use Rattle.kinds.proofs.Counts.{later-count, no-later-count}
 use Rattle.kinds.proofs.later_count.Goals as goal
 
 pub returns-in-3 : goal.returns-in-3
-returns-in-3 c = let a = c.before.args in later-count a.kind a.second c.match.keys1
+returns-in-3 c = let a = c.args in later-count a.kind a.second c.in-3.is
 
 pub returns-in_default : goal.returns-in_default
-returns-in_default c = let a = c.before.args in no-later-count a.kind a.second c.match.rest.1
+returns-in_default c = let a = c.args in no-later-count a.kind a.second c.in_default.in_default-own.rest.1

@@ -9,20 +9,20 @@ use Rattle.kinds.proofs.number_count.Goals as goal
 pub returns-in-1 : goal.returns-in-1
 returns-in-1 c =
     let a = c.args in
-    counted (groups_of a.kind a.degree a.second) (4 * (a.degree + 1)) (curve-count a.kind a.degree a.second c.in-1.keys1)
+    counted (groups_of a.kind a.degree a.second) (4 * (a.degree + 1)) (curve-count a.kind a.degree a.second c.in-1.is)
 
 pub returns-in-2 : goal.returns-in-2
 returns-in-2 c =
     let a = c.args in
-    counted (groups_of a.kind a.degree a.second) (2 * (a.degree + 1) * (a.degree + 2)) (patch-count a.kind a.degree a.second c.in-2.keys2)
+    counted (groups_of a.kind a.degree a.second) (2 * (a.degree + 1) * (a.degree + 2)) (patch-count a.kind a.degree a.second c.in-2.is)
 
 pub returns-in-3 : goal.returns-in-3
 returns-in-3 c =
     let a = c.args in
-    counted (groups_of a.kind a.degree a.second) (4 * (a.degree + 1) * (a.second + 1)) (rectangle-count a.kind a.degree a.second c.in-3.keys3)
+    counted (groups_of a.kind a.degree a.second) (4 * (a.degree + 1) * (a.second + 1)) (rectangle-count a.kind a.degree a.second c.in-3.is)
 
 pub returns-in_default : goal.returns-in_default
 returns-in_default c =
     let a = c.args in
-    let rest = c.in_default.rest in
+    let rest = c.in_default.in_default-own.rest in
     counted (groups_of a.kind a.degree a.second) 4 (other-count a.kind a.degree a.second (rest.0.0.1, rest.0.1, rest.1))
