@@ -21,7 +21,7 @@ use Rattle.entries.proofs.Flips.{negated_at}
 use Rattle.projection.specs.Projection.{in_range}
 use Rattle.kinds.specs.Frames.{vertex_count, frames_of, numbers_of}
 use Rattle.kinds.proofs.Frames.{framed-numbers, frames-back}
-use Rattle.machine.specs.Refusals.{◌else◌, first_failed}
+use Rattle.machine.specs.Refusals.{Test, ◌else◌, first_failed}
 use Rattle.machine.specs.Calls.{weight_list, group_at, own_at, vertices_at, own_tests}
 use Rattle.machine.specs.Frames.{points_of, frames_after, new_numbers}
 use Rattle.machine.specs.Sizes.{named_by, all_named, before_size, call_tests}
@@ -138,6 +138,10 @@ whole_again net is =
       frames = ap (frames_of (net_groups net)) (sym (append-nil (numbers_of net.frames))) ∙ frames-back (net_groups net) net.frames [] is.framed;
     }
 
+-- a test that passes leaves the rest of a table
+passes-first : {b : Bool} (k : ℕ) (tests : List Test) → b ≡ true → first_failed tests ≡ 0 → first_failed (b else k ∷ tests) ≡ 0
+passes-first k tests e rest = ap (λ b. first_failed (b else k ∷ tests)) e ∙ rest
+
 module _ (net : Net) (fit : Fit net) where
   abbrev gs : List Group
   gs = net_groups net
@@ -154,7 +158,7 @@ module _ (net : Net) (fit : Fit net) where
   -- a flip of a vertex is taken
   flip-passes : (v : ℕ) → Vertex gs v → first_failed (net_tests net (flip v)) ≡ 0
   unfolding call_tests before_size own_tests new_numbers named_by all_named
-  flip-passes v is = by_tests (flip v) ∙ ap (λ b. first_failed (b else 8 ∷ [])) (and-true (le-leb 1 v is.0) (le-leb v (vertex_count gs) is.1))
+  flip-passes v is = by_tests (flip v) ∙ passes-first _ _ (and-true (le-leb 1 v is.0) (le-leb v (vertex_count gs) is.1)) refl
 
   abbrev flip_of : ℕ → Net
   flip_of v = flipped_net net (group_at gs (pred v)) (own_at gs (pred v))

@@ -152,7 +152,7 @@ from-point (g ∷ gs) es m = by (from-point gs) (Memᴰ.append_cases (named_by_r
         → Memᴰ es (named_by_replace (g ∷ gs) 0) ⊎ Memᴰ es (pairs (all_q g ∷ []) (named_by_point gs)) → NamedByPoint (g ∷ gs) es
     by later (inl k) =
         let r = from-replace (g ∷ gs) 0 es k in
-        (0, r.0, each_of (λ j g e h. (h.0, (λ less. absurd (omega arith)), (λ more. h.1 (λ same. absurd (omega arith))))) (g ∷ gs) es r.1)
+        (0, r.0, each_of {P = ReplaceTakes 0} {Q = PointTakes 0} (λ j g e h. (h.0, (λ less. absurd (omega arith)), (λ more. h.1 (λ same. absurd (omega arith))))) (g ∷ gs) es r.1)
     by later (inr k) =
         let r = of-pairs (all_q g ∷ []) (named_by_point gs) k in
         let rest = later r.1 r.3 in

@@ -20,9 +20,9 @@ abbrev pub group_at : List Group → ℕ → ℕ
 group_at [] v = 0
 group_at (g ∷ gs) v = cond (leb v g.dimension) 0 (suc (group_at gs (v - suc g.dimension)))
 
-abbrev pub field_own : List Group → ℕ → ℕ
-field_own [] v = v
-field_own (g ∷ gs) v = cond (leb v g.dimension) v (field_own gs (v - suc g.dimension))
+abbrev pub own_at : List Group → ℕ → ℕ
+own_at [] v = v
+own_at (g ∷ gs) v = cond (leb v g.dimension) v (own_at gs (v - suc g.dimension))
 
 -- how many vertices group i has
 abbrev pub vertices_at : List Group → ℕ → ℕ
@@ -51,7 +51,7 @@ unused gs operation vertex ws = cond (eqb operation 2) ws (drop (vertices_at gs 
 
 -- the weight of a move's vertex
 abbrev pub weight_at : List Group → ℕ → List ℤ → ℤ
-weight_at gs vertex ws = get_or ws (field_own gs (pred vertex)) (pos 0)
+weight_at gs vertex ws = get_or ws (own_at gs (pred vertex)) (pos 0)
 
 -- ---- the tests of a call for its own arguments
 
