@@ -21,7 +21,7 @@ use Rattle.machine.specs.Comparison.{net_over, polar_of}
 use Rattle.machine.specs.Nets.{handed_tests, judged_numbers, net_tests, net_polar, net_four, entries_after, largest_after, accepted}
 use Rattle.machine.specs.First.{first_tests, first_refusal}
 use Rattle.machine.specs.Lent.{net_at, put_net, call_number, call_places, call_found, made_number, made_places}
-use Rattle.bytes.specs.Numbers.{frame_numbers, coefficients_of}
+use Rattle.decoding.specs.Numbers.{frame_numbers, coefficients_of}
 use Rattle.records.specs.Reading.{reading_of}
 use Rattle.opening.specs.Opening.{layout_read, polynomials_in, numbers_in, refusal_in, opened_layout, field_extent, opened_in, places_in}
 use Rattle.text.specs.Words.{line, decimal, decimal_by}

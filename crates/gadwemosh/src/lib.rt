@@ -4,6 +4,8 @@
 mod answers;
 mod positions;
 
+#![tactic(auto)]
+
 ghost use Rattle.std.specs.Prelude.{◌≡◌, []};
 ghost use Rattle.projection.specs.Projection.{four, projection_of};
 ghost use Rattle.machine.specs.Lent.{

@@ -8,6 +8,8 @@
 //
 // Every answer of -1 is a failed call, whatever the reason, and no call is made again. The exit status
 // is 0 in each case, since a Rattle program has no other.
+#![tactic(auto)]
+
 ghost use Rattle.std.specs.Prelude.{◌≡◌, ◌-◌, ◌≤◌, length, take};
 ghost use Rattle.libc.specs.Io.{Moved};
 ghost use Rattle.text.specs.Longest.{longest_text};

@@ -11,6 +11,8 @@ mod rows;
 mod sides;
 mod zeros;
 
+#![tactic(auto)]
+
 ghost use Rattle.std.specs.Prelude.{◌≡◌, [], ◌∷◌, ◌≤◌, pos, length, take};
 ghost use Rattle.machine.specs.Lent.{
   byte_of,

@@ -14,7 +14,7 @@ use Rattle.entries.specs.Entries.{listed_over}
 use Rattle.kinds.specs.Frames.{frame_of, frame_allowed, frames_of, frames_allowed}
 use Rattle.machine.specs.Comparison.{net_over, polar_of}
 use Rattle.machine.specs.First.{first_tests, first_refusal}
-use Rattle.bytes.specs.Numbers.{frame_numbers, coefficients_of}
+use Rattle.decoding.specs.Numbers.{frame_numbers, coefficients_of}
 use Rattle.records.specs.Reading.{reading_of}
 use Rattle.opening.specs.Opening.{
   layout_read,

@@ -14,8 +14,8 @@ use Rattle.machine.specs.Comparison.{Polynomials}
 use Rattle.machine.specs.First.{first_net, first_tests, first_refusal}
 use Rattle.machine.specs.Lent.{put_net, enough_places, unless_refused, polynomials_from, made_number, made_places}
 use Rattle.machine.proofs.Refusals.{passed_first}
-use Rattle.bytes.specs.Numbers.{number_at, numbers_to, frame_numbers, coefficients_of}
-use Rattle.bytes.proofs.Numbers.{length-numbers_to}
+use Rattle.decoding.specs.Numbers.{number_at, numbers_to, frame_numbers, coefficients_of}
+use Rattle.decoding.proofs.Numbers.{length-numbers_to}
 use Rattle.records.specs.Reading.{bytes_of}
 use Rattle.records.specs.Causes.{layout_groups}
 use Rattle.records.specs.declared.Layout.{Layout}

@@ -9,8 +9,8 @@ use Rattle.machine.specs.First.{first_net, first_refusal}
 use Rattle.machine.specs.Lent.{put_net, enough_places, unless_refused}
 use Rattle.machine.specs.declared.Call.{Call}
 use Rattle.machine.specs.declared.Call.TheVariants as call
-use Rattle.bytes.specs.Numbers.{frame_numbers}
-use Rattle.bytes.specs.Moves.{weights_of, call_at}
+use Rattle.decoding.specs.Numbers.{frame_numbers}
+use Rattle.decoding.specs.Moves.{weights_of, call_at}
 use Rattle.records.specs.Table.{slots, polynomials_of}
 use Rattle.records.specs.Reading.{no_fields, extent_among, bytes_of, reading_of}
 use Rattle.records.specs.declared.Extent.{Extent}

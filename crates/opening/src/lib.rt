@@ -1,9 +1,11 @@
 // A record opened: its first net, in places that the caller lends, and its fields, or the refusal with its
 // offset. This is where demand 3 starts: specs/Demand3.antt states it from the bytes of an accepted record on.
+#![tactic(auto)]
+
 ghost use Rattle.std.specs.Prelude.{◌≡◌, true};
 ghost use Rattle.kinds.specs.Kinds.{known};
 ghost use Rattle.machine.specs.Lent.{enough_places};
-ghost use Rattle.bytes.specs.Parts.{Lies};
+ghost use Rattle.decoding.specs.Parts.{Lies};
 ghost use Rattle.records.specs.Reading.{no_fields, bytes_of, Inside};
 ghost use Rattle.opening.specs.Opening.{
   refusal_at,
@@ -13,7 +15,7 @@ ghost use Rattle.opening.specs.Opening.{
   FirstMade,
 };
 
-use bytes::{frame_numbers, part_from, read_coefficients};
+use decoding::{frame_numbers, part_from, read_coefficients};
 use kinds::number_count;
 use nets::{NET, first_net};
 use records::{Extent, Layout, Reading, Refusal, extent_of, no_fields, read, value};

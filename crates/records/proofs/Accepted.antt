@@ -15,8 +15,8 @@ use Rattle.integers.proofs.All.{clash, and_parts}
 use Rattle.kinds.specs.Kinds.{known}
 use Rattle.kinds.specs.Frames.{frames_allowed}
 use Rattle.machine.proofs.Refusals.{none-failed}
-use Rattle.bytes.specs.Numbers.{frame_numbers, coefficients_of}
-use Rattle.bytes.proofs.Numbers.{coefficients-of-value}
+use Rattle.decoding.specs.Numbers.{frame_numbers, coefficients_of}
+use Rattle.decoding.proofs.Numbers.{coefficients-of-value}
 use Rattle.records.specs.Table.{tag_of, tags_in, required, head_groups, head_length, head_allowed, frame_length, coefficient_count, coefficients_length, point_length, moves_length_allowed, polynomials_of, field_row}
 use Rattle.machine.specs.Refusals.{◌else◌, first_failed, numbered}
 use Rattle.records.specs.Reading.{bytes_left, length_at, bytes_at, head_of, tag_among, is_tag, standing, missing_number, end_extent, extent_at, extent_in, extent_among, no_fields, bytes_of, Inside, stay, read_standing, read_slot, read_end, layout_of_extents, concluded, reading_of}

@@ -8,7 +8,7 @@ use Rattle.integers.proofs.Instances.{agrees_by, all-right-natural}
 use Rattle.polar.specs.Order.{monomials}
 use Rattle.polar.specs.Groups.{monomials_over}
 use Rattle.kinds.specs.Frames.{frame_of, frame_allowed, frames_allowed}
-use Rattle.bytes.specs.Numbers.{frame_numbers, coefficients_of}
+use Rattle.decoding.specs.Numbers.{frame_numbers, coefficients_of}
 use Rattle.records.specs.Samples.{reading, instances}
 
 instances-agree : all (agrees_by eqb) instances ≡ true

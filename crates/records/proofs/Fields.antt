@@ -10,7 +10,7 @@ use borrow.Author.Tests.{eqb-true, eq-eqb, ltb-false}
 use lib.ListN.{length, get_or}
 use lib.Dec.{eqb, ltb}
 use Rattle.integers.proofs.All.{clash}
-use Rattle.bytes.proofs.Numbers.{two_bytes}
+use Rattle.decoding.proofs.Numbers.{two_bytes}
 use Rattle.records.specs.Table.{slots, tag_of, tags_in, field_row}
 use Rattle.records.specs.Reading.{
   bytes_left,

@@ -27,8 +27,8 @@ use Rattle.kinds.proofs.Counts.{
 }
 use Rattle.machine.specs.Refusals.{◌else◌, first_failed}
 use Rattle.machine.proofs.Refusals.{none-failed}
-use Rattle.bytes.specs.Numbers.{unsigned_of, frame_numbers, coefficients_of}
-use Rattle.bytes.proofs.Numbers.{take-drop-take}
+use Rattle.decoding.specs.Numbers.{unsigned_of, frame_numbers, coefficients_of}
+use Rattle.decoding.proofs.Numbers.{take-drop-take}
 use Rattle.records.specs.Table.{
   slots,
   tags_in,

@@ -7,7 +7,7 @@ use Rattle.polar.specs.Groups.{Group}
 use Rattle.kinds.specs.Kinds.{groups_of, known}
 use Rattle.kinds.specs.Frames.{frames_allowed}
 use Rattle.machine.specs.Refusals.{first_failed}
-use Rattle.bytes.specs.Numbers.{frame_numbers}
+use Rattle.decoding.specs.Numbers.{frame_numbers}
 use Rattle.records.specs.Table.{slots, tags_in, required, head_length, frame_length, coefficients_length, point_length, moves_length_allowed, polynomials_of, field_row}
 use Rattle.records.specs.Reading.{bytes_left, length_at, bytes_at, head_of, field_number, tag_among, is_tag, standing, extent_in, bytes_of, Inside, reading_of}
 use Rattle.records.specs.declared.Slot.{Slot}

@@ -4,7 +4,7 @@
 -- stands.
 use Rattle.std.specs.Prelude.{ℕ, ◌+◌, ◌-◌, ◌≤◌, Bool, true, false, ◌||◌, not, cond, List, [], ◌∷◌, ◌++◌, length, get_or, take, drop, eqb, leb, ltb}
 use Rattle.machine.specs.Refusals.{Test, ◌else◌, first_failed}
-use Rattle.bytes.specs.Numbers.{unsigned_of}
+use Rattle.decoding.specs.Numbers.{unsigned_of}
 use Rattle.records.specs.Table.{slots, tags_in, required, head_in, field_row}
 use Rattle.records.specs.declared.Head.{Head}
 use Rattle.records.specs.declared.Slot.{Slot}

@@ -7,7 +7,7 @@ use Rattle.kinds.specs.Kinds.{groups_of, known}
 use Rattle.kinds.specs.Frames.{vertex_count, frame_count, frames_allowed}
 use Rattle.machine.specs.Refusals.{Test, ◌else◌}
 use Rattle.machine.specs.Comparison.{Polynomials}
-use Rattle.bytes.specs.Numbers.{frame_numbers, coefficients_of}
+use Rattle.decoding.specs.Numbers.{frame_numbers, coefficients_of}
 use Rattle.records.specs.declared.Head.{Head}
 use Rattle.records.specs.declared.Slot.{Slot}
 use Rattle.records.specs.declared.Slot.TheVariants.{KindSlot, FrameSlot, CoefficientsSlot, MovesSlot, PointSlot}

@@ -8,9 +8,11 @@
 // specs/: Table (the slots, and a row for each field: tag, lengths, tests), Reading (one slot, and then
 // all) and Causes (the table of refusals as propositions). What bytes make of numbers is the crate
 // bytes', and what is accepted of a kind and a frame is kinds'.
+#![tactic(auto)]
+
 ghost use Rattle.std.specs.Prelude.{◌≡◌, true, ◌||◌, [], ◌∷◌, ◌+◌, ◌<◌, ◌≤◌, eqb, length};
 ghost use Rattle.machine.specs.Refusals.{◌else◌, first_failed};
-ghost use Rattle.bytes.specs.Parts.{Lies, to_end};
+ghost use Rattle.decoding.specs.Parts.{Lies, to_end};
 ghost use Rattle.records.specs.Table.{
   slots,
   tag_of,
@@ -41,7 +43,7 @@ ghost use Rattle.records.specs.Reading.{
 };
 ghost use Rattle.records.specs.Causes.{TableVerdict};
 
-use bytes::{byte_at, coefficients_within, first_part, frame_numbers, part_from};
+use decoding::{byte_at, coefficients_within, first_part, frame_numbers, part_from};
 use kinds::{frame_allowed, frame_count, known_kind, later_dimension, number_count, vertex_count};
 
 // Where a field stands: the offset of the field itself, the offset of its value, and the value's

@@ -24,8 +24,8 @@ use Rattle.machine.specs.Steps.{found_at, step_by, after, answers}
 use Rattle.machine.specs.Comparison.{net_over, machine_tests, machine_step, machine_accepted}
 use Rattle.machine.specs.Comparison.{machine_polar, polar_of, scaled_value, machine_four}
 use Rattle.machine.specs.First.{first_tests, first_refusal}
-use Rattle.bytes.specs.Numbers.{frame_numbers, coefficients_of}
-use Rattle.bytes.specs.Moves.{call_at}
+use Rattle.decoding.specs.Numbers.{frame_numbers, coefficients_of}
+use Rattle.decoding.specs.Moves.{call_at}
 use Rattle.records.specs.Reading.{reading_of}
 use Rattle.opening.specs.Opening.{
   layout_read,

@@ -19,10 +19,10 @@ use Rattle.machine.specs.Carried.{four_at}
 use Rattle.machine.specs.declared.Weights.{Weights}
 use Rattle.machine.specs.declared.Call.{Call}
 use Rattle.machine.specs.declared.Call.TheVariants as call
-use Rattle.bytes.specs.Moves.{call_of, move_at, call_at, weights_of}
-use Rattle.bytes.specs.declared.Move.{Move}
-use Rattle.bytes.specs.declared.Move.TheVariants.{Proper, Improper}
-use Rattle.bytes.proofs.Decoded.{improper-refused, move-call}
+use Rattle.decoding.specs.Moves.{call_of, move_at, call_at, weights_of}
+use Rattle.decoding.specs.declared.Move.{Move}
+use Rattle.decoding.specs.declared.Move.TheVariants.{Proper, Improper}
+use Rattle.decoding.proofs.Decoded.{improper-refused, move-call}
 use Rattle.opening.specs.Opening.{moves_of, point_of}
 use Rattle.text.specs.Text.{move_line, move_lines, point_refused_line, projection_line, point_line}
 use Rattle.text.specs.Parts.{Stands, Answered}

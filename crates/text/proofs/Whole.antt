@@ -26,7 +26,7 @@ use Rattle.machine.proofs.Over.{Reached}
 use Rattle.machine.proofs.Demand3.{along, start-reached}
 use Rattle.machine.proofs.Lent.{read_back, put-long}
 use Rattle.machine.proofs.Carried.{reached-sound}
-use Rattle.bytes.specs.Moves.{weights_of, call_at}
+use Rattle.decoding.specs.Moves.{weights_of, call_at}
 use Rattle.records.specs.Reading.{bytes_of, reading_of, no_fields}
 use Rattle.records.specs.declared.Reading.{Reading}
 use Rattle.records.specs.declared.Reading.TheVariants as reading

@@ -5,6 +5,8 @@ mod moves;
 mod net;
 mod words;
 
+#![tactic(auto)]
+
 ghost use Rattle.std.specs.Prelude.{◌≡◌, ◌≤◌, length};
 ghost use Rattle.machine.specs.Lent.{net_at};
 ghost use Rattle.opening.specs.Opening.{moves_of, point_of};

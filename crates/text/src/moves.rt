@@ -1,13 +1,13 @@
 // The moves and the point of a record: made in their order, with the lines that they leave. The net stands
 // in lent places, and a move changes it there.
 ghost use Rattle.std.specs.Prelude.{◌+◌, ◌≤◌, length};
-ghost use Rattle.bytes.specs.Moves.{call_at};
+ghost use Rattle.decoding.specs.Moves.{call_at};
 ghost use Rattle.opening.specs.Opening.{moves_of};
 ghost use Rattle.text.specs.Words.{Room, Wrote};
 ghost use Rattle.text.specs.Parts.{Stands, Made, Answered, moves_text, point_text};
 
 use crate::lines::{write_move, write_point_refused, write_projection};
-use bytes::{Move, move_at, point_weights};
+use decoding::{Move, move_at, point_weights};
 use nets::{find_point, take_move};
 use projection::project_found;
 

@@ -7,7 +7,7 @@ use mathlib.Core.List.{◌++◌}
 use lib.IntN.{pos}
 use lib.ListN.{drop, replicate}
 use borrow.Rule.Slice.PartMut.{same_len_mid}
-use Rattle.bytes.specs.Numbers.{frame_numbers}
+use Rattle.decoding.specs.Numbers.{frame_numbers}
 use Rattle.kinds.proofs.Counts.{entries_fit}
 use Rattle.opening.proofs.FirstNet.{filled, first_made}
 use borrow.Author.Rules.{rules}

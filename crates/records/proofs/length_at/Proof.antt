@@ -3,7 +3,7 @@ use mathlib.Core.Path.{◌≡◌, sym, ◌∙◌, ap}
 use Prim.Native.Nat.{ℕ, ◌+◌, ◌*◌}
 use native.Mathlib.Omega.{arith}
 use lib.ListN.{get_or}
-use Rattle.bytes.proofs.Numbers.{two_bytes}
+use Rattle.decoding.proofs.Numbers.{two_bytes}
 use Rattle.records.specs.Reading.{length_at}
 use borrow.Author.Rules.{rules}
 use Rattle.records.proofs.length_at.Statement.{statement}

@@ -11,7 +11,7 @@ use borrow.Author.Tests.{eqb-true}
 use Rattle.integers.specs.Test.{within, all}
 use Rattle.kinds.specs.Frames.{frames_allowed}
 use Rattle.machine.specs.Refusals.{◌else◌, first_failed}
-use Rattle.bytes.specs.Numbers.{numbers_to, number_at, coefficients_of}
+use Rattle.decoding.specs.Numbers.{numbers_to, number_at, coefficients_of}
 use Rattle.records.specs.Table.{head_groups, coefficient_count, coefficients_length, field_row}
 use Rattle.records.proofs.value_number.Statement.{statement}
 use Rattle.records.proofs.value_number.Tie as tie

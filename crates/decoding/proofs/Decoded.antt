@@ -15,10 +15,10 @@ use Rattle.machine.specs.Refusals.{first_failed}
 use Rattle.machine.specs.Calls.{own_tests}
 use Rattle.machine.specs.declared.Weights.{Weights}
 use Rattle.machine.specs.declared.Call.TheVariants as call
-use Rattle.bytes.specs.Numbers.{item}
-use Rattle.bytes.specs.Moves.{weights_of, proper, move_at, call_of, call_at, operation_of, vertex_of, move_weights}
-use Rattle.bytes.specs.declared.Move.{Move}
-use Rattle.bytes.specs.declared.Move.TheVariants.{Proper, Improper}
+use Rattle.decoding.specs.Numbers.{item}
+use Rattle.decoding.specs.Moves.{weights_of, proper, move_at, call_of, call_at, operation_of, vertex_of, move_weights}
+use Rattle.decoding.specs.declared.Move.{Move}
+use Rattle.decoding.specs.declared.Move.TheVariants.{Proper, Improper}
 
 -- ---- the numbers of a move
 

@@ -3,9 +3,11 @@
 //
 // The definitions are those of specs/: Numbers (how bytes make numbers), Parts (where a part lies) and
 // Moves (how bytes make a move or the weights of a point).
+#![tactic(auto)]
+
 ghost use Rattle.std.specs.Prelude.{◌≡◌, cond, ◌+◌, ◌-◌, ◌*◌, ◌/◌, ◌<◌, ◌≤◌, ltb, pos, neg_ℤ, length, drop, take, get_or};
 ghost use Rattle.integers.specs.Test.{within, all};
-ghost use Rattle.bytes.specs.Numbers.{
+ghost use Rattle.decoding.specs.Numbers.{
   item,
   unsigned_of,
   twos_complement,
@@ -13,8 +15,8 @@ ghost use Rattle.bytes.specs.Numbers.{
   numbers_to,
   frame_numbers,
 };
-ghost use Rattle.bytes.specs.Parts.{Lies, to_end, item_place};
-ghost use Rattle.bytes.specs.Moves.{weights_of, proper, move_at, call_at, call_of};
+ghost use Rattle.decoding.specs.Parts.{Lies, to_end, item_place};
+ghost use Rattle.decoding.specs.Moves.{weights_of, proper, move_at, call_at, call_of};
 
 use machine::Weights;
 

@@ -17,7 +17,7 @@ use Rattle.integers.proofs.Sums.{length-upto}
 use Rattle.integers.proofs.Laws.{nat_abs-neg}
 use Rattle.integers.specs.Test.{within, all}
 use Rattle.integers.proofs.All.{and-true, and_none}
-use Rattle.bytes.specs.Numbers.{item, unsigned_of, twos_complement, signed_of, number_at, numbers_to, coefficients_of}
+use Rattle.decoding.specs.Numbers.{item, unsigned_of, twos_complement, signed_of, number_at, numbers_to, coefficients_of}
 
 -- ---- parts of a list
 

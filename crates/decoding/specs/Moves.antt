@@ -4,9 +4,9 @@ use Rattle.kinds.specs.Kinds.{most_vertices}
 use Rattle.machine.specs.declared.Weights.{Weights}
 use Rattle.machine.specs.declared.Call.{Call}
 use Rattle.machine.specs.declared.Call.TheVariants as call
-use Rattle.bytes.specs.Numbers.{item, number_at}
-use Rattle.bytes.specs.declared.Move.{Move}
-use Rattle.bytes.specs.declared.Move.TheVariants.{Proper, Improper}
+use Rattle.decoding.specs.Numbers.{item, number_at}
+use Rattle.decoding.specs.declared.Move.{Move}
+use Rattle.decoding.specs.declared.Move.TheVariants.{Proper, Improper}
 
 -- The weights, where the part begins with them: one whose two bytes the part does not have is 0. A point has as many weights as its kind has vertices, and a move
 -- has three, so that the fourth weight of a move is 0.
