@@ -1,0 +1,21 @@
+-- `long_at` meets its contract: where the part has the bytes, the test of `signed` is that of two's complement in four bytes.
+use mathlib.Core.Path.{sym, ◌∙◌}
+use native.Mathlib.Omega.{arith}
+use Rattle.integers.proofs.Signed.{back_fits}
+use Rattle.decoding.proofs.Numbers.{number-there, number-lacking}
+use Rattle.decoding.specs.Numbers.{twos_complement}
+use borrow.Author.Rules.{rules}
+use Rattle.decoding.proofs.long_at.Goals as goal
+
+pub returns-then-part-k : goal.returns-then-part-k
+returns-then-part-k c = let a = c.args in sym (number-lacking 4 a.part.now a.k c.if-part-k.true)
+
+pub returns : goal.returns
+unfolding twos_complement
+returns c =
+    let there = c.before.before in
+    let a = there.args in
+    let v = c.four_bytes.result in
+    back_fits (record { sfits = c.signed.type_inv })
+    ∙ c.signed.ensures
+    ∙ sym (number-there 4 a.part.now a.k v (omega arith) there.if-part-k.false c.four_bytes.ensures.value)
