@@ -1,10 +1,10 @@
 // The library for callers in C and Rust: eight functions under plain names, each over one of the
 // library's own. A net is lent as 193 numbers or more, as specs/Lent.antt of the crate machine lays them
 // out. specs/Demand3.antt carries demand 3 to these functions.
+#![tactic(auto)]
+
 mod answers;
 mod positions;
-
-#![tactic(auto)]
 
 ghost use Rattle.std.specs.Prelude.{◌≡◌, []};
 ghost use Rattle.projection.specs.Projection.{four, projection_of};

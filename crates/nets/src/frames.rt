@@ -62,7 +62,7 @@ pub(crate) fn frame_within(net: &[i64], kind: u8) -> bool
 }
 
 // The numbers of a vertex; the third of two is 0.
-#[derive(Drop)]
+#[derive(Clone, Copy)]
 pub(crate) struct Vertex {
     pub(crate) first: i64,
     pub(crate) second: i64,
@@ -80,7 +80,7 @@ pub(crate) fn vertex_within(vertex: Vertex) -> bool
 
 // A vertex in its group: where the group's frame begins in the places of the net, how many vertices the group has,
 // and which of them it is, counted from 0.
-#[derive(Drop)]
+#[derive(Clone, Copy)]
 pub(crate) struct Own {
     pub(crate) start: usize,
     pub(crate) count: usize,

@@ -1,6 +1,8 @@
 // First nets and calls on nets, which stand in places that the caller lends: 193 numbers or more, as
 // specs/Lent.antt of the crate machine lays them out. Any numbers whatever are taken. What a call answers
 // and leaves is the step that the theorem of demand 3 is about.
+#![tactic(auto)]
+
 mod calls;
 mod coordinates;
 mod first;
@@ -10,8 +12,6 @@ mod levels;
 mod rows;
 mod sides;
 mod zeros;
-
-#![tactic(auto)]
 
 ghost use Rattle.std.specs.Prelude.{◌≡◌, [], ◌∷◌, ◌≤◌, pos, length, take};
 ghost use Rattle.machine.specs.Lent.{

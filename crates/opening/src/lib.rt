@@ -25,7 +25,7 @@ const COEFFICIENTS: usize = 180;
 
 // What a record gives besides its first net: the refusal, with number 0 where there is none, and where the
 // record's fields stand. A refused record has none.
-#[derive(Drop)]
+#[derive(Clone, Copy)]
 pub struct Opened {
     pub refusal: Refusal,
     pub layout: Layout,

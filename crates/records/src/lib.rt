@@ -48,7 +48,7 @@ use kinds::{frame_allowed, frame_count, known_kind, later_dimension, number_coun
 
 // Where a field stands: the offset of the field itself, the offset of its value, and the value's
 // length. An absent field has the empty value at the record's end.
-#[derive(Drop)]
+#[derive(Clone, Copy)]
 pub struct Extent {
     pub field: usize,
     pub start: usize,
@@ -57,7 +57,7 @@ pub struct Extent {
 
 // The layout of a record that the reader does not refuse: kind and degrees, and where what stands in each
 // slot is. A kind of one group has the second degree 0.
-#[derive(Drop)]
+#[derive(Clone, Copy)]
 pub struct Layout {
     pub kind: u8,
     pub degree: u8,
@@ -70,21 +70,21 @@ pub struct Layout {
 }
 
 // The number of a refusal, and the offset that is returned with it.
-#[derive(Drop)]
+#[derive(Clone, Copy)]
 pub struct Refusal {
     pub number: u8,
     pub offset: usize,
 }
 
 // What reading a record gives.
-#[derive(Drop)]
+#[derive(Clone, Copy)]
 pub enum Reading {
     Fields(Layout),
     Refused(Refusal),
 }
 
 // What field 1 says, on which the lengths and values of the others depend.
-#[derive(Drop)]
+#[derive(Clone, Copy)]
 pub struct Head {
     pub kind: u8,
     pub degree: u8,
@@ -92,7 +92,7 @@ pub struct Head {
 }
 
 // The slots of a record, in their order: each may have one field, or must.
-#[derive(Drop)]
+#[derive(Clone, Copy)]
 pub enum Slot {
     KindSlot,
     FrameSlot,
@@ -102,7 +102,7 @@ pub enum Slot {
 }
 
 // The fields, by their tags. Callers give a tag by its number; the definitions name it.
-#[derive(Drop)]
+#[derive(Clone, Copy)]
 pub enum Tag {
     Kind,
     Frame,
@@ -112,7 +112,7 @@ pub enum Tag {
 }
 
 // What stands in a slot: a field, or nothing.
-#[derive(Drop)]
+#[derive(Clone, Copy)]
 pub enum Standing {
     Field(Tag),
     Nothing,
@@ -120,7 +120,7 @@ pub enum Standing {
 
 // How far the reader has come: the offset where it stands, and where what stood in the last slot is. A
 // number that is not 0 is a refusal's, and the offset then is the refusal's too.
-#[derive(Drop)]
+#[derive(Clone, Copy)]
 pub struct Progress {
     pub number: u8,
     pub at: usize,

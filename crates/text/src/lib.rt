@@ -1,11 +1,11 @@
 // The text of netprint: from the bytes of a record, whatever they are, into a lent buffer.
+#![tactic(auto)]
+
 mod kind;
 mod lines;
 mod moves;
 mod net;
 mod words;
-
-#![tactic(auto)]
 
 ghost use Rattle.std.specs.Prelude.{◌≡◌, ◌≤◌, length};
 ghost use Rattle.machine.specs.Lent.{net_at};
@@ -27,7 +27,7 @@ use records::{Refusal, value};
 const LONGEST: usize = 4183;
 
 // What writing a text answers.
-#[derive(Drop)]
+#[derive(Clone, Copy)]
 pub enum Written {
     // How many bytes the text has.
     Bytes(usize),

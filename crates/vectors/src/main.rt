@@ -12,6 +12,8 @@
 // - a buffer one byte shorter than the text is refused with 11, and not a byte of it is written;
 // - a buffer of exactly the text's length is filled with the text, and the answer is that length.
 // Where the text is right and one of the other three fails, the line says which.
+#![tactic(auto)]
+
 mod compare;
 mod packed;
 
