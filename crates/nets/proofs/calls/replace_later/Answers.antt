@@ -1,0 +1,23 @@
+-- `replace_later` meets its contract: the room has places for all parts.
+use borrow.Author.Rules.{rules}
+use Prim.Native.Nat.{◌+◌, ◌*◌, ◌≤◌}
+use native.Mathlib.Omega.{arith}
+use mathlib.Core.Path.{◌≡◌, sym, ap, subst}
+use Rattle.entries.specs.Rows.{size}
+use Rattle.nets.proofs.Ranks.{size-curve}
+use Rattle.nets.proofs.Places.{degree-below}
+use Rattle.nets.proofs.calls.replace_later.Goals as goal
+use Rattle.nets.proofs.calls.replace_later.Lts as lts
+use Rattle.nets.proofs.calls.replace_later.Tie as tie
+use Rattle.nets.proofs.calls.replace_later.Reads as reads
+
+abbrev Start : Type 0
+Start = lts.Start tie.the-claims reads.Pre reads.Post
+
+-- how many numbers there are
+count-is : (s : Start) → size 4 1 s.args.degree * s.args.parts ≡ 4 * (s.args.degree + 1) * s.args.parts
+count-is s = ap (λ k. k * s.args.parts) (size-curve 4 s.args.degree)
+
+pub replace_saved-requires : goal.replace_saved-requires
+replace_saved-requires c =
+    (c.requires, subst (λ k. k ≤ 24) (sym (count-is c.before.before.before)) c.if-degree-parts-le-FEW.true)

@@ -1,0 +1,25 @@
+-- `replace_wide` meets its contract: the room has places for all rows.
+use borrow.Author.Rules.{rules}
+use Prim.Native.Nat.{ℕ, ◌+◌, ◌*◌, ◌≤◌}
+use native.Mathlib.Omega.{arith}
+use mathlib.Core.Path.{sym, subst}
+use Rattle.entries.specs.Rows.{size}
+use Rattle.nets.proofs.Ranks.{size-curve}
+use Rattle.nets.proofs.Places.{degree-below}
+use Rattle.nets.proofs.calls.replace_wide.Goals as goal
+use Rattle.nets.proofs.calls.replace_wide.Lts as lts
+use Rattle.nets.proofs.calls.replace_wide.Tie as tie
+use Rattle.nets.proofs.calls.replace_wide.Reads as reads
+
+abbrev Start : Type 0
+Start = lts.Start tie.the-claims reads.Pre reads.Post
+
+-- a room of so many places
+has_room : (s : Start) (places : ℕ) → s.args.width * (s.args.degree + 1) ≤ places → size s.args.width 1 s.args.degree ≤ places
+has_room s places = subst (λ k. k ≤ places) (sym (size-curve s.args.width s.args.degree))
+
+pub replace_line-requires : goal.replace_line-requires
+replace_line-requires c = (c.requires.0, c.requires.1, has_room c.before.before.before 24 c.if-count-le-FEW.true)
+
+pub replace_line-requires-then-count-le-SOME : goal.replace_line-requires-then-count-le-SOME
+replace_line-requires-then-count-le-SOME c = (c.requires.0, c.requires.1, has_room c.before.before.before.before 72 c.if-count-le-SOME.true)

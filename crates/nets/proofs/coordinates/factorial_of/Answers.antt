@@ -1,0 +1,15 @@
+-- `factorial_of` meets its contract: after i turns the product is i!, which is small enough up to 10.
+use borrow.Author.Rules.{rules}
+use Prim.Native.Nat.{◌+◌, ◌-◌, ◌≤◌}
+use native.Mathlib.Omega.{arith}
+use mathlib.Core.Path.{◌≡◌, refl, ap, ◌∙◌}
+use Rattle.polar.specs.Scale.{factorial}
+use Rattle.nets.proofs.Factorials.{factorial-next, factorial-up}
+use Rattle.nets.proofs.coordinates.factorial_of.Goals as goal
+
+pub overflow_mul-product : goal.overflow_mul-product
+overflow_mul-product c =
+    let l = c.loop-i in
+    let next = factorial-next l.i l.product l.invariant.1 in
+    let small = factorial-up (l.i + 1) (omega (arith, l.invariant.0, c.loop-i-test.true)) in
+    omega (arith, next, small)

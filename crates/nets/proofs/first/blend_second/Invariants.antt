@@ -1,0 +1,16 @@
+-- `blend_second` meets its contract: after h turns there are h steps with the second vertex.
+use borrow.Author.Rules.{rules}
+use Prim.Native.Nat.{◌-◌}
+use native.Mathlib.Omega.{arith}
+use mathlib.Core.Path.{◌≡◌, ap, ◌∙◌}
+use Rattle.nets.specs.Rows.{level}
+use Rattle.nets.specs.FirstNet.{vertex_weights}
+use Rattle.nets.proofs.Places.{degree-below}
+use Rattle.nets.proofs.Through.{vertex-step, VertexSteps, steps_first, steps_next, steps-left}
+use Rattle.nets.proofs.first.blend_second.Given as goal
+
+abbrev pub invariant-loop-h : goal.invariant-loop-h
+invariant-loop-h l = VertexSteps l.width l.dimension l.degree 1 l.frame l.initial.cur l.cur l.h
+
+abbrev pub decreases-loop-h : goal.decreases-loop-h
+decreases-loop-h l = l.degree - l.h

@@ -1,0 +1,17 @@
+-- `make_rows` meets its contract: over the frame of the coordinates the group's net holds the polar values, so the rows made from it are those of the net over the frame.
+use borrow.Author.Rules.{rules}
+use Prim.Native.Nat.{◌≤◌}
+use mathlib.Core.Path.{sym, ◌∙◌, subst}
+use Rattle.entries.specs.Rows.{size}
+use Rattle.nets.specs.Coordinates.{row_polar}
+use Rattle.nets.specs.FirstNet.{framed}
+use Rattle.nets.proofs.FirstRows.{holds-polar, values_listed}
+use Rattle.nets.proofs.first.make_rows.Goals as goal
+
+pub returns : goal.returns
+unfolding framed
+returns c =
+    let base = c.coordinate_numbers in
+    let a = c.args in
+    c.put_rows.ensures (row_polar a.width a.dimension a.degree a.coefficients.now) (holds-polar a.width a.dimension a.degree a.coefficients.now base.new.out base.ensures.0)
+    ∙ values_listed a.width a.dimension a.degree a.frame.now a.out.now (row_polar a.width a.dimension a.degree a.coefficients.now) c.requires.0.limited.sized.some c.requires.1

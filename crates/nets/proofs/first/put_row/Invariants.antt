@@ -1,0 +1,21 @@
+-- `put_row` meets its contract: after k turns the entries before k are made, and `cur` has k copies of the third vertex fixed.
+use Prim.Native.Nat.{suc, ◌+◌, ◌*◌, ◌-◌, ◌≤◌, ◌<◌, zero-le}
+use native.Mathlib.Nat.{mul-zero}
+use native.Mathlib.Omega.{arith}
+use mathlib.Core.Path.{◌≡◌, refl, sym, ap, ◌∙◌, subst}
+use mathlib.Core.List.{◌++◌}
+use lib.ListN.{length, replicate}
+use Rattle.entries.specs.Rows.{size}
+use Rattle.nets.specs.Rows.{written, place_at}
+use Rattle.nets.specs.FirstNet.{Stepping, vertex_of, Values, Holds, value_at}
+use Rattle.nets.proofs.Places.{degree-below, spread-most}
+use Rattle.nets.proofs.Through.{vertex-step, VertexSteps, steps_first, steps_next, steps-left}
+use Rattle.nets.proofs.FirstRows.{third-vertex, holds-third, entry_more}
+use Rattle.nets.proofs.first.put_row.Given as goal
+
+abbrev pub invariant-loop-k : goal.invariant-loop-k
+invariant-loop-k l = (l.k ≤ l.last) × VertexSteps l.width l.dimension l.i 2 l.frame l.initial.cur l.cur l.k × (length l.out ≡ length l.initial.out) × (length l.work ≡ length l.initial.work)
+    × ((G : Values) → Holds l.width l.dimension l.i G l.initial.cur → l.out ≡ written l.initial.out (l.width * place_at l.dimension l.i 0) (l.width * l.k) (value_at l.width l.dimension l.i l.frame G))
+
+abbrev pub decreases-loop-k : goal.decreases-loop-k
+decreases-loop-k l = l.last - l.k

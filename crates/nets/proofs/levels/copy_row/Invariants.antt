@@ -1,0 +1,18 @@
+-- `copy_row` meets its contract: after c turns the first c numbers of the row are copied.
+use borrow.Author.Rules.{rules}
+use Prim.Native.Nat.{◌+◌, ◌*◌, ◌-◌, ◌≤◌}
+use native.Mathlib.Omega.{arith}
+use mathlib.Core.Path.{◌≡◌, refl, ap, ◌∙◌}
+use lib.IntN.{pos}
+use lib.ListN.{length, get_or, length-set}
+use Rattle.integers.proofs.Signed.{seen}
+use Rattle.nets.specs.Rows.{written}
+use Rattle.nets.proofs.Lists.{write-more}
+use Rattle.nets.proofs.Row.{element}
+use Rattle.nets.proofs.levels.copy_row.Given as goal
+
+abbrev pub invariant-loop-c : goal.invariant-loop-c
+invariant-loop-c l = (l.c ≤ l.width) × (l.out ≡ written l.initial.out (l.width * l.to) l.c (λ i. get_or l.xs (l.width * l.from + (i - l.width * l.to)) (pos 0))) × (length l.out ≡ length l.initial.out)
+
+abbrev pub decreases-loop-c : goal.decreases-loop-c
+decreases-loop-c l = l.width - l.c

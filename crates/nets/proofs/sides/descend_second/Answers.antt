@@ -1,0 +1,50 @@
+-- `descend_second` meets its contract: after h turns every entry has as many copies of q as it had of the second vertex, but at most h, and all named values so far are in range.
+use borrow.Author.Rules.{rules}
+use borrow.Author.Tests.{not-true, not-false}
+use Prim.Native.Nat.{◌-◌, ◌<◌}
+use native.Mathlib.Omega.{arith}
+use mathlib.Core.Path.{◌∙◌}
+use Rattle.machine.specs.Calls.{weight_list}
+use Rattle.nets.proofs.Places.{degree-below}
+use Rattle.nets.proofs.SideValues.{Side, side-first, side-room, side-bounded, side-next, side-fails, side-last}
+use Rattle.nets.proofs.sides.descend_second.Goals as goal
+
+-- the vertex is one of three
+vertex : 1 < 3
+vertex = omega arith
+
+pub loop-h-init : goal.loop-h-init
+loop-h-init c = side-first 4 2 c.args.degree 1 c.args.weights c.args.xs.now c.requires vertex
+
+pub level_second-requires : goal.level_second-requires
+level_second-requires c =
+    let a = c.args in
+    let l = c.loop-h in
+    record {
+      sized = c.requires.sized;
+      below = l.invariant.below;
+      long = side-room 4 2 a.degree 1 a.weights a.xs.now c.requires vertex l.xs l.h l.invariant;
+      bounded = side-bounded 4 2 a.degree 1 a.weights a.xs.now c.requires vertex l.xs l.h l.invariant;
+    }
+
+pub returns-then-not-level_second : goal.returns-then-not-level_second
+returns-then-not-level_second c =
+    let a = c.args in
+    let l = c.loop-h in
+    let k = c.level_second in
+    side-fails 4 2 a.degree 1 a.weights a.xs.now c.requires vertex l.xs l.h l.invariant c.loop-h-test.true
+    k.result k.new.xs k.ensures (not-true k.result c.if-not-level_second.true-raw)
+
+pub loop-h-preserved : goal.loop-h-preserved
+loop-h-preserved c =
+    let a = c.args in
+    let l = c.loop-h in
+    let k = c.level_second in
+    side-next 4 2 a.degree 1 a.weights a.xs.now c.requires vertex l.xs l.h l.invariant c.loop-h-test.true
+    k.result k.new.xs k.ensures (not-false k.result c.if-not-level_second.false-raw)
+
+pub returns : goal.returns
+returns c =
+    let a = c.args in
+    let l = c.loop-h in
+    side-last 4 2 a.degree 1 a.weights a.xs.now c.requires vertex l.xs l.h l.invariant c.loop-h-test.false

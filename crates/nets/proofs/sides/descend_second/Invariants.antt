@@ -1,0 +1,16 @@
+-- `descend_second` meets its contract: after h turns every entry has as many copies of q as it had of the second vertex, but at most h, and all named values so far are in range.
+use borrow.Author.Rules.{rules}
+use borrow.Author.Tests.{not-true, not-false}
+use Prim.Native.Nat.{◌-◌, ◌<◌}
+use native.Mathlib.Omega.{arith}
+use mathlib.Core.Path.{◌∙◌}
+use Rattle.machine.specs.Calls.{weight_list}
+use Rattle.nets.proofs.Places.{degree-below}
+use Rattle.nets.proofs.SideValues.{Side, side-first, side-room, side-bounded, side-next, side-fails, side-last}
+use Rattle.nets.proofs.sides.descend_second.Given as goal
+
+abbrev pub invariant-loop-h : goal.invariant-loop-h
+invariant-loop-h l = Side 4 2 l.degree 1 (weight_list l.weights) l.initial.xs l.xs l.h
+
+abbrev pub decreases-loop-h : goal.decreases-loop-h
+decreases-loop-h l = l.degree - l.h
