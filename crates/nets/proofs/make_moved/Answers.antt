@@ -62,8 +62,9 @@ own c = c.own_vertex-own.ensures c.args.degree c.args.second
 
 pub new_vertex-moved-requires : goal.new_vertex-moved-requires
 new_vertex-moved-requires c =
+    let d = c.before in
     let r = c.own_vertex-own.result in
-    new-asked c.requires r.start r.count r.index (own c)
+    new-asked c.requires r.start r.count r.index (own d)
 
 -- the new vertex's numbers
 abbrev numbers : After-new_vertex-moved → List ℤ
@@ -82,8 +83,10 @@ module _ (c : After-new_vertex-moved) where
 
 pub returns-then-not-vertex_within : goal.returns-then-not-vertex_within
 returns-then-not-vertex_within c =
+    let n = c.before.before in
+    let d = c.before.before.before.before in
     let r = c.own_vertex-own.result in
-    moved-beyond c.requires r.start r.count r.index (own c.before.before.before) (numbers c.before.before) c.new_vertex-moved.ensures
+    moved-beyond c.requires r.start r.count r.index (own d) (numbers n) c.new_vertex-moved.ensures
     (sym c.vertex_within.ensures ∙ not-true c.vertex_within.result c.if-not-vertex_within.true-raw)
 
 passed : (c : Else-not-vertex_within) → all in_range (numbers c.before.before) ≡ true
@@ -91,8 +94,11 @@ passed c = sym c.vertex_within.ensures ∙ not-false c.vertex_within.result c.if
 
 pub returns-then-size-ne0 : goal.returns-then-size-ne0
 returns-then-size-ne0 c =
+    let e = c.before.before.before.before in
+    let n = c.before.before.before.before.before.before in
+    let d = c.before.before.before.before.before.before.before.before in
     let r = c.own_vertex-own.result in
-    moved-kept c.requires r.start r.count r.index (own c.before.before.before.before.before.before.before) (numbers c.before.before.before.before.before.before) c.new_vertex-moved.ensures (passed c.before.before.before.before) c.make_move-size.result c.make_move-size.new.entries c.make_move-size.ensures c.if-size-ne0.true
+    moved-kept c.requires r.start r.count r.index (own d) (numbers n) c.new_vertex-moved.ensures (passed e) c.make_move-size.result c.make_move-size.new.0 c.make_move-size.ensures c.if-size-ne0.true
 
 -- the vertex stands among the first twelve places
 room : (c : After-own_vertex-own) → let r = c.own_vertex-own.result in (2 ≤ r.count) × (r.count ≤ 3) × (r.start + r.count * r.index + r.count ≤ 12)
@@ -107,28 +113,32 @@ o c = (m c).before.before.before.before.before.before
 -- the places with the new entries
 pub move_largest-requires : goal.move_largest-requires
 move_largest-requires c =
-    let r = (o c.before).own_vertex-own.result in
-    let n = (m c.before).before.before.before.before in
-    entries-moved (o c.before).before.requires r.start r.count r.index (own (o c.before)) (numbers n) n.new_vertex-moved.ensures (passed (m c.before).before.before) (m c.before).make_move-size.result (m c.before).make_move-size.new.0 (m c.before).make_move-size.ensures c.if-size-ne0.false
+    let e = c.before in
+    let r = (o e).own_vertex-own.result in
+    let n = (m e).before.before.before.before in
+    entries-moved (o e).before.requires r.start r.count r.index (own (o e)) (numbers n) n.new_vertex-moved.ensures (passed (m e).before.before) (m e).make_move-size.result (m e).make_move-size.new.0 (m e).make_move-size.ensures c.if-size-ne0.false
 
 -- and with the largest component
 long : (c : After-move_largest) → 193 ≤ length c.move_largest.new.net
 long c =
-    let r = (o c.before.before).own_vertex-own.result in
-    let n = (m c.before.before).before.before.before.before in
-    largest-long (o c.before.before).before.requires r.start r.count r.index (own (o c.before.before)) (numbers n) n.new_vertex-moved.ensures (passed (m c.before.before).before.before) (m c.before.before).make_move-size.result (m c.before.before).make_move-size.new.0 (m c.before.before).make_move-size.ensures c.if-size-ne0.false
+    let e = c.before.before in
+    let r = (o e).own_vertex-own.result in
+    let n = (m e).before.before.before.before in
+    largest-long (o e).before.requires r.start r.count r.index (own (o e)) (numbers n) n.new_vertex-moved.ensures (passed (m e).before.before) (m e).make_move-size.result (m e).make_move-size.new.0 (m e).make_move-size.ensures c.if-size-ne0.false
     c.move_largest.new.0 c.move_largest.ensures
 
 pub put_vertex-requires : goal.put_vertex-requires
 put_vertex-requires c =
-    let fits = room (o c.before.before.before.before.before.before.before.before.before.before) in
-    let places = long c.before.before.before.before.before.before.before.before in
+    let l = c.before.before.before.before.before.before.before.before in
+    let fits = room (o l) in
+    let places = long l in
     (fits.0, fits.1, omega arith)
 
 pub returns : goal.returns
 returns c =
-    let r = (o c.before.before.before.before.before.before.before.before.before.before.before).own_vertex-own.result in
-    let n = (m c.before.before.before.before.before.before.before.before.before.before.before).before.before.before.before in
-    moved_made (o c.before.before.before.before.before.before.before.before.before.before.before).before.requires r.start r.count r.index (own (o c.before.before.before.before.before.before.before.before.before.before.before)) (numbers n) n.new_vertex-moved.ensures (passed (m c.before.before.before.before.before.before.before.before.before.before.before).before.before) (m c.before.before.before.before.before.before.before.before.before.before.before).make_move-size.result (m c.before.before.before.before.before.before.before.before.before.before.before).make_move-size.new.0 (m c.before.before.before.before.before.before.before.before.before.before.before).make_move-size.ensures c.if-size-ne0.false
+    let e = c.before.before.before.before.before.before.before.before.before.before.before in
+    let r = (o e).own_vertex-own.result in
+    let n = (m e).before.before.before.before in
+    moved_made (o e).before.requires r.start r.count r.index (own (o e)) (numbers n) n.new_vertex-moved.ensures (passed (m e).before.before) (m e).make_move-size.result (m e).make_move-size.new.0 (m e).make_move-size.ensures c.if-size-ne0.false
     c.move_largest.new.0 c.put_vertex.new.0 c.move_largest.ensures
     (c.put_vertex.ensures ∙ (λ i. put_at (r.start + r.count * r.index) (take r.count (first_read n i ∷ second-read n i ∷ third-read n i ∷ [])) c.move_largest.new.0))

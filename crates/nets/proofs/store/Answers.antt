@@ -146,8 +146,8 @@ returns c =
     let largest = put with-them.before.before in
     record {
       number_is = ap (λ b. first_failed (b else 7 ∷ []))
-          (sym (le-leb a.largest 281474976710656 (omega (arith, largest.before.before.if1.left)))
-          ∙ range-is a.kind a.degree a.second a.largest a.net.now a.frame.now a.entries.now s.pre);
+          (sym (le-leb a.largest 281474976710656 (omega (arith, c.if-largest-gt-LIMIT.false)))
+          ∙ range-is a.kind a.degree a.second a.largest a.net.now a.frame.now a.entries.now s.requires);
       places-are =
           net-put a.kind a.degree a.second a.largest a.net.now a.frame.now a.entries.now s.requires (base largest) (some with-them) (more c.before.before.before) c.put_head.new.net
           largest.put_largest.ensures (some_is with-them) (more-is c.before.before.before) c.put_head.ensures;

@@ -57,8 +57,8 @@ abbrev move : Start → Call
 move s = Move s.args.operation s.args.vertex s.args.weights
 
 pub returns-then-net-lt-NET : goal.returns-then-net-lt-NET
-returns-then-net-lt-NET c =
-    let whole = places-short (move c.before) c.args.net.now [] c.if-net-lt-NET.true in
+returns-then-net-lt-NET c = let s = c.before in
+    let whole = places-short (move s) c.args.net.now [] c.if-net-lt-NET.true in
     record { number = whole.0; places = whole.1 }
 
 -- ---- the net in the places
@@ -101,7 +101,8 @@ module _ (c : After-net-1) where
 -- ---- the tests
 pub returns-then-refusal-ne0 : goal.returns-then-refusal-ne0
 returns-then-refusal-ne0 c =
-    let whole = refused c c.if-refusal-ne0.true (for-the-net (stood c.before.before.before) (move (start c.before.before.before)) [] refl c.if-refusal-ne0.true c.judge_net-refusal.ensures) in
+    let b = c.before.before.before in
+    let whole = refused b c.if-refusal-ne0.true (for-the-net (stood b) (move (start b)) [] refl c.if-refusal-ne0.true c.judge_net-refusal.ensures) in
     record { number = whole.0; places = whole.1 }
 
 abbrev base : Else-refusal-ne0 → After-net-1
@@ -115,8 +116,9 @@ own c = let b = base c.before in c.judge_vertex-number.ensures (degree b) (other
 
 pub returns-then-number-ne0 : goal.returns-then-number-ne0
 returns-then-number-ne0 c =
-    let b = base c.before.before in
-    let whole = refused b c.if-number-ne0.true (for-the-arguments (stood b) (move (start b)) [] refl (passed c.before.before) c.if-number-ne0.true (own c.before)) in
+    let j = c.before in
+    let b = base j in
+    let whole = refused b c.if-number-ne0.true (for-the-arguments (stood b) (move (start b)) [] refl (passed j) c.if-number-ne0.true (own j)) in
     record { number = whole.0; places = whole.1 }
 
 own-passed : (c : Else-number-ne0) → let b = base c.before.before in first_failed (own_tests (groups_of (kind b) (degree b) (other b)) (move (start b))) ≡ 0
@@ -124,9 +126,11 @@ own-passed c = sym (own c.before) ∙ c.if-number-ne0.false
 
 pub returns-then-not-frame_within : goal.returns-then-not-frame_within
 returns-then-not-frame_within c =
-    let b = base c.before.before.before.before.before in
+    let e = c.before.before.before in
+    let h = c.before.before.before.before.before in
+    let b = base h in
     let whole = refused b (λ none. omega arith)
-    (for-the-frame (stood b) (move (start b)) [] refl (passed c.before.before.before.before.before) (own-passed c.before.before.before) (sym (c.frame_within.ensures (degree b) (other b)) ∙ not-true c.frame_within.result c.if-not-frame_within.true-raw)) in
+    (for-the-frame (stood b) (move (start b)) [] refl (passed h) (own-passed e) (sym (c.frame_within.ensures (degree b) (other b)) ∙ not-true c.frame_within.result c.if-not-frame_within.true-raw)) in
     record { number = whole.0; places = whole.1 }
 
 -- ---- the move
@@ -138,14 +142,15 @@ near c = let b = base (judged c) in sym (c.frame_within.ensures (degree b) (othe
 
 pub returns : goal.returns
 returns c =
-    let h = judged c.before.before.before in
+    let e = c.before.before.before in
+    let h = judged e in
     let b = base h in
     let a = (start b).args in
-    let whole = move-made (stood b) (passed h) (near c.before.before.before) a.operation a.vertex a.weights c.make_moved.result c.make_moved.new.0 (own-passed c.before.before.before.before.before.before) c.make_moved.ensures in
+    let whole = move-made (stood b) (passed h) (near e) a.operation a.vertex a.weights c.make_moved.result c.make_moved.new.0 (own-passed e) c.make_moved.ensures in
     record { number = whole.0; places = whole.1 }
 
 pub judge_vertex-number-requires : goal.judge_vertex-number-requires
 judge_vertex-number-requires c = dimension-some (stood (base c)) (passed c)
 
 pub frame_within-requires : goal.frame_within-requires
-frame_within-requires c = let places = (stood (base c.before.before.before)).long in (omega arith, dimension-some (stood (base c.before.before.before)) (passed c.before.before.before))
+frame_within-requires c = let h = c.before.before.before in let places = (stood (base h)).long in (omega arith, dimension-some (stood (base h)) (passed h))

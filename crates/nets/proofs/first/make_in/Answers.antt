@@ -77,57 +77,62 @@ module _ (s : Start) where
 
 pub make_rows-requires : goal.make_rows-requires
 make_rows-requires c =
+    let s = c.before.before.before.before.before.before in
     let a = c.args in
     subst
     (λ v. Framing v c.dimension_of.result a.degree a.frame.now a.coefficients.now × Room v c.dimension_of.result a.degree a.out.now × Spare v c.dimension_of.result a.degree a.work.now a.cur.now a.base.now)
     (sym c.later_count.ensures)
-    (subst (λ d. Framing (w c.before.before.before.before.before.before) d a.degree a.frame.now a.coefficients.now × Room (w c.before.before.before.before.before.before) d a.degree a.out.now × Spare (w c.before.before.before.before.before.before) d a.degree a.work.now a.cur.now a.base.now)
+    (subst (λ d. Framing (w s) d a.degree a.frame.now a.coefficients.now × Room (w s) d a.degree a.out.now × Spare (w s) d a.degree a.work.now a.cur.now a.base.now)
     (sym c.dimension_of.ensures)
-    (framing c.before.before.before.before.before.before, places c.before.before.before.before.before.before, record { work-room = room_in c.before.before.before.before.before.before a.work.now c.requires.1.work-room; cur-room = room_in c.before.before.before.before.before.before a.cur.now c.requires.1.cur-room; base-room = room_in c.before.before.before.before.before.before a.base.now c.requires.1.base-room }))
+    (framing s, places s, record { work-room = room_in s a.work.now c.requires.1.work-room; cur-room = room_in s a.cur.now c.requires.1.cur-room; base-room = room_in s a.base.now c.requires.1.base-room }))
 
 -- what the first group's making leaves
-rows_are : (c : After-make_rows) → c.make_rows.new.0 ≡ framed_list (w c.before.before.before.before.before.before.before) (n c.before.before.before.before.before.before.before) (p c.before.before.before.before.before.before.before) (frame c.before.before.before.before.before.before.before) (coefficients c.before.before.before.before.before.before.before) c.args.out.now
+rows_are : (c : After-make_rows) → let s = c.before.before.before.before.before.before.before in c.make_rows.new.out ≡ framed_list (w s) (n s) (p s) (frame s) (coefficients s) c.args.out.now
 rows_are c =
-    c.make_rows.ensures ∙ ap₂ (λ v d. framed_list v d (p c.before.before.before.before.before.before.before) (frame c.before.before.before.before.before.before.before) (coefficients c.before.before.before.before.before.before.before) c.args.out.now) c.later_count.ensures c.dimension_of.ensures
+    let s = c.before.before.before.before.before.before.before in
+    c.make_rows.ensures ∙ ap₂ (λ v d. framed_list v d (p s) (frame s) (coefficients s) c.args.out.now) c.later_count.ensures c.dimension_of.ensures
 
 pub make_later-requires : goal.make_later-requires
 make_later-requires c =
+    let m = c.before.before.before.before.before.before.before.before in
+    let s = c.before.before.before.before.before.before.before.before.before.before.before.before.before.before.before in
     let a = c.args in
     record {
       nine = c.requires.0.nine;
       parts = λ some.
-          later-framing (kind c.before.before.before.before.before.before.before.before.before.before.before.before.before.before.before) (p c.before.before.before.before.before.before.before.before.before.before.before.before.before.before.before) (q c.before.before.before.before.before.before.before.before.before.before.before.before.before.before.before) (right c.before.before.before.before.before.before.before.before.before.before.before.before.before.before.before) (frame c.before.before.before.before.before.before.before.before.before.before.before.before.before.before.before) c.requires.0.nine (first-framed (polynomials c.before.before.before.before.before.before.before.before.before.before.before.before.before.before.before) (frame c.before.before.before.before.before.before.before.before.before.before.before.before.before.before.before) c.requires.0.accepted) (coefficients c.before.before.before.before.before.before.before.before.before.before.before.before.before.before.before) c.requires.0.enough
-          (first-within (polynomials c.before.before.before.before.before.before.before.before.before.before.before.before.before.before.before) (frame c.before.before.before.before.before.before.before.before.before.before.before.before.before.before.before) c.requires.0.accepted) some a.out.now c.make_rows.new.0 (places c.before.before.before.before.before.before.before.before.before.before.before.before.before.before.before) (rows_are c.before.before.before.before.before.before.before.before);
+          later-framing (kind s) (p s) (q s) (right s) (frame s) c.requires.0.nine (first-framed (polynomials s) (frame s) c.requires.0.accepted) (coefficients s) c.requires.0.enough
+          (first-within (polynomials s) (frame s) c.requires.0.accepted) some a.out.now c.make_rows.new.out (places s) (rows_are m);
       spare = λ some.
-          let small : size 4 (later_dimension (kind c.before.before.before.before.before.before.before.before.before.before.before.before.before.before.before)) (q c.before.before.before.before.before.before.before.before.before.before.before.before.before.before.before) ≤ size (w c.before.before.before.before.before.before.before.before.before.before.before.before.before.before.before) (n c.before.before.before.before.before.before.before.before.before.before.before.before.before.before.before) (p c.before.before.before.before.before.before.before.before.before.before.before.before.before.before.before) =
-          le_trans (le_of_eq (part-size (kind c.before.before.before.before.before.before.before.before.before.before.before.before.before.before.before) (p c.before.before.before.before.before.before.before.before.before.before.before.before.before.before.before) (q c.before.before.before.before.before.before.before.before.before.before.before.before.before.before.before) (right c.before.before.before.before.before.before.before.before.before.before.before.before.before.before.before) (frame c.before.before.before.before.before.before.before.before.before.before.before.before.before.before.before) (coefficients c.before.before.before.before.before.before.before.before.before.before.before.before.before.before.before) some a.out.now c.make_rows.new.0 (places c.before.before.before.before.before.before.before.before.before.before.before.before.before.before.before) (rows_are c.before.before.before.before.before.before.before.before))) (le-mul_of_pos_right (w c.before.before.before.before.before.before.before.before.before.before.before.before.before.before.before) (counts_some (n c.before.before.before.before.before.before.before.before.before.before.before.before.before.before.before) (p c.before.before.before.before.before.before.before.before.before.before.before.before.before.before.before))) in
+          let small : size 4 (later_dimension (kind s)) (q s) ≤ size (w s) (n s) (p s) =
+          le_trans (le_of_eq (part-size (kind s) (p s) (q s) (right s) (frame s) (coefficients s) some a.out.now c.make_rows.new.out (places s) (rows_are m))) (le-mul_of_pos_right (w s) (counts_some (n s) (p s))) in
           record {
-            work-room = le_trans small (subst (λ k. size (w c.before.before.before.before.before.before.before.before.before.before.before.before.before.before.before) (n c.before.before.before.before.before.before.before.before.before.before.before.before.before.before.before) (p c.before.before.before.before.before.before.before.before.before.before.before.before.before.before.before) ≤ k) (sym c.make_rows.auto.1.0) (room_in c.before.before.before.before.before.before.before.before.before.before.before.before.before.before.before a.work.now c.requires.1.work-room));
-            cur-room = le_trans small (subst (λ k. size (w c.before.before.before.before.before.before.before.before.before.before.before.before.before.before.before) (n c.before.before.before.before.before.before.before.before.before.before.before.before.before.before.before) (p c.before.before.before.before.before.before.before.before.before.before.before.before.before.before.before) ≤ k) (sym c.make_rows.auto.1.1.0) (room_in c.before.before.before.before.before.before.before.before.before.before.before.before.before.before.before a.cur.now c.requires.1.cur-room));
-            base-room = le_trans small (subst (λ k. size (w c.before.before.before.before.before.before.before.before.before.before.before.before.before.before.before) (n c.before.before.before.before.before.before.before.before.before.before.before.before.before.before.before) (p c.before.before.before.before.before.before.before.before.before.before.before.before.before.before.before) ≤ k) (sym c.make_rows.auto.1.1.1.0) (room_in c.before.before.before.before.before.before.before.before.before.before.before.before.before.before.before a.base.now c.requires.1.base-room));
+            work-room = le_trans small (subst (λ k. size (w s) (n s) (p s) ≤ k) (sym c.make_rows.auto.work.0) (room_in s a.work.now c.requires.1.work-room));
+            cur-room = le_trans small (subst (λ k. size (w s) (n s) (p s) ≤ k) (sym c.make_rows.auto.work.1.0) (room_in s a.cur.now c.requires.1.cur-room));
+            base-room = le_trans small (subst (λ k. size (w s) (n s) (p s) ≤ k) (sym c.make_rows.auto.work.1.1.0) (room_in s a.base.now c.requires.1.base-room));
           };
     }
 
 -- all that is made is the net
-made-is : (c : After-make_later) → c.make_later.new.0 ≡ put_at 0 (first_net (polynomials c.before.before.before.before.before.before.before.before.before.before.before.before.before.before.before.before) (frame c.before.before.before.before.before.before.before.before.before.before.before.before.before.before.before.before)).entries c.args.out.now
-made-is c = by (dec_lt 0 (later_dimension (kind c.before.before.before.before.before.before.before.before.before.before.before.before.before.before.before.before)))
+made-is : (c : After-make_later) → let s = c.before.before.before.before.before.before.before.before.before.before.before.before.before.before.before.before in c.make_later.new.out ≡ put_at 0 (first_net (polynomials s) (frame s)).entries c.args.out.now
+made-is c = by (dec_lt 0 (later_dimension (kind s)))
   where
     m : After-make_rows
     m = c.before.before.before.before.before.before.before.before.before
 
-    c.before.before.before.before.before.before.before.before.before.before.before.before.before.before.before.before : Start
-    c.before.before.before.before.before.before.before.before.before.before.before.before.before.before.before.before = m.before.before.before.before.before.before.before
+    s : Start
+    s = m.before.before.before.before.before.before.before
 
-    by : Dec (0 < later_dimension (kind c.before.before.before.before.before.before.before.before.before.before.before.before.before.before.before.before)) → c.make_later.new.0 ≡ put_at 0 (first_net (polynomials c.before.before.before.before.before.before.before.before.before.before.before.before.before.before.before.before) (frame c.before.before.before.before.before.before.before.before.before.before.before.before.before.before.before.before)).entries c.args.out.now
+    by : Dec (0 < later_dimension (kind s)) → c.make_later.new.out ≡ put_at 0 (first_net (polynomials s) (frame s)).entries c.args.out.now
     by (yes more) =
-        let some : later_dimension (kind c.before.before.before.before.before.before.before.before.before.before.before.before.before.before.before.before) ≡ 0 → ⊥ = λ none. not-suc-le-zero (subst (λ k. 0 < k) none more) in
-        two_made (kind c.before.before.before.before.before.before.before.before.before.before.before.before.before.before.before.before) (p c.before.before.before.before.before.before.before.before.before.before.before.before.before.before.before.before) (q c.before.before.before.before.before.before.before.before.before.before.before.before.before.before.before.before) (right c.before.before.before.before.before.before.before.before.before.before.before.before.before.before.before.before) (frame c.before.before.before.before.before.before.before.before.before.before.before.before.before.before.before.before) (coefficients c.before.before.before.before.before.before.before.before.before.before.before.before.before.before.before.before) some c.args.out.now m.make_rows.last.0 c.make_later.new.0 c.requires.0.nine (places c.before.before.before.before.before.before.before.before.before.before.before.before.before.before.before.before) (rows_are m) (c.make_later.ensures.some some)
+        let some : later_dimension (kind s) ≡ 0 → ⊥ = λ none. not-suc-le-zero (subst (λ k. 0 < k) none more) in
+        two_made (kind s) (p s) (q s) (right s) (frame s) (coefficients s) some c.args.out.now m.make_rows.new.out c.make_later.new.out c.requires.0.nine (places s) (rows_are m) (c.make_later.ensures.some some)
     by (no more) =
-        let none : later_dimension (kind c.before.before.before.before.before.before.before.before.before.before.before.before.before.before.before.before) ≡ 0 = omega arith in
-        one-made (kind c.before.before.before.before.before.before.before.before.before.before.before.before.before.before.before.before) (p c.before.before.before.before.before.before.before.before.before.before.before.before.before.before.before.before) (q c.before.before.before.before.before.before.before.before.before.before.before.before.before.before.before.before) (right c.before.before.before.before.before.before.before.before.before.before.before.before.before.before.before.before) (frame c.before.before.before.before.before.before.before.before.before.before.before.before.before.before.before.before) (coefficients c.before.before.before.before.before.before.before.before.before.before.before.before.before.before.before.before) none c.args.out.now c.make_later.new.0 (c.make_later.ensures.none none ∙ rows_are m)
+        let none : later_dimension (kind s) ≡ 0 = omega arith in
+        one-made (kind s) (p s) (q s) (right s) (frame s) (coefficients s) none c.args.out.now c.make_later.new.out (c.make_later.ensures.none none ∙ rows_are m)
 
 pub returns : goal.returns
 returns c =
-    let s = c.before.before.before.before.before.before.before.before.before.before.before.before.before.before.before.before.before.before.before.before.before.before.before.before in
-    let count = c.number_count-count in record { made = made-is c.before.before.before.before.before.before.before.before; largest = first-largest (kind s) (p s) (q s) (right s) (frame s) (coefficients s) s.args.out.now c.make-later.new.0 count.result c.entries_largest.result count.ensures.entries (made-is c.before.before.before.before.before.before.before.before)
+    let m = c.before.before.before.before.before.before.before.before in
+    let s = m.before.before.before.before.before.before in
+    let count = c.number_count-count in record { made = made-is m; largest = first-largest (kind s) (p s) (q s) (right s) (frame s) (coefficients s) s.args.out.now c.make-later.new.0 count.result c.entries_largest.result count.ensures.entries (made-is m)
           (c.entries_largest.ensures ∙ ap (λ k. largest_of (take k c.make-later.new.0)) (sub-zero count.result)) }

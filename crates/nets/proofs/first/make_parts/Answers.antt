@@ -87,7 +87,7 @@ loop-k-preserved c =
       parts_more (framed 4 a.dimension a.degree a.frame.now) (l t) (keeps a.dimension a.degree a.frame.now) a.out.now loop.k (width t * loop.k) (width t * loop.k + width t - width t * loop.k)
           loop.out put.new.part (turn_last (l t) a.parts loop.k (length a.out.now) t.loop-k-test.true (start t).requires.0.long) (here t).at (here t).as_many loop.invariant.1
           (put.ensures ∙ ap (λ ys. framed 4 a.dimension a.degree a.frame.now part ++ ys) (ap (λ k. drop k part) (sym part-is) ∙ drop-length part) ∙ append-nil (framed 4 a.dimension a.degree a.frame.now part)),
-      put.auto.work.0 ∙ loop.inv.2,
-      put.auto.work.1.0 ∙ loop.inv.3,
-      put.auto.work.1.1.0 ∙ loop.inv.4,
+      put.auto.work ∙ loop.invariant.2,
+      put.auto.cur ∙ loop.invariant.3,
+      put.auto.base ∙ loop.invariant.4,
     )

@@ -63,7 +63,7 @@ loop-k-preserved c =
       steps_next a.width a.dimension a.i 2 a.frame.now a.cur.now s.requires.2 l.cur b.new.cur l.k (omega (arith, more, spread-most a.dimension a.i low high))
           (third-vertex a.dimension a.i l.k low high more) l.invariant.1 b.ensures b.auto.cur,
       e.auto.out ∙ l.invariant.2,
-      e.auto.work.0 ∙ l.invariant.3,
+      e.auto.work ∙ l.invariant.3,
       λ G holds.
           entry_more a.width a.dimension a.i l.k a.frame.now a.out.now l.out e.new.out G holds.form low high third (l.invariant.4 G holds)
           (e.ensures (λ j ps. G j (replicate l.k (vertex_of a.dimension a.frame.now 2) ++ ps))

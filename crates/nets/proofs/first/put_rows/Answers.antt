@@ -104,8 +104,8 @@ loop-i-preserved c =
       omega (arith, l.invariant.0),
       base-next a.width a.dimension a.degree l.i a.frame.now a.base.now l.base s.requires.3 l.invariant.0 l.invariant.1 b.new.cur one b.ensures b.auto.cur,
       r.auto.out ∙ l.invariant.2,
-      r.auto.work.0 ∙ l.invariant.3,
-      r.auto.work.1.0 ∙ y.auto.0 ∙ l.invariant.4,
+      r.auto.work ∙ l.invariant.3,
+      r.auto.cur ∙ y.auto.to ∙ l.invariant.4,
       λ G holds.
           row_before a.width a.dimension a.degree l.i a.frame.now a.out.now l.out r.new.out G s.requires.3.sized l.invariant.0 s.requires.0 (l.invariant.5 G holds)
           (r.ensures (λ j ps. G j (replicate (a.degree - l.i) (vertex_of a.dimension a.frame.now 0) ++ ps))
