@@ -3,6 +3,7 @@
 use borrow.Author.Rules.{rules}
 use Prim.Native.Nat.{◌+◌, ◌*◌, ◌≤◌}
 use native.Mathlib.Nat.{le_trans}
+use native.Mathlib.Omega.{arith}
 use mathlib.Core.Path.{◌≡◌, ap, ◌∙◌}
 use mathlib.Core.List.{List, [], ◌∷◌}
 use lib.IntN.{ℤ, pos}
@@ -70,3 +71,23 @@ returns c =
     ∷ [])
     found)
     ∙ ap (λ f. put_at 4 (four_numbers f) found) (c.first_place-at.ensures.1 ∙ (left c.before.before.before.before.before.before.before.before.before).1)
+
+pub slice_copy_out-put_second : goal.slice_copy_out-put_second
+slice_copy_out-put_second c =
+    let inside = le_trans c.first_place-at.ensures.0 (room-left c.requires.0 c.copy.ensures c.replaced_vertex-vertex.ensures c.descend_line.ensures).0 in
+    omega (arith, inside)
+
+pub slice_copy_out-put_second-2 : goal.slice_copy_out-put_second-2
+slice_copy_out-put_second-2 c =
+    let inside = le_trans c.first_place-at.ensures.0 (room-left c.requires.0 c.copy.ensures c.replaced_vertex-vertex.ensures c.descend_line.ensures).0 in
+    omega (arith, inside)
+
+pub slice_copy_out-put_second-3 : goal.slice_copy_out-put_second-3
+slice_copy_out-put_second-3 c =
+    let inside = le_trans c.first_place-at.ensures.0 (room-left c.requires.0 c.copy.ensures c.replaced_vertex-vertex.ensures c.descend_line.ensures).0 in
+    omega (arith, inside)
+
+pub slice_copy_out-put_second-4 : goal.slice_copy_out-put_second-4
+slice_copy_out-put_second-4 c =
+    let inside = le_trans c.first_place-at.ensures.0 (room-left c.requires.0 c.copy.ensures c.replaced_vertex-vertex.ensures c.descend_line.ensures).0 in
+    omega (arith, inside)
