@@ -130,5 +130,14 @@ returns c =
     let b = base c.before.before.before.before.before.before.before.before in
     let a = (start b).args in
     let whole = found-made (stood b) (passed c.before.before.before.before.before.before.before.before) (sym (c.frame_within.ensures (degree b) (other b)) ∙ not-false c.frame_within.result c.if-not-frame_within.false-raw) a.weights a.found.now (roomy b)
-    c.make_point.result c.make_point.new.found.1.1.1.1.0 (own-passed c.before.before.before.before.before.before) c.make_point.ensures in
+    c.make_point.result c.make_point.new.found (own-passed c.before.before.before.before.before.before) c.make_point.ensures in
     record { number = whole.0; found = whole.1 }
+
+pub judge_weights-number-requires : goal.judge_weights-number-requires
+judge_weights-number-requires c = dimension-some (stood (base c)) (passed c)
+
+pub frame_within-requires : goal.frame_within-requires
+frame_within-requires c =
+    let h = c.before.before in
+    let places = c.if-net-lt-NET.false in
+    (omega arith, dimension-some (stood (base h)) (passed h))

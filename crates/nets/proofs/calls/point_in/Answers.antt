@@ -144,12 +144,12 @@ module _ (c : Else-not-descend_later) where
 
   -- no place of the room is lost
   still-long : size (w (start copy)) (n (start copy)) (start copy).args.degree ≤ length later.descend_later.new.cur
-  still-long = let long = room-long copy in omega (arith, long, later.descend_later.kept.0, early.descend_first.kept.0)
+  still-long = let long = room-long copy in omega (arith, long, later.descend_later.auto.cur, early.descend_first.auto.cur)
 
 pub copy-requires-2 : goal.copy-requires-2
 copy-requires-2 c =
     let eight = (start (copy c.before)).requires.eight in
-    (omega arith, le_trans (four-long (start (copy c.before))) (still-long c.before.before))
+    (omega arith, le_trans (four-long (start (copy c.before))) (still-long c.before))
 
 pub put_projected-requires : goal.put_projected-requires
 put_projected-requires c =
@@ -157,7 +157,7 @@ put_projected-requires c =
     let s = start d in
     let eight = s.requires.eight in
     record {
-      line = line-asked s.requires.ordered (room d) (room-long d) (copied d) (passed (early c.before.before.before.before.before)) (later c.before.before.before.before.before).descend_later.new.cur (still-long c.before.before.before.before.before.before);
+      line = line-asked s.requires.ordered (room d) (room-long d) (copied d) (passed (early c.before.before.before.before.before)) (later c.before.before.before.before.before).descend_later.new.cur (still-long c.before.before.before.before.before);
       eight = omega (arith, eight, c.copy-2.auto.to);
     }
 
@@ -167,5 +167,5 @@ returns c =
     let d = copy c.before.before.before.before.before.before.before.before in
     let s = start d in
     let eight = s.requires.eight in
-    point-taken s.requires.ordered (room d) (room-long d) (copied d) (passed (early c.before.before.before.before.before.before.before.before)) f.descend_later.result f.descend_later.new.cur (later-descended f) (not-false f.descend_later.result c.if2.false)
-    s.args.found.now c.copy-2.new.0 c.put_projected.new.1.1.1.1.1.0 (omega arith) c.copy-2.ensures c.put_projected.ensures
+    point-taken s.requires.ordered (room d) (room-long d) (copied d) (passed (early c.before.before.before.before.before.before.before.before)) f.descend_later.result f.descend_later.new.cur (later-descended f) (not-false f.descend_later.result c.if-not-descend_later.false-raw)
+    s.args.found.now c.copy-2.new.to c.put_projected.new.found (omega arith) c.copy-2.ensures c.put_projected.ensures

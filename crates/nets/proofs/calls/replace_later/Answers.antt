@@ -21,3 +21,12 @@ count-is s = ap (λ k. k * s.args.parts) (size-curve 4 s.args.degree)
 pub replace_saved-requires : goal.replace_saved-requires
 replace_saved-requires c =
     (c.requires, subst (λ k. k ≤ 24) (sym (count-is c.before.before.before)) c.if-degree-parts-le-FEW.true)
+
+pub overflow_add-degree : goal.overflow_add-degree
+overflow_add-degree c = let low = degree-below 4 1 c.args.degree c.requires.parts.sized in record { fits = omega arith }
+
+pub overflow_mul-degree : goal.overflow_mul-degree
+overflow_mul-degree c = let low = degree-below 4 1 c.args.degree c.requires.parts.sized in record { fits = omega arith }
+
+pub overflow_mul-degree-2 : goal.overflow_mul-degree-2
+overflow_mul-degree-2 c = let few = subst (λ k. k * c.args.parts ≤ 180) (size-curve 4 c.args.degree) c.requires.parts.room in record { fits = omega arith }

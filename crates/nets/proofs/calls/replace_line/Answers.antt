@@ -60,5 +60,20 @@ pub returns : goal.returns
 returns c =
     let s = c.before.before.before.before.before.before.before.before.before.before in
     let a = s.args in
-    let back = replaced-refused a.width 1 a.degree a.vertex a.weights a.entries.now s.requires.0 (count s) (counted s) c.descend_line.ensures c.if1.false a.room.now c.copy.new.0 (free s) c.copy.ensures in
+    let back = replaced-refused a.width 1 a.degree a.vertex a.weights a.entries.now s.requires.0 (count s) (counted s) c.descend_line.ensures c.if-descend_line.false a.room.now c.copy.new.to (free s) c.copy.ensures in
     (back.0, c.copy-2.ensures ∙ back.1)
+
+pub overflow_add-count : goal.overflow_add-count
+overflow_add-count c = let low = degree-below c.args.width 1 c.args.degree c.requires.0.sized in record { fits = omega arith }
+
+pub overflow_mul-count : goal.overflow_mul-count
+overflow_mul-count c =
+    let most = size-curve c.args.width c.args.degree in
+    let room = c.requires.0.sized.room in
+    record { fits = omega arith }
+
+pub slice_bounds-descend_line-end : goal.slice_bounds-descend_line-end
+slice_bounds-descend_line-end c =
+    let enough = size-curve c.args.width c.args.degree in
+    let long = c.requires.0.long in
+    search rules

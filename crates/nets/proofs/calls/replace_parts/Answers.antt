@@ -150,3 +150,15 @@ returns c =
       made = λ yes-it-is. loop.invariant.1 ∙ ap (λ k. in_parts (made c.before.before) (l c.before.before) k c.args.entries.now) whole;
       past = past c.before.before loop.k loop.entries loop.invariant.0 loop.invariant.1;
     }
+
+pub overflow_add-length : goal.overflow_add-length
+overflow_add-length c = let low = degree-below 4 1 c.args.degree c.requires.parts.sized in record { fits = omega arith }
+
+pub overflow_mul-length : goal.overflow_mul-length
+overflow_mul-length c =
+    let few = c.requires.parts.sized.room in
+    let whole = size-curve 4 c.args.degree in
+    record { fits = omega arith }
+
+pub offset_bounds-entries-from : goal.offset_bounds-entries-from
+offset_bounds-entries-from c = let few = low c in search rules

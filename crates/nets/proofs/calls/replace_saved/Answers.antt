@@ -46,9 +46,18 @@ pub returns : goal.returns
 returns c =
     let s = c.before.before.before.before.before.before.before.before.before.before in
     let left = c.replace_parts in
-    let refused : left.result ≡ false = c.if1.false in
-    let past : KeptFrom (count s) s.args.entries.now left.new.0 = subst (λ k. KeptFrom k s.args.entries.now left.new.0) (count-is s) left.ensures.past in (
+    let refused : left.result ≡ false = c.if-replace_parts.false in
+    let past : KeptFrom (count s) s.args.entries.now left.new.entries = subst (λ k. KeptFrom k s.args.entries.now left.new.entries) (count-is s) left.ensures.past in (
       sym refused ∙ left.ensures.named,
       c.copy-2.ensures
-          ∙ put_back (count s) s.args.entries.now left.new.0 s.args.saved.now c.copy.new.0 (fits s).2 (fits s).1 c.copy.ensures left.auto.0 past,
+          ∙ put_back (count s) s.args.entries.now left.new.entries s.args.saved.now c.copy.new.to (fits s).2 (fits s).1 c.copy.ensures left.auto.entries past,
     )
+
+pub overflow_add-count : goal.overflow_add-count
+overflow_add-count c = let low = degree-below 4 1 c.args.degree c.requires.0.parts.sized in record { fits = omega arith }
+
+pub overflow_mul-count : goal.overflow_mul-count
+overflow_mul-count c = let low = degree-below 4 1 c.args.degree c.requires.0.parts.sized in record { fits = omega arith }
+
+pub overflow_mul-count-2 : goal.overflow_mul-count-2
+overflow_mul-count-2 c = let few = subst (λ k. k * c.args.parts ≤ 180) (size-curve 4 c.args.degree) c.requires.0.parts.room in record { fits = omega arith }

@@ -38,7 +38,7 @@ returns-then-descend_triangle c =
 
 pub returns : goal.returns
 returns c =
-    let n = c.before.before.before.before.before.before.before.before.before.before.before in
-    let a = (s n).args in
-    let back = replaced-refused 4 2 a.degree a.vertex a.weights a.entries.now (s n).requires.0 n.numbers.result (counted n) c.descend-triangle.ensures c.if1.false a.room.now c.copy.new.0 (free n) c.copy.ensures in
+    let n = c.before.before.before.before.before.before.before.before.before.before in
+    let a = c.args in
+    let back = replaced-refused 4 2 a.degree a.vertex a.weights a.entries.now c.requires.0 c.numbers-count.result (counted n) c.descend_triangle.ensures c.if-descend_triangle.false a.room.now c.copy.new.to (free n) c.copy.ensures in
     (back.0, c.copy-2.ensures ∙ back.1)

@@ -23,3 +23,12 @@ replace_line-requires c = (c.requires.0, c.requires.1, has_room c.before.before.
 
 pub replace_line-requires-then-count-le-SOME : goal.replace_line-requires-then-count-le-SOME
 replace_line-requires-then-count-le-SOME c = (c.requires.0, c.requires.1, has_room c.before.before.before.before 72 c.if-count-le-SOME.true)
+
+pub overflow_add-count : goal.overflow_add-count
+overflow_add-count c = let low = degree-below c.args.width 1 c.args.degree c.requires.0.sized in record { fits = omega arith }
+
+pub overflow_mul-count : goal.overflow_mul-count
+overflow_mul-count c =
+    let most = size-curve c.args.width c.args.degree in
+    let room = c.requires.0.sized.room in
+    record { fits = omega arith }

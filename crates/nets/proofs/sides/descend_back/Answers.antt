@@ -117,3 +117,16 @@ returns c =
     let a = c.args in
     let l = c.loop-h in
     side-last a.width 1 a.degree 1 a.weights a.cur.now c.requires vertex l.cur l.h l.invariant c.loop-h-test.false
+
+pub overflow_add-end : goal.overflow_add-end
+overflow_add-end c = let most = degree-below c.args.width 1 c.args.degree c.requires.sized in record { fits = omega arith }
+
+pub overflow_mul-end : goal.overflow_mul-end
+overflow_mul-end c = let most = size-curve c.args.width c.args.degree in record { fits = omega arith }
+
+pub overflow_mul-width : goal.overflow_mul-width
+overflow_mul-width c =
+    let whole = size-curve c.args.width c.args.degree in
+    let below : c.loop-h.h + 1 ≤ c.args.degree + 1 = omega (arith, c.loop-h-test.true) in
+    let ends = mul-le-mul_left c.args.width below in
+    record { fits = omega arith }

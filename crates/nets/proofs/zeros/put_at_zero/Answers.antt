@@ -3,6 +3,7 @@
 use borrow.Author.Rules.{rules}
 use Prim.Native.Nat.{◌+◌, ◌*◌, ◌≤◌}
 use native.Mathlib.Nat.{le_trans}
+use native.Mathlib.Omega.{arith}
 use mathlib.Core.Path.{◌≡◌, ap, ◌∙◌}
 use mathlib.Core.List.{List, [], ◌∷◌}
 use lib.IntN.{ℤ, pos}
@@ -48,25 +49,45 @@ module _ (c : After-descend_line) where
   start = vertex.before
 
   abbrev room : List ℤ
-  room = c.descend_line.new.0
+  room = c.descend_line.new.xs
 
   left : (4 * (start.args.degree + 1) ≤ length room) × (places_projected vertex.replaced_vertex-vertex.result start.args.degree room ≡ line_projected start.args.degree start.args.weights start.args.entries.now)
   left = room-left start.requires.0 copied.copy.ensures vertex.replaced_vertex-vertex.ensures c.descend_line.ensures
 
 pub first_place-at-requires : goal.first_place-at-requires
-first_place-at-requires c = let line = (start c.before.before).requires.0 in (line.low, line.high, (left c.before.before).0)
+first_place-at-requires c = let line = (start c.before).requires.0 in (line.low, line.high, (left c.before).0)
 
 pub returns : goal.returns
 returns c =
     let at = c.first_place-at.result in
-    let found = (start c.before.before.before.before.before.before.before.before.before.before).args.found.now in
+    let found = (start c.before.before.before.before.before.before.before.before.before).args.found.now in
     c.put_second.ensures
     ∙ (λ i.
     put_at 4
-    (element (get_or (room c.before.before.before.before.before.before.before.before.before.before) at (pos 0)) c.put_second-arg-2-1.given i
-    ∷ further (room c.before.before.before.before.before.before.before.before.before.before) at 1 c.put_second-arg-3-1.given i
-    ∷ further (room c.before.before.before.before.before.before.before.before.before.before) at 2 c.put_second-arg-4-1.given i
-    ∷ further (room c.before.before.before.before.before.before.before.before.before.before) at 3 c.put_second-arg-5-1.given i
+    (element (get_or (room c.before.before.before.before.before.before.before.before.before) at (pos 0)) c.put_second-arg-2-1.given i
+    ∷ further (room c.before.before.before.before.before.before.before.before.before) at 1 c.put_second-arg-3-1.given i
+    ∷ further (room c.before.before.before.before.before.before.before.before.before) at 2 c.put_second-arg-4-1.given i
+    ∷ further (room c.before.before.before.before.before.before.before.before.before) at 3 c.put_second-arg-5-1.given i
     ∷ [])
     found)
-    ∙ ap (λ f. put_at 4 (four_numbers f) found) (c.first_place-at.ensures.1 ∙ (left c.before.before.before.before.before.before.before.before.before.before).1)
+    ∙ ap (λ f. put_at 4 (four_numbers f) found) (c.first_place-at.ensures.1 ∙ (left c.before.before.before.before.before.before.before.before.before).1)
+
+pub slice_copy_out-put_second : goal.slice_copy_out-put_second
+slice_copy_out-put_second c =
+    let inside = le_trans c.first_place-at.ensures.0 (room-left c.requires.0 c.copy.ensures c.replaced_vertex-vertex.ensures c.descend_line.ensures).0 in
+    omega (arith, inside)
+
+pub slice_copy_out-put_second-2 : goal.slice_copy_out-put_second-2
+slice_copy_out-put_second-2 c =
+    let inside = le_trans c.first_place-at.ensures.0 (room-left c.requires.0 c.copy.ensures c.replaced_vertex-vertex.ensures c.descend_line.ensures).0 in
+    omega (arith, inside)
+
+pub slice_copy_out-put_second-3 : goal.slice_copy_out-put_second-3
+slice_copy_out-put_second-3 c =
+    let inside = le_trans c.first_place-at.ensures.0 (room-left c.requires.0 c.copy.ensures c.replaced_vertex-vertex.ensures c.descend_line.ensures).0 in
+    omega (arith, inside)
+
+pub slice_copy_out-put_second-4 : goal.slice_copy_out-put_second-4
+slice_copy_out-put_second-4 c =
+    let inside = le_trans c.first_place-at.ensures.0 (room-left c.requires.0 c.copy.ensures c.replaced_vertex-vertex.ensures c.descend_line.ensures).0 in
+    omega (arith, inside)
