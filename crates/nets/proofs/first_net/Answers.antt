@@ -83,6 +83,6 @@ returns-then-number-ne0 c =
 pub returns : goal.returns
 returns c =
     let a = c.args in
-    let whole = net-stored a.kind a.degree a.second a.frame.now a.coefficients.now a.net.now (framed c.before.before.before.before.before.before.before.before.before.before) (long c.before.before.before.before.before.before.before.before.before) (room c.before.before.before.before.before.before.before.before) (none c.before.before.before.before) c.make_first.result c.make_first.new.0
-    (subst (λ l. FirstStored (polynomials c.before.before.before.before.before.before.before.before.before.before.before) l a.net.now c.make_first.result c.make_first.new.0) c.first_nine-corners.ensures c.make_first.ensures) in
+    let whole = net-stored a.kind a.degree a.second a.frame.now a.coefficients.now a.net.now (framed c.before.before.before.before.before.before.before.before.before.before) (long c.before.before.before.before.before.before.before.before.before) (room c.before.before.before.before.before.before.before.before) (none c.before.before.before.before) c.make_first.result c.make_first.new.net
+    (subst (λ l. FirstStored (polynomials c.before.before.before.before.before.before.before.before.before.before.before) l a.net.now c.make_first.result c.make_first.new.net) c.first_nine-corners.ensures c.make_first.ensures) in
     record { number = whole.0; places = whole.1 }

@@ -23,10 +23,10 @@ use Rattle.nets.proofs.make_first.Tie as tie
 use Rattle.nets.proofs.make_first.Reads as reads
 
 abbrev Start : Type 0
-Start = lts.Start tie.the-claims reads.Pre reads.Post
+Start = lts.Start tie.the-claims reads.Pre reads.Post tie.handed_clauses
 
 abbrev Then-number_count-le-FEW : Type 0
-Then-number_count-le-FEW = lts.Then1 tie.the-claims reads.Pre reads.Post
+Then-number_count-le-FEW = lts.Then1 tie.the-claims reads.Pre reads.Post tie.handed_clauses
 
 module _ (s : Start) where
   right : known s.args.kind s.args.degree s.args.second ≡ true
@@ -55,12 +55,12 @@ few c = let count = c.number_count.ensures.entries in omega (arith, c.if-number_
 
 pub store-requires : goal.store-requires
 store-requires c =
-    stores c.before.before.before.before.before.before.before.before.before.before.before.before.before 24 c.make_in-largest.result _ c.make_in-largest.new.1.1.1.0 c.make_in-largest.auto.1.1.1.0 (few c.before.before.before.before.before.before.before.before.before.before.before) c.make_in-largest.ensures.made c.make_in-largest.ensures.largest
+    stores c.before.before.before.before.before.before.before.before.before.before.before.before.before 24 c.make_in-largest.result _ c.make_in-largest.new.out c.make_in-largest.auto.out (few c.before.before.before.before.before.before.before.before.before.before.before) c.make_in-largest.ensures.made c.make_in-largest.ensures.largest
 
 pub returns-then-number_count-le-FEW : goal.returns-then-number_count-le-FEW
 returns-then-number_count-le-FEW c =
     let a = c.args in
-    first-stored a.kind a.degree a.second (right c.before.before.before.before.before.before.before.before.before.before.before.before.before.before.before) a.frame.now a.coefficients.now _ c.make_in-largest.new.1.1.1.0 c.make_in-largest.ensures.made a.net.now c.store.new.0 c.store.result c.store.ensures
+    first-stored a.kind a.degree a.second (right c.before.before.before.before.before.before.before.before.before.before.before.before.before.before.before) a.frame.now a.coefficients.now _ c.make_in-largest.new.out c.make_in-largest.ensures.made a.net.now c.store.new.net c.store.result c.store.ensures
 
 pub make_in-largest-requires-2 : goal.make_in-largest-requires-2
 make_in-largest-requires-2 c =
@@ -69,9 +69,9 @@ make_in-largest-requires-2 c =
 
 pub store-requires-2 : goal.store-requires-2
 store-requires-2 c =
-    stores c.before.before.before.before.before.before.before.before.before.before.before.before.before 180 c.make_in-largest-2.result _ c.make_in-largest-2.new.1.1.1.0 c.make_in-largest-2.auto.1.1.1.0 (fit c.before.before.before.before.before.before.before.before.before.before.before.before.before) c.make_in-largest-2.ensures.made c.make_in-largest-2.ensures.largest
+    stores c.before.before.before.before.before.before.before.before.before.before.before.before.before 180 c.make_in-largest-2.result _ c.make_in-largest-2.new.out c.make_in-largest-2.auto.out (fit c.before.before.before.before.before.before.before.before.before.before.before.before.before) c.make_in-largest-2.ensures.made c.make_in-largest-2.ensures.largest
 
 pub returns : goal.returns
 returns c =
     let a = c.args in
-    first-stored a.kind a.degree a.second (right c.before.before.before.before.before.before.before.before.before.before.before.before.before.before.before) a.frame.now a.coefficients.now _ c.make_in-largest-2.new.1.1.1.0 c.make_in-largest-2.ensures.made a.net.now c.store-2.new.0 c.store-2.result c.store-2.ensures
+    first-stored a.kind a.degree a.second (right c.before.before.before.before.before.before.before.before.before.before.before.before.before.before.before) a.frame.now a.coefficients.now _ c.make_in-largest-2.new.out c.make_in-largest-2.ensures.made a.net.now c.store-2.new.net c.store-2.result c.store-2.ensures

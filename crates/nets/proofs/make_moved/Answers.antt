@@ -62,9 +62,8 @@ own c = c.own_vertex-own.ensures c.args.degree c.args.second
 
 pub new_vertex-moved-requires : goal.new_vertex-moved-requires
 new_vertex-moved-requires c =
-    let d = c.before in
     let r = c.own_vertex-own.result in
-    new-asked c.requires r.start r.count r.index (own d)
+    new-asked c.requires r.start r.count r.index (own c)
 
 -- the new vertex's numbers
 abbrev numbers : After-new_vertex-moved → List ℤ
@@ -84,7 +83,7 @@ module _ (c : After-new_vertex-moved) where
 pub returns-then-not-vertex_within : goal.returns-then-not-vertex_within
 returns-then-not-vertex_within c =
     let n = c.before.before in
-    let d = c.before.before.before.before in
+    let d = c.before.before.before in
     let r = c.own_vertex-own.result in
     moved-beyond c.requires r.start r.count r.index (own d) (numbers n) c.new_vertex-moved.ensures
     (sym c.vertex_within.ensures ∙ not-true c.vertex_within.result c.if-not-vertex_within.true-raw)
@@ -96,9 +95,9 @@ pub returns-then-size-ne0 : goal.returns-then-size-ne0
 returns-then-size-ne0 c =
     let e = c.before.before.before.before in
     let n = c.before.before.before.before.before.before in
-    let d = c.before.before.before.before.before.before.before.before in
+    let d = c.before.before.before.before.before.before.before in
     let r = c.own_vertex-own.result in
-    moved-kept c.requires r.start r.count r.index (own d) (numbers n) c.new_vertex-moved.ensures (passed e) c.make_move-size.result c.make_move-size.new.0 c.make_move-size.ensures c.if-size-ne0.true
+    moved-kept c.requires r.start r.count r.index (own d) (numbers n) c.new_vertex-moved.ensures (passed e) c.make_move-size.result c.make_move-size.new.entries c.make_move-size.ensures c.if-size-ne0.true
 
 -- the vertex stands among the first twelve places
 room : (c : After-own_vertex-own) → let r = c.own_vertex-own.result in (2 ≤ r.count) × (r.count ≤ 3) × (r.start + r.count * r.index + r.count ≤ 12)
@@ -108,7 +107,7 @@ abbrev m : Else-size-ne0 → After-make_move-size
 m c = c.before.before
 
 abbrev o : Else-size-ne0 → After-own_vertex-own
-o c = (m c).before.before.before.before.before.before
+o c = (m c).before.before.before.before.before
 
 -- the places with the new entries
 pub move_largest-requires : goal.move_largest-requires
@@ -116,7 +115,7 @@ move_largest-requires c =
     let e = c.before in
     let r = (o e).own_vertex-own.result in
     let n = (m e).before.before.before.before in
-    entries-moved (o e).before.requires r.start r.count r.index (own (o e)) (numbers n) n.new_vertex-moved.ensures (passed (m e).before.before) (m e).make_move-size.result (m e).make_move-size.new.0 (m e).make_move-size.ensures c.if-size-ne0.false
+    entries-moved (o e).before.requires r.start r.count r.index (own (o e)) (numbers n) n.new_vertex-moved.ensures (passed (m e).before.before) (m e).make_move-size.result (m e).make_move-size.new.entries (m e).make_move-size.ensures c.if-size-ne0.false
 
 -- and with the largest component
 long : (c : After-move_largest) → 193 ≤ length c.move_largest.new.net
@@ -124,13 +123,13 @@ long c =
     let e = c.before.before in
     let r = (o e).own_vertex-own.result in
     let n = (m e).before.before.before.before in
-    largest-long (o e).before.requires r.start r.count r.index (own (o e)) (numbers n) n.new_vertex-moved.ensures (passed (m e).before.before) (m e).make_move-size.result (m e).make_move-size.new.0 (m e).make_move-size.ensures c.if-size-ne0.false
-    c.move_largest.new.0 c.move_largest.ensures
+    largest-long (o e).before.requires r.start r.count r.index (own (o e)) (numbers n) n.new_vertex-moved.ensures (passed (m e).before.before) (m e).make_move-size.result (m e).make_move-size.new.entries (m e).make_move-size.ensures c.if-size-ne0.false
+    c.move_largest.new.net c.move_largest.ensures
 
 pub put_vertex-requires : goal.put_vertex-requires
 put_vertex-requires c =
     let l = c.before.before.before.before.before.before.before.before in
-    let fits = room (o l) in
+    let fits = room (o l.before.before) in
     let places = long l in
     (fits.0, fits.1, omega arith)
 
@@ -139,6 +138,18 @@ returns c =
     let e = c.before.before.before.before.before.before.before.before.before.before.before in
     let r = (o e).own_vertex-own.result in
     let n = (m e).before.before.before.before in
-    moved_made (o e).before.requires r.start r.count r.index (own (o e)) (numbers n) n.new_vertex-moved.ensures (passed (m e).before.before) (m e).make_move-size.result (m e).make_move-size.new.0 (m e).make_move-size.ensures c.if-size-ne0.false
-    c.move_largest.new.0 c.put_vertex.new.0 c.move_largest.ensures
-    (c.put_vertex.ensures ∙ (λ i. put_at (r.start + r.count * r.index) (take r.count (first_read n i ∷ second-read n i ∷ third-read n i ∷ [])) c.move_largest.new.0))
+    moved_made (o e).before.requires r.start r.count r.index (own (o e)) (numbers n) n.new_vertex-moved.ensures (passed (m e).before.before) (m e).make_move-size.result (m e).make_move-size.new.entries (m e).make_move-size.ensures c.if-size-ne0.false
+    c.move_largest.new.net c.put_vertex.new.net c.move_largest.ensures
+    (c.put_vertex.ensures ∙ (λ i. put_at (r.start + r.count * r.index) (take r.count (first_read n i ∷ second-read n i ∷ third-read n i ∷ [])) c.move_largest.new.net))
+
+pub overflow_mul-own : goal.overflow_mul-own
+overflow_mul-own c =
+    let r = c.own_vertex-own.result in
+    let fits = vertex-room c.requires r.start r.count r.index (c.own_vertex-own.ensures c.args.degree c.args.second) in
+    omega arith
+
+pub overflow_add-own : goal.overflow_add-own
+overflow_add-own c =
+    let r = c.own_vertex-own.result in
+    let fits = vertex-room c.requires r.start r.count r.index (c.own_vertex-own.ensures c.args.degree c.args.second) in
+    omega arith

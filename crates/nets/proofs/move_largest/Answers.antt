@@ -70,12 +70,12 @@ found c = c.entries_largest-largest.ensures ∙ ap largest_of (read c.before.bef
 pub put_largest-requires : goal.put_largest-requires
 put_largest-requires c =
     let f = c.before in
-    let n = c.before.before.before.before in
-    (c.requires.places, subst (λ l. l ≤ 281474976710656) (sym (found f)) (small n c.if1.false))
+    let n = c.before.before.before in
+    (c.requires.places, subst (λ l. l ≤ 281474976710656) (sym (found f)) (small n c.if-operation-ne1.false))
 
 pub returns : goal.returns
 returns c =
     let f = c.before.before.before in
     let a = c.args in
     c.put_largest.ensures
-    ∙ ap₂ (λ l b. put_at 192 (cond b (pos l) (get_or a.net.now 192 (pos 0)) ∷ []) a.net.now) (found f) (sym (eq-eqb a.operation 1 c.if1.false))
+    ∙ ap₂ (λ l b. put_at 192 (cond b (pos l) (get_or a.net.now 192 (pos 0)) ∷ []) a.net.now) (found f) (sym (eq-eqb a.operation 1 c.if-operation-ne1.false))

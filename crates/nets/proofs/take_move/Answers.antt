@@ -38,9 +38,6 @@ After-byte_of-second = lts.After-byte_of3 tie.the-claims reads.Pre reads.Post ti
 abbrev After-judge_vertex-number : Type 0
 After-judge_vertex-number = lts.After-judge_vertex tie.the-claims reads.Pre reads.Post tie.handed_clauses
 
-abbrev After-net-1 : Type 0
-After-net-1 = lts.After-net tie.the-claims reads.Pre reads.Post tie.handed_clauses
-
 abbrev Else-not-frame_within : Type 0
 Else-not-frame_within = lts.Else4 tie.the-claims reads.Pre reads.Post tie.handed_clauses
 
@@ -57,15 +54,11 @@ abbrev move : Start → Call
 move s = Move s.args.operation s.args.vertex s.args.weights
 
 pub returns-then-net-lt-NET : goal.returns-then-net-lt-NET
-returns-then-net-lt-NET c = let s = c.before in
-    let whole = places-short (move s) c.args.net.now [] c.if-net-lt-NET.true in
+returns-then-net-lt-NET c = let whole = places-short (move c.before) c.args.net.now [] c.if-net-lt-NET.true in
     record { number = whole.0; places = whole.1 }
 
 -- ---- the net in the places
-module _ (c : After-net-1) where
-  abbrev third : After-byte_of-second
-  third = c.before.before.before.before.before.before.before.before.before.before
-
+module _ (third : After-byte_of-second) where
   abbrev second : After-byte_of-degree
   second = third.before.before
 
@@ -105,8 +98,8 @@ returns-then-refusal-ne0 c =
     let whole = refused b c.if-refusal-ne0.true (for-the-net (stood b) (move (start b)) [] refl c.if-refusal-ne0.true c.judge_net-refusal.ensures) in
     record { number = whole.0; places = whole.1 }
 
-abbrev base : Else-refusal-ne0 → After-net-1
-base c = c
+abbrev base : Else-refusal-ne0 → After-byte_of-second
+base c = c.before.before.before
 
 passed : (c : Else-refusal-ne0) → let b = base c in first_failed (handed_tests (net_from (kind b) (degree b) (other b) (take 180 (drop 12 (start b).args.net.now)))) ≡ 0
 passed c = sym c.judge_net-refusal.ensures ∙ c.if-refusal-ne0.false
@@ -117,8 +110,8 @@ own c = let b = base c.before in c.judge_vertex-number.ensures (degree b) (other
 pub returns-then-number-ne0 : goal.returns-then-number-ne0
 returns-then-number-ne0 c =
     let j = c.before in
-    let b = base j in
-    let whole = refused b c.if-number-ne0.true (for-the-arguments (stood b) (move (start b)) [] refl (passed j) c.if-number-ne0.true (own j)) in
+    let b = base j.before in
+    let whole = refused b c.if-number-ne0.true (for-the-arguments (stood b) (move (start b)) [] refl (passed j.before) c.if-number-ne0.true (own j)) in
     record { number = whole.0; places = whole.1 }
 
 own-passed : (c : Else-number-ne0) → let b = base c.before.before in first_failed (own_tests (groups_of (kind b) (degree b) (other b)) (move (start b))) ≡ 0
@@ -126,8 +119,8 @@ own-passed c = sym (own c.before) ∙ c.if-number-ne0.false
 
 pub returns-then-not-frame_within : goal.returns-then-not-frame_within
 returns-then-not-frame_within c =
-    let e = c.before.before.before in
-    let h = c.before.before.before.before.before in
+    let e = c.before.before in
+    let h = e.before.before in
     let b = base h in
     let whole = refused b (λ none. omega arith)
     (for-the-frame (stood b) (move (start b)) [] refl (passed h) (own-passed e) (sym (c.frame_within.ensures (degree b) (other b)) ∙ not-true c.frame_within.result c.if-not-frame_within.true-raw)) in
@@ -146,11 +139,11 @@ returns c =
     let h = judged e in
     let b = base h in
     let a = (start b).args in
-    let whole = move-made (stood b) (passed h) (near e) a.operation a.vertex a.weights c.make_moved.result c.make_moved.new.0 (own-passed e) c.make_moved.ensures in
+    let whole = move-made (stood b) (passed h) (near e) a.operation a.vertex a.weights c.make_moved.result c.make_moved.new.net (own-passed e.before.before) c.make_moved.ensures in
     record { number = whole.0; places = whole.1 }
 
 pub judge_vertex-number-requires : goal.judge_vertex-number-requires
 judge_vertex-number-requires c = dimension-some (stood (base c)) (passed c)
 
 pub frame_within-requires : goal.frame_within-requires
-frame_within-requires c = let h = c.before.before.before in let places = (stood (base h)).long in (omega arith, dimension-some (stood (base h)) (passed h))
+frame_within-requires c = let h = c.before.before in let places = (stood (base h)).long in (omega arith, dimension-some (stood (base h)) (passed h))

@@ -106,9 +106,9 @@ make_later-requires c =
           let small : size 4 (later_dimension (kind s)) (q s) ≤ size (w s) (n s) (p s) =
           le_trans (le_of_eq (part-size (kind s) (p s) (q s) (right s) (frame s) (coefficients s) some a.out.now c.make_rows.new.out (places s) (rows_are m))) (le-mul_of_pos_right (w s) (counts_some (n s) (p s))) in
           record {
-            work-room = le_trans small (subst (λ k. size (w s) (n s) (p s) ≤ k) (sym c.make_rows.auto.work.0) (room_in s a.work.now c.requires.1.work-room));
-            cur-room = le_trans small (subst (λ k. size (w s) (n s) (p s) ≤ k) (sym c.make_rows.auto.work.1.0) (room_in s a.cur.now c.requires.1.cur-room));
-            base-room = le_trans small (subst (λ k. size (w s) (n s) (p s) ≤ k) (sym c.make_rows.auto.work.1.1.0) (room_in s a.base.now c.requires.1.base-room));
+            work-room = le_trans small (subst (λ k. size (w s) (n s) (p s) ≤ k) (sym c.make_rows.auto.work) (room_in s a.work.now c.requires.1.work-room));
+            cur-room = le_trans small (subst (λ k. size (w s) (n s) (p s) ≤ k) (sym c.make_rows.auto.cur) (room_in s a.cur.now c.requires.1.cur-room));
+            base-room = le_trans small (subst (λ k. size (w s) (n s) (p s) ≤ k) (sym c.make_rows.auto.base) (room_in s a.base.now c.requires.1.base-room));
           };
     }
 
@@ -132,7 +132,7 @@ made-is c = by (dec_lt 0 (later_dimension (kind s)))
 
 pub returns : goal.returns
 returns c =
-    let m = c.before.before.before.before.before.before.before.before in
-    let s = m.before.before.before.before.before.before in
-    let count = c.number_count-count in record { made = made-is m; largest = first-largest (kind s) (p s) (q s) (right s) (frame s) (coefficients s) s.args.out.now c.make_later.new.0 count.result c.entries_largest.result count.ensures.entries (made-is m)
-          (c.entries_largest.ensures ∙ ap (λ k. largest_of (take k c.make_later.new.0)) (sub-zero count.result)) }
+    let m = c.before.before.before.before.before.before.before in
+    let s = m.before.before.before.before.before.before.before.before.before.before.before.before.before.before.before.before in
+    let count = c.number_count-count in record { made = made-is m; largest = first-largest (kind s) (p s) (q s) (right s) (frame s) (coefficients s) s.args.out.now c.make_later.new.out count.result c.entries_largest.result count.ensures.entries (made-is m)
+          (c.entries_largest.ensures ∙ ap (λ k. largest_of (take k c.make_later.new.out)) (sub-zero count.result)) }
