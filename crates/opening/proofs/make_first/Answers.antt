@@ -40,4 +40,4 @@ returns c =
     (c.frame_numbers-frame.ensures ∙ ap frame_numbers c.value.ensures.bytes)
     (ap (λ l. l ++ rest) (filled zeros out c.part_from.result.now bytes c.args.layout.coefficients.start n (room k) c.part_from.ensures.bytes c.read_coefficients.ensures))
     (same_len_mid 0 (n - 0) zeros out c.read_coefficients.auto.out)
-    c.requires.0 m.result m.new.net m.ensures.0 m.ensures.1
+    c.requires.0 m.result m.new.net m.ensures.number m.ensures.places
