@@ -50,7 +50,7 @@ pub returns-then-not-four_zeros : goal.returns-then-not-four_zeros
 returns-then-not-four_zeros c =
     let z = c.before in
     let both = found-accurate (point z) (projected z)
-        (projection-is z ∙ found-by z false (not-true z.four_zeros.result c.if-not-four_zeros.true-raw)) in
+    (projection-is z ∙ found-by z false (not-true z.four_zeros.result c.if-not-four_zeros.true-raw)) in
     record { answer = both.0; accurate = both.1 }
 
 pub returns : goal.returns
@@ -58,7 +58,7 @@ returns c =
     let e = c.before in
     let z = e.before in
     let both = found-accurate (point z) (projected z)
-        (c.without_length.ensures
-        ∙ ap without_length (projection-is z)
-        ∙ found-by z true (not-false z.four_zeros.result e.if-not-four_zeros.false-raw)) in
+    (c.without_length.ensures
+    ∙ ap without_length (projection-is z)
+    ∙ found-by z true (not-false z.four_zeros.result e.if-not-four_zeros.false-raw)) in
     record { answer = both.0; accurate = both.1 }

@@ -134,5 +134,8 @@ pub returns : goal.returns
 returns c =
     let m = c.before.before.before.before.before.before.before in
     let s = m.before.before.before.before.before.before.before.before.before.before.before.before.before.before.before.before in
-    let count = c.number_count-count in record { made = made-is m; largest = first-largest (kind s) (p s) (q s) (right s) (frame s) (coefficients s) s.args.out.now c.make_later.new.out count.result c.entries_largest.result count.ensures.entries (made-is m)
-          (c.entries_largest.ensures ∙ ap (λ k. largest_of (take k c.make_later.new.out)) (sub-zero count.result)) }
+    let count = c.number_count-count in record {
+      made = made-is m;
+      largest = first-largest (kind s) (p s) (q s) (right s) (frame s) (coefficients s) s.args.out.now c.make_later.new.out count.result c.entries_largest.result count.ensures.entries (made-is m)
+          (c.entries_largest.ensures ∙ ap (λ k. largest_of (take k c.make_later.new.out)) (sub-zero count.result));
+    }

@@ -1,0 +1,8 @@
+-- `put_labelled` meets its contract: the label, then the number.
+use borrow.Author.Rules.{rules}
+use Rattle.text.proofs.Over.{first-room, then-room, in_a_row}
+use Rattle.text.proofs.words.put_labelled.Goals as goal
+
+pub returns : goal.returns
+returns c =
+    in_a_row c.put-after_label.ensures c.put_decimal.ensures c.requires

@@ -1,0 +1,11 @@
+-- `put_pair` meets its contract: two numbers after their labels, and the end of the line.
+use borrow.Author.Rules.{rules}
+use Rattle.text.proofs.Over.{first-room, then-room, in_a_row}
+use Rattle.text.proofs.words.put_pair.Goals as goal
+
+pub returns : goal.returns
+returns c =
+    let room = c.requires in
+    in_a_row c.put_labelled-after_n.ensures
+    (in_a_row c.put_labelled-after_m.ensures c.put.ensures (then-room c.put_labelled-after_n.ensures room))
+    room
