@@ -16,7 +16,12 @@ ghost use Rattle.machine.specs.Lent.{
 ghost use Rattle.opening.specs.Opening.{refusal_in, field_extent, opened_in, places_in};
 ghost use Rattle.text.specs.Text.{text_of, written_of, written_number, written_bytes, buffer_of};
 ghost use Rattle.gadwemosh.specs.Calls.{move_call, point_call};
-ghost use Rattle.gadwemosh.specs.Projections.{projection_returned, found_returned, AccuratePatterns, AccurateFound};
+ghost use Rattle.gadwemosh.specs.Projections.{
+  projection_returned,
+  found_returned,
+  AccuratePatterns,
+  AccurateFound,
+};
 
 // Opens a record: its first net goes into the lent places, or nothing does, and `offset` is that of the
 // refusal.
@@ -94,8 +99,8 @@ pub extern "C" fn gadwemosh_point(
 }
 
 // Projects four numbers: `outcome` is 1 for a finite point, whose three bit patterns go into `bits`, 2 for a
-// direction, whose three numbers go into `direction` with its length behind them, and 3 for nowhere. A refusal
-// has outcome 0. What is not written stays.
+// direction, whose three numbers go into `direction` with its length behind them, and 3 for nowhere. A
+// refusal has outcome 0. What is not written stays.
 #[unsafe(no_mangle)]
 pub extern "C" fn gadwemosh_project(
     x: i64,
@@ -107,9 +112,11 @@ pub extern "C" fn gadwemosh_project(
     direction: &mut [i64],
 ) -> u8
     ensures number { result ≡ (projection_returned (projection_of x y z w) bits.old direction.old).number }
-    ensures outcome { outcome.new ≡ (projection_returned (projection_of x y z w) bits.old direction.old).outcome }
+    ensures outcome { outcome.new
+        ≡ (projection_returned (projection_of x y z w) bits.old direction.old).outcome }
     ensures bits { bits.new ≡ (projection_returned (projection_of x y z w) bits.old direction.old).bits }
-    ensures direction { direction.new ≡ (projection_returned (projection_of x y z w) bits.old direction.old).direction }
+    ensures direction { direction.new
+        ≡ (projection_returned (projection_of x y z w) bits.old direction.old).direction }
     ensures accurate { AccuratePatterns (four x y z w) outcome.new bits.new }
 {
     gadwemosh::gadwemosh_project(x, y, z, w, outcome, bits, direction)
