@@ -3,7 +3,7 @@
  *
  * TO BUILD, in the repository (Linux, x86-64):
  *
- *     rt staticlib gadwemosh
+ *     tools/build gadwemosh
  *     gcc -std=c11 -O2 -Iinclude your.c target/staticlib/libgadwemosh.a -o your
  *
  * tests/callers/circle.c is a program to begin with. The library needs nothing but memcpy and memset of the

@@ -1,6 +1,6 @@
 //! Links the static library `libgadwemosh.a`. It is looked for in the folder that the environment variable
 //! GADWEMOSH_LIBRARY names (cargo reads a relative path from this package's folder), and without it in
-//! `target/staticlib` of the repository, where `rt staticlib gadwemosh` writes it.
+//! `target/staticlib` of the repository, where `tools/build gadwemosh` writes it.
 
 use std::env;
 use std::path::{absolute, Path, PathBuf};
@@ -17,7 +17,7 @@ fn main() -> Result<(), String> {
     println!("cargo::rerun-if-changed={}", library.display());
     if !library.is_file() {
         return Err(format!(
-            "there is no {}: run `rt staticlib gadwemosh` in the repository, or name the library's folder in \
+            "there is no {}: run `tools/build gadwemosh` in the repository, or name the library's folder in \
              GADWEMOSH_LIBRARY",
             library.display()
         ));

@@ -122,12 +122,11 @@ patterns-found found bits direction = by (leb 8 (length found))
     by true = returned-accurate p at bits direction (accurate-found (four_at 0 found) p)
     by false = never
 
--- the clauses with that of the bound
-pub with_bound : {number outcome : ℕ} {bits : List ℕ} {direction : List ℤ} {r : ProjectionReturned} (p : Four)
-    → AccuratePatterns p r.outcome r.bits → Projects number outcome bits direction r
-    → (number ≡ r.number) × ((outcome ≡ r.outcome) × ((bits ≡ r.bits) × ((direction ≡ r.direction) × AccuratePatterns p outcome bits)))
-with_bound {outcome = outcome} {r = r} p h (a, (b, (c, d))) =
-    (a, (b, (c, (d, subst (λ z. AccuratePatterns p outcome z) (sym c) (subst (λ z. AccuratePatterns p z r.bits) (sym b) h)))))
+-- the bound on what comes back is one on what equals it
+pub bound-of : {outcome : ℕ} {bits : List ℕ} (p : Four) (r : ProjectionReturned)
+    → AccuratePatterns p r.outcome r.bits → outcome ≡ r.outcome → bits ≡ r.bits → AccuratePatterns p outcome bits
+bound-of {outcome = outcome} p r h b c =
+    subst (λ z. AccuratePatterns p outcome z) (sym c) (subst (λ z. AccuratePatterns p z r.bits) (sym b) h)
 
 -- patterns of which one is not near are not accurate, whichever it is: that of 3 ÷ 5, and its neighbour
 abbrev right : ℕ

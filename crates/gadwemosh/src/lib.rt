@@ -1,6 +1,7 @@
 // The library for callers in C and Rust: eight functions under plain names, each over one of the
 // library's own. A net is lent as 193 numbers or more, as specs/Lent.antt of the crate machine lays them
-// out. specs/Demand3.antt carries demand 3 to these functions.
+// out. specs/Demand3.antt carries demand 3 to these functions. The crate gadwemosh_c puts them into the static
+// library, by the same names and with the same clauses.
 #![tactic(auto)]
 
 mod answers;

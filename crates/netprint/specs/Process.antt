@@ -1,8 +1,19 @@
--- What netprint makes of the answers of its reads and writes: an answer about bytes that were not all read is never printed.
-use Rattle.std.specs.Prelude.{ℕ, zero, suc, ◌≡◌, Bool, true, false, List, [], ◌++◌, ℤ, pos, negsuc, length, take, drop}
+-- What netprint makes of the answers of its reads and writes: an answer about bytes that were not all read is
+-- never printed.
+use Rattle.std.specs.Prelude.{ℕ, zero, suc, ◌≤◌, ◌≡◌, Bool, true, false, List, [], ◌++◌, ℤ, pos, negsuc, length, take, drop}
 use Rattle.io.specs.Counts.{IsPrefixLen}
 use Rattle.text.specs.Text.{text_of}
 use Rattle.netprint.specs.declared.Stop.{Stop}
+
+-- a read of at most n bytes has answered how many it gave, or -1
+abbrev pub Moved : ℕ → ℤ → Type 0
+Moved n (pos k) = k ≤ n
+Moved n (negsuc k) = k ≡ 0
+
+-- how many bytes a read gave
+abbrev pub gave_bytes : ℤ → ℕ
+gave_bytes (pos n) = n
+gave_bytes (negsuc n) = 0
 
 -- a read that failed has answered -1
 abbrev pub failed : ℤ → Bool
@@ -15,7 +26,8 @@ gave (pos zero) = false
 gave (pos (suc n)) = true
 gave (negsuc n) = false
 
--- The bytes that were read are the first of the buffer, and reading does not stop after a read that gave bytes, unless the buffer is full.
+-- The bytes that were read are the first of the buffer, and reading does not stop after a read that gave bytes,
+-- unless the buffer is full.
 pub record Stopped (stop : Stop) (input : List ℕ) : Type 0 where
   pub counted : IsPrefixLen stop.bytes input
   pub full : gave stop.last ≡ true → stop.bytes ≡ length input
@@ -55,7 +67,8 @@ pub record OutputReady (stop : Stop) (input old new : List ℕ) (bytes : ℕ) : 
   pub buffer : new ≡ output_for stop input ++ drop bytes old
   pub whole : OutputOfWhole stop input
 
--- for standard error: the line `unread` where a read failed, the line `unwritten` where a write failed, else nothing
+-- for standard error: the line `unread` where a read failed, the line `unwritten` where a write failed, else
+-- nothing
 abbrev pub error_by : Bool → Bool → List ℕ → List ℕ → List ℕ
 error_by true wrote unread unwritten = unread
 error_by false true unread unwritten = []

@@ -2,30 +2,34 @@
 // that its moves reach, and its point. The text is that of write_text, whose contract says what it is.
 //
 // An answer about bytes that were not all read is never printed. No contract can say which bytes a
-// call of C's reads or writes, so nothing is decided beside such a call: `read_input` hands on what the
-// last read answered, `main` what the write answered, and `answer` and `complaint`, which read and
-// write nothing, say from these what goes to standard output and to standard error.
+// call of the system reads or writes, so nothing is decided beside such a call: `read_input` hands on
+// what the last read answered, `main` what the write answered, and `answer` and `complaint`, which read
+// and write nothing, say from these what goes to standard output and to standard error.
 //
-// Every answer of -1 is a failed call, whatever the reason, and no call is made again. The exit status
-// is 0 in each case, since a Rattle program has no other.
+// What reads and writes takes any reader or writer, and its contract names the bytes where the reader or the
+// writer says which they are. A call that fails has failed whatever the reason, and no call is made
+// again. The exit status is 0 in each case.
 #![tactic(auto)]
 
-ghost use Rattle.std.specs.Prelude.{◌≡◌, ◌-◌, ◌≤◌, length, take};
-ghost use Rattle.libc.specs.Io.{Moved};
+ghost use Rattle.std.specs.Prelude.{◌≡◌, ◌-◌, ◌<◌, ◌≤◌, pos, length, take, drop, IfSome, IsTrue};
+ghost use Rattle.std.specs.Io.KnownBytes.{Consumes, Appends, IsAtEnd};
 ghost use Rattle.text.specs.Longest.{longest_text};
 ghost use Rattle.netprint.specs.Process.{
+  Moved,
+  gave_bytes,
   Stopped,
+  ReadOf,
   failed,
   most_read,
   OutputReady,
   error_for,
 };
 
-use libc::{STDERR_FILENO, STDIN_FILENO, STDOUT_FILENO};
+use std::io::{Read, Write};
 use text::{Written, write_text};
 
 // Where reading stopped.
-#[derive(Drop)]
+#[derive(Clone, Copy)]
 struct Stop {
     // How many bytes were read.
     bytes: usize,
@@ -34,23 +38,41 @@ struct Stop {
     last: isize,
 }
 
-// One read, into the places from `done` on. The bytes before them stay.
-fn read_on(input: &mut [u8], done: usize) -> isize
+// One read, into the places from `done` on. It answers -1 where it failed, 0 at the end of the input, else
+// how many bytes it gave. The bytes before them stay. Where it is known which bytes the reader has left, it
+// gives the first of these, and at the answer 0 to one place or more none is left.
+fn read_on<R: Read>(from: &mut R, input: &mut [u8], done: usize) -> isize
     requires { done ≤ length input.old }
     ensures moved { Moved (length input.old - done) result }
     ensures kept { take done input.new ≡ take done input.old }
+    ensures bytes { Consumes (R.remaining from.old) (R.remaining from.new)
+        (take (gave_bytes result) (drop done input.new)) }
+    ensures end { result ≡ pos 0 → done < length input.old → IsAtEnd (R.remaining from.new) }
 {
-    libc::read(STDIN_FILENO, &mut input[done..])
+    match from.read(&mut input[done..]) {
+        Ok(n) => n as isize,
+        Err(_) => -1,
+    }
 }
 
-// Reads until the input ends, `input` is full or a read fails.
-fn read_input(input: &mut [u8]) -> Stop
-    ensures { Stopped result input.new }
+// How many bytes a read gave, by its answer.
+fn count(got: isize) -> usize
+    ensures { result ≡ gave_bytes got }
+{
+    if got < 0 { 0 } else { got as usize }
+}
+
+// Reads until the input ends, `input` is full or a read fails. Where it is known which bytes the reader has
+// left, these are the whole input of which what is read is a part.
+fn read_input<R: Read>(from: &mut R, input: &mut [u8]) -> Stop
+    ensures stopped { Stopped result input.new }
+    ensures read { 0 < length input.old → IfSome (R.remaining from.old)
+        (λ whole. ReadOf result input.new whole) }
 {
     let mut done = 0;
     loop {
-        let got = read_on(input, done);
-        let more = io::count(got, input);
+        let got = read_on(from, input, done);
+        let more = count(got);
         if more == 0 {
             return Stop {
                 bytes: done,
@@ -107,20 +129,34 @@ fn complaint<'a>(last: isize, wrote: bool, unread: &'a [u8], unwritten: &'a [u8]
     unwritten
 }
 
+// Writes all the bytes and answers true, or stops at the first write that takes nothing or fails, and answers
+// false. Of no bytes at all it makes no call and answers true.
+fn write_whole<W: Write>(to: &mut W, bytes: &[u8]) -> bool
+    ensures { IsTrue result → Appends (W.contents to.old) (W.contents to.new) bytes.now }
+{
+    let mut done = 0;
+    while done < bytes.len() {
+        match to.write(&bytes[done..]) {
+            Ok(n) if n > 0 => done += n,
+            _ => return false,
+        }
+    }
+    true
+}
+
 // `answer` gets the places that it demands. 2048 bytes suffice, what comes after them is not read: the text
 // of any input is that of its first bytes (crates/text/specs/Longest.antt). No text is longer than 4183
-// bytes, so write_text does not answer 11 here. Of no bytes at all io::write_all makes no call and answers
-// true.
-fn main() {
+// bytes, so write_text does not answer 11 here.
+fn main(rt: HostRuntime) {
     let mut input = [0u8; 2048];
-    let stop = read_input(&mut input);
+    let stop = read_input(&mut rt.stdin(), &mut input);
     let mut out = [0u8; 4183];
     let n = answer(stop, &input, &mut out);
-    let wrote = io::write_all(STDOUT_FILENO, &out[..n]);
+    let wrote = write_whole(&mut rt.stdout(), &out[..n]);
     let unread = b"netprint: standard input could not be read\n";
     let unwritten = b"netprint: standard output could not be written\n";
-    io::write_all(
-        STDERR_FILENO,
+    write_whole(
+        &mut rt.stderr(),
         complaint(stop.last, wrote, unread, unwritten),
     );
 }

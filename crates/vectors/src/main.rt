@@ -19,7 +19,7 @@ mod packed;
 
 use crate::compare::{Verdict, judge};
 use crate::packed::{one_byte, part, two_bytes};
-use libc::STDOUT_FILENO;
+use std::io::{Read, Write};
 
 // What came of one vector, or that there was none.
 #[derive(Drop)]
@@ -29,29 +29,39 @@ enum Outcome {
     End,
 }
 
+// Writes the bytes. A write that fails is not told: the output then lacks them.
+fn write_bytes<W: Write>(to: &mut W, bytes: &[u8]) {
+    let _ = to.write_all(bytes);
+}
+
+// Writes the number's decimal digits.
+fn write_number<W: Write>(to: &mut W, number: u64) {
+    let _ = write!(to, "{number}");
+}
+
 // Writes what stands after the label, and answers whether it is `equal`.
-fn write_verdict(v: Verdict) -> bool {
+fn write_verdict<W: Write>(to: &mut W, v: Verdict) -> bool {
     match v {
         Verdict::Equal => {
-            io::write_all(STDOUT_FILENO, b" equal\n");
+            write_bytes(to, b" equal\n");
             true
         }
         Verdict::DiffersAt(place) => {
-            io::write_all(STDOUT_FILENO, b" differs at ");
-            io::print_decimal(STDOUT_FILENO, place as u64);
-            io::write_all(STDOUT_FILENO, b"\n");
+            write_bytes(to, b" differs at ");
+            write_number(to, place as u64);
+            write_bytes(to, b"\n");
             false
         }
         Verdict::PastTheText => {
-            io::write_all(STDOUT_FILENO, b" writes past its text\n");
+            write_bytes(to, b" writes past its text\n");
             false
         }
         Verdict::ShortBuffer => {
-            io::write_all(STDOUT_FILENO, b" is not refused in a short buffer\n");
+            write_bytes(to, b" is not refused in a short buffer\n");
             false
         }
         Verdict::ExactBuffer => {
-            io::write_all(STDOUT_FILENO, b" does not fill a buffer of its length\n");
+            write_bytes(to, b" does not fill a buffer of its length\n");
             false
         }
     }
@@ -59,37 +69,42 @@ fn write_verdict(v: Verdict) -> bool {
 
 // Reads and judges one vector. No label has length 0, and a length that is not there reads as 0: so
 // a label of length 0 is the end.
-fn one_vector() -> Outcome {
+fn one_vector<R: Read, W: Write>(from: &mut R, to: &mut W) -> Outcome {
     let mut label = [0u8; 255];
-    let l = part(one_byte(), &mut label);
+    let letters = one_byte(from);
+    let l = part(from, letters, &mut label);
     if l == 0 {
         return Outcome::End;
     }
     let mut record = [0u8; 4096];
-    let r = part(two_bytes(), &mut record);
+    let bytes = two_bytes(from);
+    let r = part(from, bytes, &mut record);
     let mut expected = [0u8; 4183];
-    let e = part(two_bytes(), &mut expected);
-    io::write_all(STDOUT_FILENO, &label[..l]);
-    if write_verdict(judge(&record[..r], &expected[..e])) {
+    let bytes = two_bytes(from);
+    let e = part(from, bytes, &mut expected);
+    write_bytes(to, &label[..l]);
+    if write_verdict(to, judge(&record[..r], &expected[..e])) {
         return Outcome::Equal;
     }
     Outcome::Different
 }
 
-fn write_counts(equal: u64, different: u64) {
-    io::print_decimal(STDOUT_FILENO, equal);
-    io::write_all(STDOUT_FILENO, b" equal, ");
-    io::print_decimal(STDOUT_FILENO, different);
-    io::write_all(STDOUT_FILENO, b" different\n");
+fn write_counts<W: Write>(to: &mut W, equal: u64, different: u64) {
+    write_number(to, equal);
+    write_bytes(to, b" equal, ");
+    write_number(to, different);
+    write_bytes(to, b" different\n");
 }
 
 // Nothing says that an input ends, and a proved loop must. So the vectors are counted, and the loop
 // stops at 65536 of them.
-fn main() {
+fn main(rt: HostRuntime) {
+    let mut from = rt.stdin();
+    let mut to = rt.stdout();
     let mut equal: u64 = 0;
     let mut different: u64 = 0;
     while equal + different < 65536 {
-        match one_vector() {
+        match one_vector(&mut from, &mut to) {
             Outcome::Equal => {
                 equal += 1;
             }
@@ -101,5 +116,5 @@ fn main() {
             }
         }
     }
-    write_counts(equal, different);
+    write_counts(&mut to, equal, different);
 }

@@ -1,8 +1,8 @@
-// The parts of a vector, read from standard input however its bytes arrive.
+// The parts of a vector, read however their bytes arrive.
 ghost use Rattle.std.specs.Prelude.{◌<◌};
 ghost use Rattle.io.specs.Counts.{IsPrefixLen};
 
-use libc::STDIN_FILENO;
+use std::io::Read;
 
 fn wide(b: u8) -> usize
     ensures { result < 256 }
@@ -10,29 +10,44 @@ fn wide(b: u8) -> usize
     b as usize
 }
 
+// Reads until the buffer is full, the input ends or a read fails, and answers how many bytes it put to the
+// start of the buffer. Of an empty buffer it makes no call.
+fn read_full<R: Read>(from: &mut R, buf: &mut [u8]) -> usize
+    ensures { IsPrefixLen result buf.new }
+{
+    let mut done = 0;
+    while done < buf.len() {
+        match from.read(&mut buf[done..]) {
+            Ok(n) if n > 0 => done += n,
+            _ => return done,
+        }
+    }
+    done
+}
+
 // The next byte, or 0 where the input has ended.
-pub(crate) fn one_byte() -> usize
+pub(crate) fn one_byte<R: Read>(from: &mut R) -> usize
     ensures { result < 256 }
 {
     let mut bytes = [0u8; 1];
-    io::read_full(STDIN_FILENO, &mut bytes);
+    read_full(from, &mut bytes);
     wide(bytes[0])
 }
 
 // The number in the next two bytes, the high one first. Bytes past the end of the input count as 0.
-pub(crate) fn two_bytes() -> usize {
-    let high = one_byte();
-    let low = one_byte();
+pub(crate) fn two_bytes<R: Read>(from: &mut R) -> usize {
+    let high = one_byte(from);
+    let low = one_byte(from);
     high * 256 + low
 }
 
 // Reads n bytes to the start of the buffer and answers how many there were: fewer where the input
 // ends, and none where the buffer is too short for n.
-pub(crate) fn part(n: usize, buf: &mut [u8]) -> usize
+pub(crate) fn part<R: Read>(from: &mut R, n: usize, buf: &mut [u8]) -> usize
     ensures { IsPrefixLen result buf.new }
 {
     if buf.len() < n {
         return 0;
     }
-    io::read_full(STDIN_FILENO, &mut buf[..n])
+    read_full(from, &mut buf[..n])
 }

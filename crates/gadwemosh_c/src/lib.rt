@@ -1,0 +1,151 @@
+// The static library for callers in C and Rust, libgadwemosh.a: the eight functions of the crate gadwemosh
+// under their plain names. Each calls that crate's function of the same name and promises what that promises.
+#![tactic(auto)]
+
+mod positions;
+
+ghost use Rattle.std.specs.Prelude.{◌≡◌, []};
+ghost use Rattle.projection.specs.Projection.{four, projection_of};
+ghost use Rattle.machine.specs.Lent.{
+  made_number,
+  made_places,
+  call_number,
+  call_places,
+  call_found,
+};
+ghost use Rattle.opening.specs.Opening.{refusal_in, field_extent, opened_in, places_in};
+ghost use Rattle.text.specs.Text.{text_of, written_of, written_number, written_bytes, buffer_of};
+ghost use Rattle.gadwemosh.specs.Calls.{move_call, point_call};
+ghost use Rattle.gadwemosh.specs.Projections.{
+  projection_returned,
+  found_returned,
+  AccuratePatterns,
+  AccurateFound,
+};
+
+// Opens a record: its first net goes into the lent places, or nothing does, and `offset` is that of the
+// refusal.
+#[unsafe(no_mangle)]
+pub extern "C" fn gadwemosh_open(input: &[u8], net: &mut [i64], offset: &mut u64) -> u8
+    ensures number { result ≡ (opened_in input.now net.old).refusal.number }
+    ensures offset { offset.new ≡ (opened_in input.now net.old).refusal.offset }
+    ensures net { net.new ≡ places_in input.now net.old }
+{
+    gadwemosh::gadwemosh_open(input, net, offset)
+}
+
+// Where the value of a record's field stands: its offset and its length. Nothing, after the last byte,
+// stands where the record has no such field or is refused, or where the number is no tag. The answer is the
+// record's refusal, as `gadwemosh_open` has it with places enough.
+#[unsafe(no_mangle)]
+pub extern "C" fn gadwemosh_field(input: &[u8], tag: u8, start: &mut u64, length: &mut u64) -> u8
+    ensures number { result ≡ (refusal_in input.now).number }
+    ensures start { start.new ≡ (field_extent input.now tag).start }
+    ensures length { length.new ≡ (field_extent input.now tag).length }
+{
+    gadwemosh::gadwemosh_field(input, tag, start, length)
+}
+
+// Makes the first net of polynomials over a frame, without a record: nine numbers of a frame, of which a
+// curve takes four and a rectangular patch eight, and 180 coefficients, of which kind and degrees take the
+// first ones. Only a rectangular patch has a second degree; that of the others is 0.
+#[unsafe(no_mangle)]
+pub extern "C" fn gadwemosh_first(
+    kind: u8,
+    degree: u8,
+    second: u8,
+    frame: &[i64],
+    coefficients: &[i64],
+    net: &mut [i64],
+) -> u8
+    ensures number { result ≡ made_number kind degree second frame.now coefficients.now net.old }
+    ensures net { net.new ≡ made_places kind degree second frame.now coefficients.now net.old }
+{
+    gadwemosh::gadwemosh_first(kind, degree, second, frame, coefficients, net)
+}
+
+// Makes a move on a lent net; a refused one leaves every place as it was.
+#[unsafe(no_mangle)]
+pub extern "C" fn gadwemosh_move(
+    net: &mut [i64],
+    operation: u8,
+    vertex: u8,
+    r: i64,
+    s: i64,
+    t: i64,
+    u: i64,
+) -> u8
+    ensures number { result ≡ call_number (move_call operation vertex r s t u) net.old [] }
+    ensures net { net.new ≡ call_places (move_call operation vertex r s t u) net.old [] }
+{
+    gadwemosh::gadwemosh_move(net, operation, vertex, r, s, t, u)
+}
+
+// Finds a point on a lent net: x, y, z and w go into the first four places of `found`, and the numbers
+// projected into the four behind them.
+#[unsafe(no_mangle)]
+pub extern "C" fn gadwemosh_point(
+    net: &[i64],
+    r: i64,
+    s: i64,
+    t: i64,
+    u: i64,
+    found: &mut [i64],
+) -> u8
+    ensures number { result ≡ call_number (point_call r s t u) net.now found.old }
+    ensures found { found.new ≡ call_found (point_call r s t u) net.now found.old }
+{
+    gadwemosh::gadwemosh_point(net, r, s, t, u, found)
+}
+
+// Projects four numbers: `outcome` is 1 for a finite point, whose three bit patterns go into `bits`, 2 for a
+// direction, whose three numbers go into `direction` with its length behind them, and 3 for nowhere. A
+// refusal has outcome 0. What is not written stays.
+#[unsafe(no_mangle)]
+pub extern "C" fn gadwemosh_project(
+    x: i64,
+    y: i64,
+    z: i64,
+    w: i64,
+    outcome: &mut u8,
+    bits: &mut [u64],
+    direction: &mut [i64],
+) -> u8
+    ensures number { result ≡ (projection_returned (projection_of x y z w) bits.old direction.old).number }
+    ensures outcome { outcome.new
+        ≡ (projection_returned (projection_of x y z w) bits.old direction.old).outcome }
+    ensures bits { bits.new ≡ (projection_returned (projection_of x y z w) bits.old direction.old).bits }
+    ensures direction { direction.new
+        ≡ (projection_returned (projection_of x y z w) bits.old direction.old).direction }
+    ensures accurate { AccuratePatterns (four x y z w) outcome.new bits.new }
+{
+    gadwemosh::gadwemosh_project(x, y, z, w, outcome, bits, direction)
+}
+
+// Projects what `gadwemosh_point` found, by its eight numbers: as `gadwemosh_project` does the second four,
+// but a direction has length 1 where the first four are zeros.
+#[unsafe(no_mangle)]
+pub extern "C" fn gadwemosh_project_found(
+    found: &[i64],
+    outcome: &mut u8,
+    bits: &mut [u64],
+    direction: &mut [i64],
+) -> u8
+    ensures number { result ≡ (found_returned found.now bits.old direction.old).number }
+    ensures outcome { outcome.new ≡ (found_returned found.now bits.old direction.old).outcome }
+    ensures bits { bits.new ≡ (found_returned found.now bits.old direction.old).bits }
+    ensures direction { direction.new ≡ (found_returned found.now bits.old direction.old).direction }
+    ensures accurate { AccurateFound found.now outcome.new bits.new }
+{
+    gadwemosh::gadwemosh_project_found(found, outcome, bits, direction)
+}
+
+// Writes the text of a record; `length` is how many bytes it has, and 0 where the buffer is too short.
+#[unsafe(no_mangle)]
+pub extern "C" fn gadwemosh_text(input: &[u8], out: &mut [u8], length: &mut u64) -> u8
+    ensures number { result ≡ written_number (written_of (text_of input.now) out.old) }
+    ensures length { length.new ≡ written_bytes (written_of (text_of input.now) out.old) }
+    ensures buffer { out.new ≡ buffer_of (text_of input.now) out.old }
+{
+    gadwemosh::gadwemosh_text(input, out, length)
+}

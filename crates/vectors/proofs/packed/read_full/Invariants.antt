@@ -1,0 +1,10 @@
+-- `read_full`: what was read lies within the buffer. A read that gives bytes leaves fewer places, so the reads
+-- end.
+use Rattle.std.proofs.Common.{◌-◌, ◌≤◌, length}
+use Rattle.vectors.proofs.packed.read_full.Given as goal
+
+abbrev pub invariant-loop-done : goal.invariant-loop-done
+invariant-loop-done g l = l.done ≤ length l.buf
+
+abbrev pub decreases-loop-done : goal.decreases-loop-done
+decreases-loop-done g l = length l.initial.buf - l.done
