@@ -1,7 +1,6 @@
 -- Four numbers in range that one nonzero fraction takes to four others in range are projected alike (request
 -- E7): the quotients are the same fraction, rounded once, and the same direction is left.
 use Prim.Native.Nat.{ℕ, zero, suc, ◌*◌, ◌≤◌, ◌<◌}
-use native.Mathlib.Nat as NatL
 use native.Mathlib.Omega.{arith}
 use mathlib.Core.Path.{◌≡◌, refl, sym, ap, ap₂, ◌∙◌}
 use mathlib.Core.Bool.{Bool, true, false, not, ◌&&◌, cond}

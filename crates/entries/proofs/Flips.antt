@@ -10,7 +10,7 @@ use mathlib.Core.List.{List, [], ◌∷◌, map}
 use lib.IntN.{ℤ, pos, neg_ℤ, ◌*ℤ◌}
 use lib.ListN.{length, get_or, set, drop}
 use lib.Seq.{get_or-set_other}
-use Rattle.integers.specs.Sum.{sum, upto}
+use Rattle.integers.specs.Sum.{upto}
 use Rattle.integers.proofs.Sums.{sum-cong}
 use Rattle.integers.proofs.Laws.{*ℤ-negl, *ℤ-negr}
 use Rattle.polar.specs.Groups.{Group, head, tail}

@@ -1,6 +1,6 @@
 -- What a kind with its degrees can be, where it is known: a curve of degree 1 to 10 or a patch of degree 1 to 8, the second degree 0, or a rectangular patch with both degrees
 -- from 1 to 5. `by-known` goes through these cases; every other law on known kinds is an instance of it, or a computed test over the table of kinds and degrees.
-use Prim.Native.Nat.{ℕ, zero, suc, ◌-◌, ◌≤◌, ◌<◌}
+use Prim.Native.Nat.{ℕ, zero, suc, ◌≤◌, ◌<◌}
 use native.Mathlib.Omega.{arith}
 use mathlib.Core.Path.{◌≡◌, refl, sym, subst}
 use mathlib.Core.Bool.{true, false, ◌&&◌}

@@ -14,7 +14,6 @@ use borrow.Author.Tests.{leb-true, leb-false}
 use Rattle.integers.specs.Sum.{upto}
 use Rattle.integers.specs.Largest.{largest_of}
 use Rattle.integers.proofs.Sums.{upto-below, below-upto}
-use Rattle.polar.specs.Sigma.{Point}
 use Rattle.polar.specs.Groups.{Group, counts_over, monomials_over}
 use Rattle.polar.specs.Polar.{terms}
 use Rattle.polar.proofs.Order.{all-joined}

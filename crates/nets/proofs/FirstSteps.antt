@@ -28,7 +28,7 @@ use Rattle.entries.specs.Rows.{size}
 use Rattle.entries.proofs.Lengths.{length-one, monomials-counts}
 use Rattle.entries.proofs.Listed.{length-listed, digits-below}
 use Rattle.entries.proofs.ListedOver.{length-listed-over, listed-over-cong}
-use Rattle.projection.specs.Projection.{is_zero, in_range}
+use Rattle.projection.specs.Projection.{is_zero}
 use Rattle.kinds.specs.Kinds.{group, groups_of, dimension_of, later_groups, later_dimension, known}
 use Rattle.kinds.specs.Frames.{frame_of, determinant, frame_allowed, frame_count, frames_of, frames_allowed}
 use Rattle.kinds.proofs.Limits.{UpTo, by-known, limits, groups-of, later-none, later-one, pairs-only}

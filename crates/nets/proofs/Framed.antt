@@ -1,7 +1,7 @@
 -- From coefficients to the net over a frame, group by group. The first group's net over its frame has for each entry a row of numbers, and with the first group's points held these are
 -- the coefficients of polynomials of the groups after it (entries/proofs/FirstGroup.antt); so the net over all frames is made part by part. How large the numbers grow: a form is
 -- linear in each point, so each vertex of a frame multiplies the bound by at most four times the number of vertices.
-use Prim.Native.Nat.{ℕ, zero, suc, ◌+◌, ◌*◌, ◌-◌, ◌/◌, ◌%◌, ◌^◌, ◌≤◌, ◌<◌, zero-le, suc-le-suc}
+use Prim.Native.Nat.{ℕ, zero, suc, ◌+◌, ◌*◌, ◌/◌, ◌%◌, ◌^◌, ◌≤◌, ◌<◌, zero-le, suc-le-suc}
 use native.Mathlib.Nat.{zero-add, add-zero, one-mul, mul_assoc, mul_comm, le_of_suc-le-suc, pow-succ', pow-zero, div-add-mod, mod-lt, div-lt_iff_lt-mul}
 use native.Mathlib.Omega.{arith}
 use mathlib.Core.Path.{◌≡◌, refl, sym, ap, ap₂, ◌∙◌, subst}

@@ -14,7 +14,6 @@ use lib.ListN.{get_or, take}
 use Rattle.integers.specs.Test.{within, all}
 use Rattle.integers.proofs.All.{clash, and_parts}
 use Rattle.integers.proofs.Ring.{ring, ring-rules, product-nonzero}
-use Rattle.polar.specs.Sigma.{Point}
 use Rattle.entries.specs.Frame.{combination, vertex_at, put_over}
 use Rattle.projection.specs.Projection.{is_zero, Four, FourInRange, projection_of_four, without_length, found_projection}
 use Rattle.projection.specs.declared.Projection.{Projection}

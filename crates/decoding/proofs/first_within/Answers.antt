@@ -1,9 +1,7 @@
 -- `first_within` meets its contract: after i turns the first i numbers have passed, and the first that does not settles the whole.
 use mathlib.Core.Bool.{true}
 use mathlib.Core.Path.{◌≡◌, sym, ◌∙◌, ap}
-use Prim.Native.Nat.{ℕ, ◌-◌, ◌≤◌, ◌<◌}
 use native.Mathlib.Omega.{arith}
-use borrow.Author.Rules.{rules}
 use borrow.Author.Tests.{not-true, not-false}
 use Rattle.integers.specs.Test.{within}
 use Rattle.decoding.specs.Numbers.{number_at}

@@ -1,13 +1,9 @@
 -- `first_within` meets its contract: after i turns the first i numbers have passed, and the first that does not settles the whole.
 use mathlib.Core.Bool.{true}
-use mathlib.Core.Path.{◌≡◌, sym, ◌∙◌, ap}
+use mathlib.Core.Path.{◌≡◌}
 use Prim.Native.Nat.{ℕ, ◌-◌, ◌≤◌, ◌<◌}
-use native.Mathlib.Omega.{arith}
-use borrow.Author.Rules.{rules}
-use borrow.Author.Tests.{not-true, not-false}
 use Rattle.integers.specs.Test.{within}
 use Rattle.decoding.specs.Numbers.{number_at}
-use Rattle.decoding.proofs.Numbers.{number-there, one_further, each-passes, one-fails}
 use Rattle.decoding.proofs.first_within.Given as goal
 
 abbrev pub invariant-loop-i : goal.invariant-loop-i

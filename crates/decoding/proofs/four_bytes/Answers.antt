@@ -3,7 +3,6 @@ use mathlib.Core.Path.{sym, ◌∙◌, ap₂}
 use Prim.Native.Nat.{ℕ, ◌+◌, ◌*◌}
 use native.Mathlib.Omega.{arith}
 use Rattle.decoding.proofs.Numbers as numbers
-use borrow.Author.Rules.{rules}
 use Rattle.decoding.proofs.four_bytes.Goals as goal
 
 pub returns : goal.returns

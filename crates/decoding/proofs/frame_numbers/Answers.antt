@@ -6,7 +6,6 @@ use lib.IntN.{ℤ}
 use lib.Signed.{mag}
 use Rattle.integers.proofs.Signed.{seen, back_fits}
 use Rattle.decoding.specs.Numbers.{numbers_to, frame_numbers}
-use borrow.Author.Rules.{rules}
 use Rattle.decoding.proofs.frame_numbers.Goals as goal
 
 read : {z w : ℤ} → mag z < 2 ^ 63 → z ≡ w → seen z ≡ w

@@ -4,7 +4,6 @@ use native.Mathlib.Omega.{arith}
 use Rattle.integers.proofs.Signed.{back_fits}
 use Rattle.decoding.proofs.Numbers.{number-there, number-lacking}
 use Rattle.decoding.specs.Numbers.{twos_complement}
-use borrow.Author.Rules.{rules}
 use Rattle.decoding.proofs.long_at.Goals as goal
 
 pub returns-then-part-k : goal.returns-then-part-k

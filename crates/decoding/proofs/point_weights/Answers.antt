@@ -2,7 +2,6 @@
 use mathlib.Core.Path.{◌∙◌}
 use Rattle.integers.proofs.Signed.{back_fits}
 use Rattle.decoding.specs.Moves.{weights_of}
-use borrow.Author.Rules.{rules}
 use Rattle.decoding.proofs.point_weights.Goals as goal
 
 pub returns : goal.returns

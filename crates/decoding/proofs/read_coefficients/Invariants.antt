@@ -1,13 +1,9 @@
 -- `read_coefficients` meets its contract: after i turns each place below i holds its number, and the places are as many as before.
-use mathlib.Core.Path.{◌≡◌, refl, ◌∙◌, ap}
+use mathlib.Core.Path.{◌≡◌}
 use Prim.Native.Nat.{ℕ, ◌-◌, ◌≤◌, ◌<◌}
-use native.Mathlib.Omega.{arith}
-use borrow.Author.Rules.{rules}
 use lib.IntN.{pos}
-use lib.ListN.{length, get_or, length-set}
-use Rattle.integers.proofs.Signed.{seen, back_fits}
-use Rattle.decoding.proofs.Numbers.{one_more, numbers_to-by}
-use Rattle.decoding.specs.Numbers.{number_at, numbers_to}
+use lib.ListN.{length, get_or}
+use Rattle.decoding.specs.Numbers.{number_at}
 use Rattle.decoding.proofs.read_coefficients.Given as goal
 
 abbrev pub invariant-loop-i : goal.invariant-loop-i

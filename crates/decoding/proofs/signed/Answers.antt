@@ -1,8 +1,6 @@
 -- `signed` meets its contract: moved up by half and round, a number of the lower half comes to lie above half and one of the upper half below it; and all
 -- fits its type since half is at most 2 ^ 31.
-use native.Mathlib.Omega.{arith}
-use Rattle.decoding.proofs.Bits.{round-low, moved-fits, moved-read}
-use borrow.Author.Rules.{rules}
+use Rattle.decoding.proofs.Bits.{moved-read}
 use Rattle.decoding.proofs.signed.Goals as goal
 
 pub returns : goal.returns

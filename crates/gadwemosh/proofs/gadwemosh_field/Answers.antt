@@ -1,5 +1,4 @@
 -- `gadwemosh_field` meets its contract: the record is opened in 193 places, which are enough, so that its refusal and its layout are those of the bytes.
-use borrow.Author.Rules.{rules}
 use mathlib.Core.Path.{refl, ap, ◌∙◌}
 use lib.IntN.{pos}
 use lib.ListN.{replicate}

@@ -1,6 +1,6 @@
 -- `along_row` meets its contract: a number up to 4 times a minor up to 32 is at most 128, and three of these fit.
 use native.Mathlib.Omega.{arith}
-use Rattle.kinds.proofs.Determinants.{times-fits, minus-fits, row_fits, row_is}
+use Rattle.kinds.proofs.Determinants.{minus-fits, row_fits, row_is}
 use Rattle.kinds.proofs.along_row.Goals as goal
 
 pub overflow_sub-result : goal.overflow_sub-result

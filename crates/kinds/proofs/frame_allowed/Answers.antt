@@ -1,10 +1,9 @@
 -- `frame_allowed` meets its contract: the frame of each group is judged, and there are one, two or none of them.
 use borrow.Author.Rules.{rules}
 use borrow.Author.Tests.{not-true, not-false}
-use Prim.Native.Nat.{suc, ◌*◌, ◌≤◌, suc-le-suc}
-use native.Mathlib.Nat.{mul-le-mul}
+use Prim.Native.Nat.{suc, ◌*◌}
 use native.Mathlib.Omega.{arith}
-use mathlib.Core.Path.{◌≡◌, sym, ap, ap₂, ◌∙◌, subst}
+use mathlib.Core.Path.{◌≡◌, sym, ap, ap₂, ◌∙◌}
 use mathlib.Core.Bool.{Bool, true, false}
 use mathlib.Core.List.{List}
 use lib.IntN.{ℤ}
@@ -12,7 +11,7 @@ use lib.ListN.{length, take, drop, length-drop}
 use lib.Seq.{take_all}
 use Rattle.kinds.specs.Kinds.{dimension_of, later_dimension}
 use Rattle.kinds.specs.Frames.{frame_allowed}
-use Rattle.kinds.proofs.Limits.{dimension-few, pairs-only}
+use Rattle.kinds.proofs.Limits.{pairs-only}
 use Rattle.kinds.proofs.Determinants.{no-frame, first_out, no_other, other-by}
 use Rattle.kinds.proofs.frame_allowed.Goals as goal
 use Rattle.kinds.proofs.frame_allowed.Lts as lts

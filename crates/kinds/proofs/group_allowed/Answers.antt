@@ -1,12 +1,11 @@
 -- `group_allowed` meets its contract: the two tests are those of the definition, and a determinant is 0 where its bits are.
-use borrow.Author.Rules.{rules}
 use borrow.Author.Tests.{not-true, not-false}
-use Prim.Native.Nat.{ℕ, suc, ◌+◌, ◌*◌, ◌≤◌}
-use native.Mathlib.Nat.{sub-zero, mul-le-mul}
+use Prim.Native.Nat.{ℕ, suc, ◌+◌, ◌*◌}
+use native.Mathlib.Nat.{sub-zero}
 use native.Mathlib.Omega.{arith}
-use mathlib.Core.Path.{◌≡◌, sym, ap, ap₂, ◌∙◌, subst}
+use mathlib.Core.Path.{◌≡◌, sym, ap, ap₂, ◌∙◌}
 use mathlib.Core.Bool.{Bool, true, false}
-use lib.ListN.{length, take}
+use lib.ListN.{take}
 use Rattle.integers.specs.Test.{within, all}
 use Rattle.kinds.proofs.Determinants.{frame-out, frame-by}
 use Rattle.kinds.proofs.group_allowed.Goals as goal

@@ -1,5 +1,4 @@
 -- `later_count` meets its contract: four numbers to an entry of the second group where there is one; the degree is a byte, so nothing wraps.
-use borrow.Author.Rules.{rules}
 use Rattle.kinds.proofs.Counts.{later-count, no-later-count}
 use Rattle.kinds.proofs.later_count.Goals as goal
 

@@ -1,9 +1,7 @@
 -- `number_count` meets its contract, by the kind; the degrees are bytes, so nothing wraps.
-use borrow.Author.Rules.{rules}
-use native.Mathlib.Omega.{arith}
 use Prim.Native.Nat.{◌+◌, ◌*◌}
 use Rattle.kinds.specs.Kinds.{groups_of}
-use Rattle.kinds.proofs.Counts.{counted, curve-count, patch-count, rectangle-count, other-count, patch-low, rectangle-low}
+use Rattle.kinds.proofs.Counts.{counted, curve-count, patch-count, rectangle-count, other-count}
 use Rattle.kinds.proofs.number_count.Goals as goal
 
 pub returns-in-1 : goal.returns-in-1

@@ -1,14 +1,12 @@
 -- `scale` meets its contract: a kind with its degrees has the product of its groups' numbers in their rows, and no other numbers have a scale.
 use borrow.Author.Rules.{rules}
 use borrow.Author.Tests.{not-true, not-false}
-use native.Mathlib.Nat.{mul-le-mul}
-use native.Mathlib.Omega.{arith}
 use Prim.Native.Nat.{◌*◌}
 use mathlib.Core.Path.{◌≡◌, sym, ap, ap₂, ◌∙◌}
 use mathlib.Core.Bool.{Bool, true, false}
 use Rattle.kinds.specs.Kinds.{dimension_of, later_dimension, known}
 use Rattle.kinds.specs.Scales.{scale_row, at_degree}
-use Rattle.kinds.proofs.Scales.{one-read, two-read, unknown-scale, row_low}
+use Rattle.kinds.proofs.Scales.{one-read, two-read, unknown-scale}
 use Rattle.kinds.proofs.scale.Goals as goal
 use Rattle.kinds.proofs.scale.Lts as lts
 use Rattle.kinds.proofs.scale.Tie as tie

@@ -1,6 +1,5 @@
 -- `three_rows` meets its contract: the minors are up to 32, as the sum along the first row asks, and all is read back as it is.
-use borrow.Author.Rules.{rules}
-use Rattle.kinds.proofs.Determinants.{three-asks, three-read}
+use Rattle.kinds.proofs.Determinants.{three-asks}
 use Rattle.kinds.proofs.three_rows.Goals as goal
 
 pub along_row-requires : goal.along_row-requires

@@ -1,6 +1,6 @@
 -- `two_rows` meets its contract: numbers up to 4 have products up to 16, which fit.
 use native.Mathlib.Omega.{arith}
-use Rattle.kinds.proofs.Determinants.{times-fits, minus-fits, minus_is}
+use Rattle.kinds.proofs.Determinants.{minus-fits, minus_is}
 use Rattle.kinds.proofs.two_rows.Goals as goal
 
 pub overflow_sub-result : goal.overflow_sub-result

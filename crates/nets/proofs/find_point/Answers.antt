@@ -1,5 +1,4 @@
 -- `find_point` meets its contract: the tests are those of the table, in its order, and a point that passes them is found from the part that holds the entries.
-use borrow.Author.Rules.{rules}
 use borrow.Author.Tests.{le-leb, lt-leb, not-true, not-false}
 use Prim.Native.Nat.{ℕ}
 use native.Mathlib.Omega.{arith}
@@ -16,7 +15,7 @@ use Rattle.machine.specs.declared.Call.{Call}
 use Rattle.machine.specs.declared.Call.TheVariants.{Point}
 use Rattle.nets.specs.Calls.{net_from}
 use Rattle.nets.proofs.Row.{element}
-use Rattle.nets.proofs.InPlaces.{part-long, found-short, found-narrow, Stood, for-the-net, for-the-arguments, for-the-frame, found-kept, dimension-some, in_order, found-made}
+use Rattle.nets.proofs.InPlaces.{found-short, found-narrow, Stood, for-the-net, for-the-arguments, for-the-frame, found-kept, dimension-some, found-made}
 use Rattle.nets.proofs.find_point.Goals as goal
 use Rattle.nets.proofs.find_point.Lts as lts
 use Rattle.nets.proofs.find_point.Tie as tie

@@ -1,10 +1,8 @@
 -- `first_net` meets its contract: the tests are the definition's, in its order, and only the last answer follows a write.
-use borrow.Author.Rules.{rules}
 use Prim.Native.Nat.{◌≤◌}
 use native.Mathlib.Omega.{arith}
 use mathlib.Core.Path.{◌≡◌, sym, ap, ◌∙◌, subst}
 use lib.ListN.{length, take}
-use lib.Seq.{length-take-le}
 use Rattle.machine.specs.Refusals.{first_failed}
 use Rattle.machine.specs.Comparison.{Polynomials}
 use Rattle.machine.specs.Lent.{polynomials_from}

@@ -1,5 +1,4 @@
 -- `make_first` meets its contract: the rooms are long enough, the small ones where the test says so, and the others for every known kind; what is made there is the first net.
-use borrow.Author.Rules.{rules}
 use Prim.Native.Nat.{ℕ, ◌≤◌}
 use native.Mathlib.Nat.{le_trans, le_of_eq}
 use native.Mathlib.Omega.{arith}

@@ -1,24 +1,18 @@
 -- `move_largest` meets its contract: a flip leaves the number that stands there, and the largest component of a replace's entries is put.
-use borrow.Author.Rules.{rules}
 use borrow.Author.Tests.{leb-true, eq-eqb, ne_eqb}
 use Prim.Native.Nat.{ℕ, ◌+◌, ◌-◌, ◌≤◌}
-use native.Mathlib.Nat.{sub-zero}
 use native.Mathlib.Omega.{arith}
-use mathlib.Core.Path.{◌≡◌, refl, sym, ap, ap₂, ◌∙◌, subst}
-use mathlib.Core.Bool.{true, cond}
+use mathlib.Core.Path.{◌≡◌, sym, ap, ap₂, ◌∙◌, subst}
+use mathlib.Core.Bool.{cond}
 use mathlib.Core.List.{List, [], ◌∷◌}
 use lib.IntN.{ℤ, pos}
-use lib.ListN.{length, get_or, take, drop, length-drop}
+use lib.ListN.{length, get_or, take, drop}
 use Rattle.integers.specs.Largest.{largest_of}
-use Rattle.integers.specs.Test.{all}
 use Rattle.integers.proofs.Largest.{largest-within}
-use Rattle.projection.specs.Projection.{in_range}
 use Rattle.entries.specs.Entries.{number_count}
 use Rattle.kinds.specs.Kinds.{groups_of}
 use Rattle.machine.specs.Lent.{put_at}
 use Rattle.machine.proofs.Lent.{put-here}
-use Rattle.nets.specs.Rows.{Whole}
-use Rattle.nets.proofs.Steps.{entries-whole}
 use Rattle.nets.proofs.move_largest.Goals as goal
 use Rattle.nets.proofs.move_largest.Lts as lts
 use Rattle.nets.proofs.move_largest.Tie as tie

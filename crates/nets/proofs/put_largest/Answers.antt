@@ -1,5 +1,4 @@
 -- `put_largest` meets its contract: one write at a place that is there.
-use borrow.Author.Rules.{rules}
 use native.Mathlib.Omega.{arith}
 use mathlib.Core.Path.{ap, ◌∙◌}
 use mathlib.Core.List.{[], ◌∷◌}

@@ -1,5 +1,4 @@
 -- `take_move` meets its contract: the tests are those of the table, in its order, and a move that passes them is made.
-use borrow.Author.Rules.{rules}
 use borrow.Author.Tests.{not-true, not-false}
 use Prim.Native.Nat.{ℕ}
 use native.Mathlib.Omega.{arith}
@@ -20,7 +19,7 @@ use Rattle.machine.specs.declared.Call.{Call}
 use Rattle.machine.specs.declared.Call.TheVariants.{Move}
 use Rattle.nets.specs.Calls.{net_from}
 use Rattle.nets.proofs.Row.{element}
-use Rattle.nets.proofs.InPlaces.{part-long, places-short, Stood, for-the-net, for-the-arguments, for-the-frame, places-kept, dimension-some, in_order, move-made}
+use Rattle.nets.proofs.InPlaces.{places-short, Stood, for-the-net, for-the-arguments, for-the-frame, places-kept, dimension-some, move-made}
 use Rattle.nets.proofs.take_move.Goals as goal
 use Rattle.nets.proofs.take_move.Lts as lts
 use Rattle.nets.proofs.take_move.Tie as tie

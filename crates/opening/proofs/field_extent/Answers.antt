@@ -2,7 +2,6 @@
 use mathlib.Core.Path.{refl}
 use lib.IntN.{pos}
 use lib.ListN.{replicate}
-use borrow.Author.Rules.{rules}
 use Rattle.opening.proofs.Records.{extent-found}
 use Rattle.opening.proofs.field_extent.Goals as goal
 

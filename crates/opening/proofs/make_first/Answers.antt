@@ -2,7 +2,7 @@
 -- array of zeros.
 use native.Mathlib.Omega.{arith}
 use Prim.Native.Nat.{◌-◌, ◌≤◌}
-use mathlib.Core.Path.{sym, ap, ◌∙◌}
+use mathlib.Core.Path.{ap, ◌∙◌}
 use mathlib.Core.List.{◌++◌}
 use lib.IntN.{pos}
 use lib.ListN.{drop, replicate}
@@ -10,7 +10,6 @@ use borrow.Rule.Slice.PartMut.{same_len_mid}
 use Rattle.decoding.specs.Numbers.{frame_numbers}
 use Rattle.kinds.proofs.Counts.{entries_fit}
 use Rattle.opening.proofs.FirstNet.{filled, first_made}
-use borrow.Author.Rules.{rules}
 use Rattle.opening.proofs.make_first.Goals as goal
 use Rattle.opening.proofs.make_first.Lts as lts
 use Rattle.opening.proofs.make_first.Tie as tie

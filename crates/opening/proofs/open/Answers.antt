@@ -6,7 +6,6 @@ use lib.ListN.{length}
 use Rattle.machine.specs.Lent.{enough_places}
 use Rattle.records.specs.Reading.{no_fields}
 use Rattle.opening.proofs.Records.{opens-short, reading-refused, layout-known, first-refused, first_taken}
-use borrow.Author.Rules.{rules}
 use Rattle.opening.proofs.open.Goals as goal
 use Rattle.opening.proofs.open.Lts as lts
 use Rattle.opening.proofs.open.Tie as tie

@@ -1,5 +1,4 @@
 -- `bits` meets its contract: what differs from itself is the NaN, whose pattern is the constant, and what does not is no NaN.
-use borrow.Author.Rules.{rules}
 use mathlib.Core.Path.{◌≡◌, sym, ap, subst}
 use mathlib.Core.Bool.{false, not}
 use lib.Dec.{T}

@@ -1,7 +1,6 @@
 -- `divisor` meets its contract: the greatest common divisor of y and z stands for both (`gcd-cons`), and it is no larger than the numbers, so it fits.
 use mathlib.Core.Path.{◌≡◌, sym, ap, ◌∙◌, subst}
 use mathlib.Core.List.{[], ◌∷◌}
-use borrow.Author.Rules.{rules}
 use Prim.Native.Nat.{ℕ}
 use lib.IntN.{pos, nat_abs}
 use mir.Syntax.{w64}

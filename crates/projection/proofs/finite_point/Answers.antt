@@ -1,6 +1,5 @@
 -- `finite_point` meets its contract: each coordinate is what `quotient` ensures.
 use mathlib.Core.Path.{◌∙◌, ap₂}
-use borrow.Author.Rules.{rules}
 use Rattle.projection.specs.Projection.{quotient_of, coords_of}
 use Rattle.integers.proofs.Signed.{back_fits}
 use Rattle.projection.proofs.finite_point.Goals as goal

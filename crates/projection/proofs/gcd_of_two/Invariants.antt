@@ -1,12 +1,8 @@
 -- `gcd_of_two` meets its contract: the greatest common divisor of the two numbers stays as it was (`gcd-step`), and at the end it is the first (`gcd-end`).
 -- The second number is the measure.
-use mathlib.Core.Path.{◌≡◌, refl, sym, ap, ◌∙◌}
+use mathlib.Core.Path.{◌≡◌}
 use mathlib.Core.List.{[], ◌∷◌}
-use Prim.Native.Nat.{ℕ}
-use native.Mathlib.Nat.{mod-lt}
-use native.Mathlib.Omega.{arith}
 use Rattle.projection.specs.Gcd.{gcd}
-use Rattle.projection.proofs.Gcd.{gcd-end, gcd-step}
 use Rattle.projection.proofs.gcd_of_two.Given as goal
 
 abbrev pub invariant-loop-n : goal.invariant-loop-n

@@ -5,7 +5,7 @@ use lib.IntN.{ℤ}
 use lib.Ieee.{binary64, of_int, div, of_bits}
 use Rattle.projection.specs.Projection.{positive_zero, quotient_of}
 use Rattle.integers.proofs.Signed.{seen, back_fits}
-use Rattle.projection.proofs.Signed.{is-zero, not-zero, converts}
+use Rattle.projection.proofs.Signed.{is-zero, not-zero}
 use Rattle.projection.proofs.quotient.Goals as goal
 
 pub returns-then-v-eq0 : goal.returns-then-v-eq0

@@ -1,7 +1,6 @@
 -- `head_of` meets its contract: the value begins at offset 3, and is as long as the length says.
 use mathlib.Core.Path.{◌∙◌, ap, ap₂}
 use lib.ListN.{take}
-use borrow.Author.Rules.{rules}
 use Rattle.records.specs.Table.{head_in}
 use Rattle.records.specs.Reading.{head_of}
 use Rattle.records.proofs.Heads.{head-short}

@@ -1,15 +1,8 @@
 -- `length_allowed` meets its contract: each arm is the row of its field. Kind and degrees are bytes, so nothing wraps.
-use mathlib.Core.Path.{◌≡◌, ap}
-use Prim.Native.Nat.{ℕ, ◌*◌, ◌<◌}
+use Prim.Native.Nat.{◌<◌}
 use native.Mathlib.Omega.{arith}
-use lib.Dec.{eqb}
 use Rattle.kinds.proofs.Counts.{count_low, frame-few, vertices-few}
-use Rattle.records.specs.Table.{head_groups, coefficients_length}
-use borrow.Author.Rules.{rules}
 use Rattle.records.proofs.length_allowed.Goals as goal
-use Rattle.records.proofs.length_allowed.Lts as lts
-use Rattle.records.proofs.length_allowed.Tie as tie
-use Rattle.records.proofs.length_allowed.Reads as reads
 
 pub overflow_mul-result : goal.overflow_mul-result
 overflow_mul-result c = let h = c.args.head in record { fits = omega (arith, frame-few h.kind h.degree h.second, c.frame_count.ensures h.degree h.second) }

@@ -5,7 +5,6 @@ use native.Mathlib.Omega.{arith}
 use lib.ListN.{get_or}
 use Rattle.decoding.proofs.Numbers.{two_bytes}
 use Rattle.records.specs.Reading.{length_at}
-use borrow.Author.Rules.{rules}
 use Rattle.records.proofs.length_at.Goals as goal
 
 pub returns : goal.returns

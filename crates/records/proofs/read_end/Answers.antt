@@ -1,7 +1,6 @@
 -- `read_end` meets its contract: a refusal is passed on, and what is left is no field.
 use mathlib.Core.Path.{refl, ◌∙◌}
 use lib.Dec.{ltb}
-use borrow.Author.Rules.{rules}
 use borrow.Author.Tests.{eq-eqb, ne_eqb}
 use Rattle.records.specs.Reading.{missing_number, stay, read_end}
 use Rattle.records.proofs.read_end.Goals as goal

@@ -1,7 +1,6 @@
 -- `read_field` meets its contract, by the field's number.
 use mathlib.Core.Path.{sym, ◌∙◌, ap}
 use Prim.Native.Nat.{ℕ, ◌+◌}
-use borrow.Author.Rules.{rules}
 use Rattle.records.specs.Reading.{stay, extent_at}
 use Rattle.records.proofs.Slots.{goes-past, stops}
 use Rattle.records.proofs.read_field.Goals as goal

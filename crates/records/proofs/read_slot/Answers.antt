@@ -1,7 +1,6 @@
 -- `read_slot` meets its contract: a refusal is passed on; else what stands in the slot decides.
 use mathlib.Core.Path.{◌≡◌, sym, ◌∙◌, ap}
 use native.Mathlib.Omega.{arith}
-use borrow.Author.Rules.{rules}
 use Rattle.records.specs.Reading.{missing_number, stay, read_standing, read_slot}
 use Rattle.records.specs.declared.Standing.{Standing}
 use Rattle.records.proofs.Slots.{stands-there, arrives, passed_on}

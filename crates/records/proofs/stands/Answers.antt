@@ -1,7 +1,6 @@
 -- `stands` meets its contract: three bytes are left or not, and then the first of them decides.
 use mathlib.Core.Path.{refl, sym, ◌∙◌}
 use native.Mathlib.Omega.{arith}
-use borrow.Author.Rules.{rules}
 use borrow.Author.Tests.{eq-eqb, ne_eqb}
 use Rattle.records.proofs.Slots.{too_short, long-enough}
 use Rattle.records.proofs.stands.Goals as goal

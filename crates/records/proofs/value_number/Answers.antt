@@ -6,10 +6,8 @@ use Prim.Native.Nat.{ℕ, ◌*◌, ◌/◌}
 use native.Mathlib.Nat.{mul-div_right}
 use native.Mathlib.Omega.{arith}
 use lib.ListN.{length}
-use borrow.Author.Rules.{rules}
 use borrow.Author.Tests.{eqb-true}
 use Rattle.integers.specs.Test.{within, all}
-use Rattle.kinds.specs.Frames.{frames_allowed}
 use Rattle.machine.specs.Refusals.{◌else◌, first_failed}
 use Rattle.decoding.specs.Numbers.{numbers_to, number_at, coefficients_of}
 use Rattle.records.specs.Table.{head_groups, coefficient_count, coefficients_length, field_row}

@@ -1,5 +1,4 @@
 -- `make_text` meets its contract: a refused record has one line, and an accepted one has the text of its first net, its moves and its point, which has room.
-use borrow.Author.Rules.{rules}
 use Prim.Native.Nat.{ℕ, ◌≤◌}
 use native.Mathlib.Omega.{arith}
 use mathlib.Core.Path.{◌≡◌, refl, sym, ◌∙◌, subst}

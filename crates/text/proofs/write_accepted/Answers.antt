@@ -1,5 +1,4 @@
 -- `write_accepted` meets its contract: the first line, the moves, the net and the point are written one after the other, and what is left of the whole text has room each time.
-use borrow.Author.Rules.{rules}
 use Prim.Native.Nat.{ℕ}
 use native.Mathlib.Omega.{arith}
 use mathlib.Core.Path.{◌≡◌, sym, ap}

@@ -1,5 +1,4 @@
 -- `write_refusal` meets its contract: a number of a byte and an offset of 64 bits make a line that has room.
-use borrow.Author.Rules.{rules}
 use native.Mathlib.Omega.{arith}
 use mathlib.Core.Path.{sym}
 use Rattle.text.proofs.InParts.{refused-line}

@@ -1,9 +1,6 @@
 -- `write_where_it_fits` meets its contract: the text is made whole first, so a short buffer is refused before anything is written into it.
-use borrow.Author.Rules.{rules}
-use Prim.Native.Nat.{◌≤◌}
-use native.Mathlib.Omega.{arith}
 use mathlib.Core.Path.{sym}
-use lib.ListN.{length, take}
+use lib.ListN.{take}
 use lib.Seq.{length-take-le}
 use Rattle.text.specs.Text.{text_of}
 use Rattle.text.proofs.Whole.{made-front, written-short, written-whole}

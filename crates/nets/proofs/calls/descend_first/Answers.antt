@@ -1,5 +1,4 @@
 -- `descend_first` meets its contract: both ways go down the levels of rows of the same width.
-use borrow.Author.Rules.{rules}
 use Prim.Native.Nat.{ℕ}
 use mathlib.Core.Path.{◌≡◌, sym, ◌∙◌, subst}
 use mathlib.Core.Bool.{Bool}

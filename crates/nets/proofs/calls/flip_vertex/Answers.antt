@@ -1,5 +1,4 @@
 -- `flip_vertex` meets its contract: the vertex is one of the first group, whose rows it flips, or one of the second, which it flips in each part.
-use borrow.Author.Rules.{rules}
 use Prim.Native.Nat.{◌+◌, ◌-◌, ◌≤◌, ◌<◌}
 use native.Mathlib.Omega.{arith}
 use mathlib.Core.Path.{sym, ap, ◌∙◌, subst}

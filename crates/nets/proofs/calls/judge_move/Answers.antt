@@ -1,5 +1,5 @@
 -- `judge_move` meets its contract: each test of the code is a row of the table, and those of number 8 may come in any order.
-use borrow.Author.Rules.{rules, sfits_of}
+use borrow.Author.Rules.{sfits_of}
 use borrow.Author.Tests.{not-true, not-false}
 use Prim.Native.Nat.{suc, ◌≤◌}
 use native.Mathlib.Omega.{arith}

@@ -1,15 +1,14 @@
 -- `judge_net` meets its contract: the two rows of a handed net's table. A kind that is known has room for its entries in the part that is lent.
-use borrow.Author.Rules.{rules}
 use borrow.Author.Tests.{not-true, not-false}
 use mathlib.Core.Path.{◌≡◌, sym, ◌∙◌}
 use mathlib.Core.Bool.{Bool, true, false}
 use mathlib.Core.List.{[], ◌∷◌}
 use lib.ListN.{length}
-use Rattle.kinds.specs.Kinds.{groups_of, known}
+use Rattle.kinds.specs.Kinds.{known}
 use Rattle.machine.specs.Refusals.{◌else◌, first_failed}
 use Rattle.machine.specs.Nets.{handed_tests}
 use Rattle.nets.specs.Calls.{net_from}
-use Rattle.nets.proofs.Steps.{handed-unknown, handed-range, entries-long, entries-whole}
+use Rattle.nets.proofs.Steps.{handed-unknown, handed-range, entries-long}
 use Rattle.nets.proofs.calls.judge_net.Goals as goal
 use Rattle.nets.proofs.calls.judge_net.Lts as lts
 use Rattle.nets.proofs.calls.judge_net.Tie as tie

@@ -1,5 +1,4 @@
 -- `judge_pairs` meets its contract: the first weight that is outside settles it, then the first pair that is all 0.
-use borrow.Author.Rules.{rules}
 use borrow.Author.Tests.{not-true, not-false}
 use mathlib.Core.Path.{◌≡◌, refl, sym, ap, ap₂, ◌∙◌}
 use mathlib.Core.Bool.{Bool, true, false}

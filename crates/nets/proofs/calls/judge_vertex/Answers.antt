@@ -1,12 +1,11 @@
 -- `judge_vertex` meets its contract: the only group is judged; of two groups the vertex is one of the first, which is judged as if it were alone, or one past them, judged in the second group.
-use borrow.Author.Rules.{rules}
 use Prim.Native.Nat.{ℕ, suc, ◌-◌, ◌≤◌, ◌<◌}
 use native.Mathlib.Omega.{arith}
 use mathlib.Core.Path.{◌≡◌, sym, ap, ◌∙◌, subst}
 use mathlib.Core.List.{List, [], ◌∷◌}
 use Rattle.polar.specs.Groups.{Group}
 use Rattle.kinds.specs.Kinds.{group, groups_of, dimension_of, later_groups, later_dimension}
-use Rattle.kinds.proofs.Limits.{groups-some, later-none, later-one, pairs-only, dimension-few}
+use Rattle.kinds.proofs.Limits.{groups-some, later-one, pairs-only}
 use Rattle.machine.specs.Refusals.{first_failed}
 use Rattle.machine.specs.Calls.{own_tests}
 use Rattle.machine.specs.declared.Call.TheVariants.{Move}

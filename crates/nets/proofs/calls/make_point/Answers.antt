@@ -1,5 +1,4 @@
 -- `make_point` meets its contract: the room is long enough, the small one where the test says so, and the other for every known kind.
-use borrow.Author.Rules.{rules}
 use native.Mathlib.Omega.{arith}
 use Rattle.kinds.proofs.Counts.{entries_fit}
 use Rattle.nets.proofs.Made.{right}

@@ -1,6 +1,5 @@
 -- `point_in` meets its contract: the net's entries are copied into the room, the first group's levels are made there and then the second group's, and the last row begins with the
 -- point's four numbers; the numbers projected are put behind them.
-use borrow.Author.Rules.{rules}
 use borrow.Author.Tests.{not-true, not-false}
 use Prim.Native.Nat.{ℕ, ◌*◌, ◌≤◌}
 use native.Mathlib.Nat.{le_trans, le-mul_of_pos_right}

@@ -1,5 +1,4 @@
 -- `replace_saved` meets its contract: the numbers are copied, worked on in their places, and put back where one part is out of range.
-use borrow.Author.Rules.{rules}
 use Prim.Native.Nat.{ℕ, ◌+◌, ◌*◌, ◌≤◌}
 use native.Mathlib.Omega.{arith}
 use mathlib.Core.Path.{◌≡◌, sym, ap, ◌∙◌, subst}

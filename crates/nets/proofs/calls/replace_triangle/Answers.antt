@@ -1,11 +1,10 @@
 -- `replace_triangle` meets its contract: the numbers are saved, the vertex is replaced in their places, and they are put back where a named value is out of range.
-use borrow.Author.Rules.{rules}
 use Prim.Native.Nat.{◌≤◌}
 use native.Mathlib.Omega.{arith}
-use mathlib.Core.Path.{◌≡◌, sym, ◌∙◌, subst}
+use mathlib.Core.Path.{◌≡◌, ◌∙◌}
 use lib.ListN.{length}
 use Rattle.entries.specs.Rows.{size}
-use Rattle.nets.proofs.Saved.{own-starts, left-long, replaced-taken, replaced-refused}
+use Rattle.nets.proofs.Saved.{replaced-taken, replaced-refused}
 use Rattle.nets.proofs.calls.replace_triangle.Goals as goal
 use Rattle.nets.proofs.calls.replace_triangle.Lts as lts
 use Rattle.nets.proofs.calls.replace_triangle.Tie as tie

@@ -1,12 +1,11 @@
 -- `replace_vertex` meets its contract: the vertex is one of the first group, which is replaced in its rows, of four numbers where there is no second group, or one of the second, which is
 -- replaced in each part.
-use borrow.Author.Rules.{rules}
 use Prim.Native.Nat.{◌-◌, ◌≤◌, ◌<◌}
 use native.Mathlib.Omega.{arith}
 use mathlib.Core.Path.{◌≡◌, sym, ◌∙◌, subst}
 use Rattle.kinds.specs.Kinds.{dimension_of, later_dimension}
 use Rattle.kinds.proofs.Limits.{pairs-only}
-use Rattle.nets.proofs.Made.{row_numbers, row-of-four, own-only, move-low, past_two, replace-asked, replace-stepped, parts-asked, parts-stepped}
+use Rattle.nets.proofs.Made.{row_numbers, row-of-four, own-only, move-low, replace-asked, replace-stepped, parts-asked, parts-stepped}
 use Rattle.nets.proofs.calls.replace_vertex.Goals as goal
 use Rattle.nets.proofs.calls.replace_vertex.Lts as lts
 use Rattle.nets.proofs.calls.replace_vertex.Tie as tie

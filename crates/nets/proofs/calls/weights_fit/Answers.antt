@@ -1,19 +1,14 @@
 -- `weights_fit` meets its contract: a weight that is outside, or a fourth that is not 0, settles it; then the third does, by the number of vertices.
-use borrow.Author.Rules.{rules, sfits_of}
-use borrow.Author.Tests.{not-true, not-false}
+use borrow.Author.Rules.{sfits_of}
 use Prim.Native.Nat.{suc}
 use native.Mathlib.Omega.{arith}
-use mathlib.Core.Path.{◌≡◌, sym, ap, ◌∙◌}
-use mathlib.Core.Bool.{Bool, true, false, ◌&&◌}
-use lib.ListN.{drop}
+use mathlib.Core.Path.{sym, ap, ◌∙◌}
+use mathlib.Core.Bool.{◌&&◌}
 use Rattle.integers.specs.Test.{within, all}
 use Rattle.integers.proofs.All.{and_none}
-use Rattle.projection.specs.Projection.{is_zero}
-use Rattle.projection.proofs.Signed.{zero_bits, is-zero, not-zero}
+use Rattle.projection.proofs.Signed.{not-zero}
 use Rattle.machine.specs.Calls.{weight_list}
-use Rattle.nets.specs.Calls.{weights_fit}
-use Rattle.nets.proofs.Row.{element}
-use Rattle.nets.proofs.Judging.{some-not, fit-two, fit-three}
+use Rattle.nets.proofs.Judging.{some-not}
 use Rattle.nets.proofs.calls.weights_fit.Goals as goal
 
 pub returns-then-weights-ne0 : goal.returns-then-weights-ne0

@@ -1,12 +1,12 @@
 -- `coordinate_numbers` meets its contract: before an entry those in front of it are put, and after the last one the whole net.
 use Prim.Native.Nat.{◌+◌, ◌*◌, ◌-◌, ◌≤◌, ◌<◌}
 use native.Mathlib.Omega.{arith}
-use mathlib.Core.Path.{sym, subst}
+use mathlib.Core.Path.{subst}
 use Rattle.entries.specs.Rows.{size}
 use Rattle.nets.specs.Rows.{place_at}
 use Rattle.nets.specs.Coordinates.{coordinate_at}
 use Rattle.nets.proofs.Scaled.{coordinates-made}
-use Rattle.nets.proofs.Writes.{Going, at_place, going-first, going-asks, going_less, going_next, going_done}
+use Rattle.nets.proofs.Writes.{Going, at_place, going-first, going_less, going_next, going_done}
 use Rattle.nets.proofs.coordinates.coordinate_numbers.Goals as goal
 use Rattle.nets.proofs.coordinates.coordinate_numbers.Lts as lts
 use Rattle.nets.proofs.coordinates.coordinate_numbers.Tie as tie

@@ -1,7 +1,6 @@
 -- `factor` meets its contract: one division gives the quotient of the scale by the multinomial, which is no more than the scale and so fits.
-use borrow.Author.Rules.{rules}
 use Prim.Native.Nat.{◌*◌, ◌/◌, ◌≤◌, ◌<◌}
-use native.Mathlib.Nat.{le_trans, div-le_self, mul-le-mul}
+use native.Mathlib.Nat.{le_trans, div-le_self}
 use native.Mathlib.Omega.{arith}
 use mathlib.Core.Path.{◌≡◌, sym, ap, ap₂, ◌∙◌, subst}
 use lib.IntN.{pos, nat_abs}

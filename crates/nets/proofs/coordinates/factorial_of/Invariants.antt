@@ -1,10 +1,7 @@
 -- `factorial_of` meets its contract: after i turns the product is i!, which is small enough up to 10.
-use borrow.Author.Rules.{rules}
-use Prim.Native.Nat.{◌+◌, ◌-◌, ◌≤◌}
-use native.Mathlib.Omega.{arith}
-use mathlib.Core.Path.{◌≡◌, refl, ap, ◌∙◌}
+use Prim.Native.Nat.{◌-◌, ◌≤◌}
+use mathlib.Core.Path.{◌≡◌}
 use Rattle.polar.specs.Scale.{factorial}
-use Rattle.nets.proofs.Factorials.{factorial-next, factorial-up}
 use Rattle.nets.proofs.coordinates.factorial_of.Given as goal
 
 abbrev pub invariant-loop-i : goal.invariant-loop-i

@@ -1,5 +1,4 @@
 -- `factorials_of` meets its contract: the product is what the multinomial divides m! by, so it is no larger.
-use borrow.Author.Rules.{rules}
 use Prim.Native.Nat.{◌*◌, ◌≤◌}
 use native.Mathlib.Nat.{le_trans, le_of_eq}
 use native.Mathlib.Omega.{arith}

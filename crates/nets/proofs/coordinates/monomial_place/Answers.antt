@@ -1,7 +1,4 @@
 -- `monomial_place` meets its contract: h(h + 2(m − h) + 3)/2 monomials in two coordinates stand before row h.
-use borrow.Author.Rules.{rules}
-use Prim.Native.Nat.{◌+◌, ◌*◌, ◌-◌, ◌≤◌}
-use native.Mathlib.Nat.{mul-le-mul}
 use native.Mathlib.Omega.{arith}
 use mathlib.Core.Path.{◌≡◌, sym, ap, ◌∙◌}
 use Rattle.polar.specs.Order.{monomials}

@@ -1,5 +1,5 @@
 -- `put_entry` meets its contract: the place of the entry, the place of its monomial and the factor are those of its counts.
-use borrow.Author.Rules.{rules, sfits_of}
+use borrow.Author.Rules.{sfits_of}
 use Prim.Native.Nat.{ℕ, ◌+◌, ◌*◌, ◌-◌, ◌/◌, ◌≤◌, ◌<◌}
 use native.Mathlib.Nat.{le_trans, le_of_eq, lt_of_lt_of_le, mul-le-mul_left, mul-suc}
 use native.Mathlib.Omega.{arith}
@@ -8,7 +8,7 @@ use lib.IntN.{pos, nat_abs}
 use Rattle.integers.proofs.Signed.{seen, back_fits}
 use Rattle.polar.specs.Scale.{multinomial}
 use Rattle.nets.specs.Coordinates.{exponents_at, Monomial}
-use Rattle.nets.proofs.Places.{degree-below, place_inside}
+use Rattle.nets.proofs.Places.{place_inside}
 use Rattle.nets.proofs.Scaled.{exponents-within, exponents-place, entry-put}
 use Rattle.nets.proofs.coordinates.put_entry.Goals as goal
 use Rattle.nets.proofs.coordinates.put_entry.Lts as lts

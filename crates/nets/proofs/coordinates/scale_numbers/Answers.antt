@@ -1,12 +1,10 @@
 -- `scale_numbers` meets its contract: after c turns the first c numbers are written.
 use borrow.Author.Rules.{rules, sfits_of}
-use Prim.Native.Nat.{◌+◌, ◌*◌, ◌-◌, ◌≤◌}
+use Prim.Native.Nat.{◌+◌, ◌*◌, ◌-◌}
 use native.Mathlib.Omega.{arith}
-use mathlib.Core.Path.{◌≡◌, refl, sym, ap, ◌∙◌, subst}
-use lib.IntN.{pos, nat_abs, ◌*ℤ◌}
-use lib.ListN.{length, get_or, length-set}
-use mir.Syntax.{w64}
-use mir.Val.{to_z}
+use mathlib.Core.Path.{◌≡◌, refl, ap, ◌∙◌}
+use lib.IntN.{pos, ◌*ℤ◌}
+use lib.ListN.{get_or, length-set}
 use Rattle.integers.proofs.Signed.{seen, back_fits}
 use Rattle.nets.specs.Rows.{written}
 use Rattle.nets.proofs.Row.{element}

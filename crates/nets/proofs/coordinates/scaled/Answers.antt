@@ -1,11 +1,9 @@
 -- `scaled` meets its contract: the product of the two bounds fits.
 use Prim.Native.Nat.{◌*◌, ◌≤◌, ◌<◌, ◌^◌}
 use native.Mathlib.Omega.{arith}
-use mathlib.Core.Path.{sym, ap, ap₂, ◌∙◌, subst}
+use mathlib.Core.Path.{ap, ap₂, ◌∙◌}
 use lib.IntN.{ℤ, nat_abs, ◌*ℤ◌}
-use mir.Syntax.{w64}
-use mir.Val.{SFits}
-use Rattle.integers.proofs.Signed.{seen, fits-abs, back, back_fits, abs-*-le}
+use Rattle.integers.proofs.Signed.{seen, back, back_fits, abs-*-le}
 use Rattle.nets.proofs.coordinates.scaled.Goals as goal
 
 small : (a f : ℤ) → nat_abs a ≤ 281474976710656 → nat_abs f ≤ 2520 → nat_abs (a *ℤ f) < 2 ^ 63

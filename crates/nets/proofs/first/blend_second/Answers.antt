@@ -1,12 +1,7 @@
 -- `blend_second` meets its contract: after h turns there are h steps with the second vertex.
-use borrow.Author.Rules.{rules}
 use Prim.Native.Nat.{◌-◌}
 use native.Mathlib.Omega.{arith}
-use mathlib.Core.Path.{◌≡◌, ap, ◌∙◌}
-use Rattle.nets.specs.Rows.{level}
-use Rattle.nets.specs.FirstNet.{vertex_weights}
-use Rattle.nets.proofs.Places.{degree-below}
-use Rattle.nets.proofs.Through.{vertex-step, VertexSteps, steps_first, steps_next, steps-left}
+use Rattle.nets.proofs.Through.{vertex-step, steps_first, steps_next, steps-left}
 use Rattle.nets.proofs.first.blend_second.Goals as goal
 
 pub loop-h-init : goal.loop-h-init

@@ -1,12 +1,6 @@
 -- `blend_second` meets its contract: after h turns there are h steps with the second vertex.
-use borrow.Author.Rules.{rules}
 use Prim.Native.Nat.{◌-◌}
-use native.Mathlib.Omega.{arith}
-use mathlib.Core.Path.{◌≡◌, ap, ◌∙◌}
-use Rattle.nets.specs.Rows.{level}
-use Rattle.nets.specs.FirstNet.{vertex_weights}
-use Rattle.nets.proofs.Places.{degree-below}
-use Rattle.nets.proofs.Through.{vertex-step, VertexSteps, steps_first, steps_next, steps-left}
+use Rattle.nets.proofs.Through.{VertexSteps}
 use Rattle.nets.proofs.first.blend_second.Given as goal
 
 abbrev pub invariant-loop-h : goal.invariant-loop-h

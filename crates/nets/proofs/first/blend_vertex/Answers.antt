@@ -1,21 +1,19 @@
 -- `blend_vertex` meets its contract: the numbers read are the weights of the vertex.
-use borrow.Author.Rules.{rules, sfits_of}
-use Prim.Native.Nat.{ℕ, suc, pred, ◌+◌, ◌*◌, ◌≤◌, ◌<◌}
-use native.Mathlib.Nat.{le_trans, mul-le-mul}
-use native.Mathlib.Omega.{arith}
+use borrow.Author.Rules.{sfits_of}
+use Prim.Native.Nat.{pred, ◌+◌, ◌*◌}
 use mathlib.Core.Path.{◌≡◌, refl, ap, ◌∙◌}
 use mathlib.Core.Bool.{Bool, true, cond}
 use mathlib.Core.List.{List, [], ◌∷◌}
 use lib.Dec.{eqb}
 use lib.IntN.{ℤ, pos}
-use lib.ListN.{length, get_or, take}
+use lib.ListN.{get_or, take}
 use Rattle.integers.specs.Test.{within, all}
 use Rattle.integers.proofs.Signed.{seen, back_fits}
 use Rattle.entries.specs.Rows.{size}
 use Rattle.nets.specs.Rows.{blended}
 use Rattle.nets.specs.FirstNet.{vertex_weights}
 use Rattle.nets.proofs.Row.{element}
-use Rattle.nets.proofs.Through.{vertex-place, weights-read, vertex-bounded, vertex-fits}
+use Rattle.nets.proofs.Through.{weights-read, vertex-bounded, vertex-fits}
 use Rattle.nets.proofs.first.blend_vertex.Goals as goal
 use Rattle.nets.proofs.first.blend_vertex.Lts as lts
 use Rattle.nets.proofs.first.blend_vertex.Tie as tie

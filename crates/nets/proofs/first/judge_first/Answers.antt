@@ -6,12 +6,11 @@ use mathlib.Core.Path.{◌≡◌, refl, sym, ap, ◌∙◌}
 use mathlib.Core.Bool.{Bool, true}
 use lib.ListN.{take}
 use Rattle.integers.specs.Test.{within, all}
-use Rattle.kinds.specs.Kinds.{groups_of, known}
+use Rattle.kinds.specs.Kinds.{known}
 use Rattle.kinds.specs.Frames.{frames_allowed}
 use Rattle.kinds.proofs.Counts.{entries_fit}
 use Rattle.machine.specs.Comparison.{Polynomials, groups}
 use Rattle.machine.specs.Lent.{polynomials_from}
-use Rattle.nets.proofs.Steps.{entries-whole}
 use Rattle.nets.proofs.FirstSteps.{judged-by}
 use Rattle.nets.proofs.first.judge_first.Goals as goal
 use Rattle.nets.proofs.first.judge_first.Lts as lts

@@ -1,5 +1,4 @@
 -- `last_entry` meets its contract: after the steps the entry's value is at the front of `cur`.
-use borrow.Author.Rules.{rules}
 use Prim.Native.Nat.{◌-◌, ◌*◌, ◌≤◌, zero-le}
 use native.Mathlib.Nat.{le_refl, le_trans}
 use native.Mathlib.Omega.{arith}

@@ -1,5 +1,4 @@
 -- `make_in` meets its contract: the first group's net over its frame is made, then the second group's in each part of it, and what is left is the net over the frames.
-use borrow.Author.Rules.{rules}
 use Prim.Native.Nat.{ℕ, ◌≤◌, ◌<◌}
 use native.Mathlib.Nat.{sub-zero, le_trans, le_of_eq, le-mul_of_pos_right, not-suc-le-zero}
 use native.Mathlib.Omega.{arith}
@@ -18,7 +17,6 @@ use Rattle.machine.specs.Comparison.{Polynomials}
 use Rattle.machine.specs.First.{first_net}
 use Rattle.machine.specs.Lent.{put_at, polynomials_from}
 use Rattle.nets.specs.FirstNet.{Room, Framing, Spare, framed_list}
-use Rattle.nets.proofs.Steps.{entries-whole}
 use Rattle.nets.proofs.FirstMoves.{counts_some}
 use Rattle.nets.proofs.FirstSteps.{first-known, first-framed, first-within, first-framing, later-framing, part-size, one-made, two_made, first-largest}
 use Rattle.nets.proofs.first.make_in.Goals as goal

@@ -1,8 +1,5 @@
 -- `make_part` meets its contract: over the frame of the coordinates the group's net holds the polar values, so the rows made from it are those of the net over the frame.
-use borrow.Author.Rules.{rules}
-use Prim.Native.Nat.{◌≤◌}
-use mathlib.Core.Path.{sym, ◌∙◌, subst}
-use Rattle.entries.specs.Rows.{size}
+use mathlib.Core.Path.{◌∙◌}
 use Rattle.nets.specs.Coordinates.{row_polar}
 use Rattle.nets.specs.FirstNet.{framed}
 use Rattle.nets.proofs.FirstRows.{holds-polar, values_listed}

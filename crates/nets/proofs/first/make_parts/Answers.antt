@@ -1,7 +1,7 @@
 -- `make_parts` meets its contract: after k turns the first k parts are the nets over the frame, and the rooms are as long as they were.
 use borrow.Author.Rules.{rules}
 use Prim.Native.Nat.{ℕ, ◌+◌, ◌*◌, ◌-◌, ◌≤◌}
-use native.Mathlib.Nat.{le_trans, le_of_eq, mul-le-mul_left}
+use native.Mathlib.Nat.{le_of_eq}
 use native.Mathlib.Omega.{arith}
 use mathlib.Core.Path.{◌≡◌, refl, sym, ap, ◌∙◌, subst}
 use mathlib.Core.List.{List, append-nil, ◌++◌}
@@ -11,8 +11,8 @@ use lib.Seq.{drop-length}
 use Rattle.entries.specs.Rows.{size}
 use Rattle.entries.proofs.Listed.{length-listed}
 use Rattle.nets.specs.FirstNet.{framed, Framing}
-use Rattle.nets.specs.Parts.{in_parts, part_at}
-use Rattle.nets.proofs.Parts.{Turn, turn, turn_low, turn_last, part-long, parts_none, parts-kept, parts_more}
+use Rattle.nets.specs.Parts.{part_at}
+use Rattle.nets.proofs.Parts.{Turn, turn, turn_low, turn_last, part-long, parts_none, parts_more}
 use Rattle.nets.proofs.first.make_parts.Goals as goal
 use Rattle.nets.proofs.first.make_parts.Lts as lts
 use Rattle.nets.proofs.first.make_parts.Tie as tie

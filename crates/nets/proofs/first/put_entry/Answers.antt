@@ -1,5 +1,4 @@
 -- `put_entry` meets its contract: `work` gets the net's numbers, so it holds the values of every form that the net holds.
-use borrow.Author.Rules.{rules}
 use Prim.Native.Nat.{ℕ, ◌-◌, ◌≤◌, ◌<◌}
 use native.Mathlib.Nat.{le_trans}
 use native.Mathlib.Omega.{arith}
@@ -8,7 +7,6 @@ use lib.IntN.{pos}
 use lib.ListN.{length, get_or}
 use Rattle.entries.specs.Rows.{size}
 use Rattle.nets.proofs.Ranks.{size_mono}
-use Rattle.nets.proofs.Places.{spread-most}
 use Rattle.nets.proofs.Through.{small_same, holds_same}
 use Rattle.nets.proofs.FirstRows.{copied_at}
 use Rattle.nets.proofs.first.put_entry.Goals as goal

@@ -4,11 +4,11 @@ use native.Mathlib.Nat.{mul-zero}
 use native.Mathlib.Omega.{arith}
 use mathlib.Core.Path.{◌≡◌, refl, sym, ap, ◌∙◌, subst}
 use mathlib.Core.List.{◌++◌}
-use lib.ListN.{length, replicate}
+use lib.ListN.{replicate}
 use Rattle.entries.specs.Rows.{size}
 use Rattle.nets.specs.Rows.{written, place_at}
-use Rattle.nets.specs.FirstNet.{Stepping, vertex_of, Values, Holds, value_at}
-use Rattle.nets.proofs.Places.{degree-below, spread-most}
+use Rattle.nets.specs.FirstNet.{Stepping, vertex_of, value_at}
+use Rattle.nets.proofs.Places.{spread-most}
 use Rattle.nets.proofs.Through.{vertex-step, VertexSteps, steps_first, steps_next, steps-left}
 use Rattle.nets.proofs.FirstRows.{third-vertex, holds-third, entry_more}
 use Rattle.nets.proofs.first.put_row.Goals as goal

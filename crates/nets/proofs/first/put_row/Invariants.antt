@@ -1,16 +1,10 @@
 -- `put_row` meets its contract: after k turns the entries before k are made, and `cur` has k copies of the third vertex fixed.
-use Prim.Native.Nat.{suc, ◌+◌, ◌*◌, ◌-◌, ◌≤◌, ◌<◌, zero-le}
-use native.Mathlib.Nat.{mul-zero}
-use native.Mathlib.Omega.{arith}
-use mathlib.Core.Path.{◌≡◌, refl, sym, ap, ◌∙◌, subst}
-use mathlib.Core.List.{◌++◌}
-use lib.ListN.{length, replicate}
-use Rattle.entries.specs.Rows.{size}
+use Prim.Native.Nat.{◌*◌, ◌-◌, ◌≤◌}
+use mathlib.Core.Path.{◌≡◌}
+use lib.ListN.{length}
 use Rattle.nets.specs.Rows.{written, place_at}
-use Rattle.nets.specs.FirstNet.{Stepping, vertex_of, Values, Holds, value_at}
-use Rattle.nets.proofs.Places.{degree-below, spread-most}
-use Rattle.nets.proofs.Through.{vertex-step, VertexSteps, steps_first, steps_next, steps-left}
-use Rattle.nets.proofs.FirstRows.{third-vertex, holds-third, entry_more}
+use Rattle.nets.specs.FirstNet.{Values, Holds, value_at}
+use Rattle.nets.proofs.Through.{VertexSteps}
 use Rattle.nets.proofs.first.put_row.Given as goal
 
 abbrev pub invariant-loop-k : goal.invariant-loop-k

@@ -8,7 +8,7 @@ use lib.IntN.{pos}
 use lib.ListN.{length, get_or, replicate}
 use Rattle.entries.specs.Rows.{size}
 use Rattle.nets.specs.Rows.{written, place_at}
-use Rattle.nets.specs.FirstNet.{Stepping, vertex_of, Values, Holds, value_at}
+use Rattle.nets.specs.FirstNet.{Stepping, vertex_of, value_at}
 use Rattle.nets.proofs.Ranks.{size_mono}
 use Rattle.nets.proofs.Places.{smaller}
 use Rattle.nets.proofs.Through.{vertex-step, VertexSteps, steps_first, small_same, holds_same}

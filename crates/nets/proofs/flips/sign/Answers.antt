@@ -1,13 +1,13 @@
 -- `sign` meets its contract: the negative of a number in range fits, and the remainder by 2 tells odd from even.
 use Prim.Native.Nat.{◌%◌, ◌≤◌, ◌<◌, ◌^◌}
 use native.Mathlib.Omega.{arith}
-use mathlib.Core.Path.{◌≡◌, sym, ap, ◌∙◌, subst}
+use mathlib.Core.Path.{◌≡◌, sym, ap, ◌∙◌}
 use mathlib.Core.Bool.{cond}
 use lib.IntN.{ℤ, pos, neg_ℤ, nat_abs, ◌-ℤ◌, +ℤ_idl}
 use mir.Syntax.{w64}
 use mir.Val.{SFits}
 use Rattle.integers.proofs.Laws.{nat_abs-neg}
-use Rattle.integers.proofs.Signed.{seen, fits-abs, back, back_fits}
+use Rattle.integers.proofs.Signed.{seen, back, back_fits}
 use Rattle.nets.proofs.Signs.{even_odd}
 use Rattle.nets.proofs.flips.sign.Goals as goal
 

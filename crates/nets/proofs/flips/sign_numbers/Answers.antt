@@ -1,11 +1,11 @@
 -- `sign_numbers` meets its contract: the numbers at and past i are as they were.
 use borrow.Author.Rules.{rules, sfits_of}
-use Prim.Native.Nat.{◌+◌, ◌*◌, ◌-◌, ◌≤◌}
+use Prim.Native.Nat.{◌*◌, ◌≤◌}
 use native.Mathlib.Nat.{sub_self, le_refl}
 use native.Mathlib.Omega.{arith}
-use mathlib.Core.Path.{◌≡◌, refl, sym, ap, ◌∙◌, subst}
+use mathlib.Core.Path.{refl, sym, ap, ◌∙◌, subst}
 use lib.IntN.{pos, nat_abs}
-use lib.ListN.{length, get_or, length-set}
+use lib.ListN.{get_or, length-set}
 use Rattle.integers.proofs.Signed.{seen, back_fits}
 use Rattle.entries.specs.Entries.{signed}
 use Rattle.nets.specs.Rows.{written}

@@ -1,9 +1,6 @@
 -- `of_three` meets its contract: three products.
-use borrow.Author.Rules.{rules}
 use Prim.Native.Nat.{◌+◌}
-use native.Mathlib.Omega.{arith}
-use mathlib.Core.Path.{◌∙◌}
-use lib.IntN.{pos, ◌+ℤ◌, ◌*ℤ◌}
+use lib.IntN.{pos}
 use lib.ListN.{get_or}
 use Rattle.integers.proofs.Signed.{back_fits}
 use Rattle.nets.proofs.Row.{element}

@@ -1,17 +1,14 @@
 -- `put_vertex` meets its contract: two or three writes, one after the other.
-use borrow.Author.Rules.{rules}
-use Prim.Native.Nat.{ℕ, suc, ◌+◌, ◌<◌}
+use Prim.Native.Nat.{suc, ◌+◌}
 use native.Mathlib.Omega.{arith}
-use mathlib.Core.Path.{◌≡◌, sym, ap, ◌∙◌, subst}
-use mathlib.Core.List.{List, [], ◌∷◌}
-use lib.IntN.{ℤ}
-use lib.ListN.{length, set, take, length-set}
-use Rattle.integers.proofs.Signed.{seen, back_fits}
+use mathlib.Core.Path.{◌≡◌, sym, ap, ◌∙◌}
+use mathlib.Core.List.{[], ◌∷◌}
+use lib.ListN.{set, take}
+use Rattle.integers.proofs.Signed.{back_fits}
 use Rattle.machine.specs.Lent.{put_at}
 use Rattle.machine.proofs.Lent.{set-put}
 use Rattle.nets.proofs.frames.put_vertex.Goals as goal
 use Rattle.nets.proofs.frames.put_vertex.Lts as lts
-use Rattle.nets.proofs.frames.put_vertex.Tie as tie
 use Rattle.nets.proofs.frames.put_vertex.Reads as reads
 
 abbrev Else-count-eq2 : Type 0

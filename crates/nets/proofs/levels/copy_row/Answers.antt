@@ -1,10 +1,10 @@
 -- `copy_row` meets its contract: after c turns the first c numbers of the row are copied.
 use borrow.Author.Rules.{rules}
-use Prim.Native.Nat.{◌+◌, ◌*◌, ◌-◌, ◌≤◌}
+use Prim.Native.Nat.{◌+◌, ◌*◌, ◌-◌}
 use native.Mathlib.Omega.{arith}
 use mathlib.Core.Path.{◌≡◌, refl, ap, ◌∙◌}
 use lib.IntN.{pos}
-use lib.ListN.{length, get_or, length-set}
+use lib.ListN.{get_or, length-set}
 use Rattle.integers.proofs.Signed.{seen}
 use Rattle.nets.specs.Rows.{written}
 use Rattle.nets.proofs.Lists.{write-more}

@@ -1,14 +1,9 @@
 -- `copy_row` meets its contract: after c turns the first c numbers of the row are copied.
-use borrow.Author.Rules.{rules}
 use Prim.Native.Nat.{◌+◌, ◌*◌, ◌-◌, ◌≤◌}
-use native.Mathlib.Omega.{arith}
-use mathlib.Core.Path.{◌≡◌, refl, ap, ◌∙◌}
+use mathlib.Core.Path.{◌≡◌}
 use lib.IntN.{pos}
-use lib.ListN.{length, get_or, length-set}
-use Rattle.integers.proofs.Signed.{seen}
+use lib.ListN.{length, get_or}
 use Rattle.nets.specs.Rows.{written}
-use Rattle.nets.proofs.Lists.{write-more}
-use Rattle.nets.proofs.Row.{element}
 use Rattle.nets.proofs.levels.copy_row.Given as goal
 
 abbrev pub invariant-loop-c : goal.invariant-loop-c

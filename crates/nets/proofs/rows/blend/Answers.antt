@@ -1,13 +1,12 @@
 -- `blend` meets its contract: with two vertices the net is one row, with three a row for each number of copies of the second and third together.
 use borrow.Author.Rules.{rules}
-use Prim.Native.Nat.{◌+◌, ◌*◌, ◌≤◌}
+use Prim.Native.Nat.{◌+◌, ◌*◌}
 use native.Mathlib.Omega.{arith}
-use mathlib.Core.Path.{◌≡◌, ap, ◌∙◌, subst}
+use mathlib.Core.Path.{◌≡◌, ap, ◌∙◌}
 use lib.IntN.{nat_abs}
-use lib.ListN.{length}
 use Rattle.integers.proofs.Signed.{seen}
 use Rattle.entries.specs.Rows.{size}
-use Rattle.nets.specs.Rows.{Bounded, Sized, weight_sum}
+use Rattle.nets.specs.Rows.{weight_sum}
 use Rattle.nets.proofs.Row.{element}
 use Rattle.nets.proofs.Ranks.{size-curve}
 use Rattle.nets.proofs.Blended.{bounded-less, curve-made, patch-made}

@@ -1,15 +1,13 @@
 -- `blend_rows` meets its contract: after i turns the first i rows are blended, `from` is where row i begins, and the numbers before it are within the limit.
 use borrow.Author.Rules.{rules}
 use borrow.Author.Tests.{not-true, not-false}
-use Prim.Native.Nat.{ℕ, ◌≤◌, ◌+◌, ◌*◌, ◌-◌}
+use Prim.Native.Nat.{ℕ, ◌≤◌, ◌+◌, ◌*◌}
 use native.Mathlib.Nat.{mul-zero, mul-le-mul_left}
 use native.Mathlib.Omega.{arith}
 use mathlib.Core.Path.{◌≡◌, refl, sym, ap, ap₂, ◌∙◌, subst}
 use mathlib.Core.Bool.{Bool, true, false}
 use lib.IntN.{pos, nat_abs}
-use lib.ListN.{length, get_or, take}
-use mir.Syntax.{w64}
-use mir.Val.{to_z}
+use lib.ListN.{length, take}
 use Rattle.integers.specs.Test.{within, all}
 use Rattle.integers.proofs.All.{clash}
 use Rattle.integers.proofs.Signed.{seen}

@@ -1,14 +1,9 @@
 -- `copy` meets its contract: after i turns the first i numbers are copied.
-use borrow.Author.Rules.{rules}
 use Prim.Native.Nat.{◌-◌, ◌≤◌}
-use native.Mathlib.Omega.{arith}
-use mathlib.Core.Path.{◌≡◌, refl, ap, ◌∙◌}
+use mathlib.Core.Path.{◌≡◌}
 use lib.IntN.{pos}
-use lib.ListN.{length, get_or, length-set}
+use lib.ListN.{length, get_or}
 use Rattle.nets.specs.Rows.{written}
-use Rattle.nets.proofs.Lists.{write-next}
-use Rattle.integers.proofs.Signed.{seen}
-use Rattle.nets.proofs.Row.{element}
 use Rattle.nets.proofs.rows.copy.Given as goal
 
 abbrev pub invariant-loop-i : goal.invariant-loop-i

@@ -11,7 +11,6 @@ use Rattle.nets.proofs.Ranks.{size-curve, size-patch}
 use Rattle.nets.proofs.Places.{degree-below}
 use Rattle.nets.proofs.rows.numbers.Goals as goal
 use Rattle.nets.proofs.rows.numbers.Lts as lts
-use Rattle.nets.proofs.rows.numbers.Tie as tie
 use Rattle.nets.proofs.rows.numbers.Reads as reads
 
 abbrev Start : Type 0

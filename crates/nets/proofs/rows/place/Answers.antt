@@ -1,7 +1,6 @@
 -- `place` meets its contract: i(i+1)/2 entries stand before row i of a triangle.
-use borrow.Author.Rules.{rules}
-use Prim.Native.Nat.{◌+◌, ◌≤◌}
-use native.Mathlib.Nat.{mul-le-mul, div-eq_of_eq-mul_right}
+use Prim.Native.Nat.{◌+◌}
+use native.Mathlib.Nat.{div-eq_of_eq-mul_right}
 use native.Mathlib.Omega.{arith}
 use mathlib.Core.Path.{◌≡◌, sym, ap, ◌∙◌}
 use lib.Dec.{lit≤}

@@ -1,23 +1,11 @@
 -- `blend_across` meets its contract: the numbers before `from` and those at and past f are as they were, so each blend is of the old numbers, and the blended ones are within
 -- the limit.
-use borrow.Author.Rules.{rules, sfits_of}
-use borrow.Author.Tests.{not-true, not-false}
-use Prim.Native.Nat.{ℕ, ◌≤◌, ◌<◌, ◌+◌, ◌-◌}
-use native.Mathlib.Nat.{sub_self}
-use native.Mathlib.Omega.{arith}
-use mathlib.Core.Path.{◌≡◌, refl, sym, ap, ap₂, ◌∙◌}
+use Prim.Native.Nat.{◌≤◌, ◌-◌}
+use mathlib.Core.Path.{◌≡◌}
 use mathlib.Core.Bool.{true}
-use lib.IntN.{ℤ, pos}
-use lib.ListN.{length, get_or, length-set}
-use mir.Syntax.{w64}
-use mir.Val.{to_z}
-use Rattle.integers.specs.Test.{within}
-use Rattle.integers.proofs.All.{clash}
-use Rattle.integers.proofs.Signed.{seen, back_fits}
+use lib.ListN.{length}
 use Rattle.nets.specs.Rows.{written, ranged}
 use Rattle.nets.specs.Sides.{mixed_across}
-use Rattle.nets.proofs.Lists.{written-outside, write-next, ranged-next, ranged-fails}
-use Rattle.nets.proofs.SideRow.{three-fit, three-value}
 use Rattle.nets.proofs.sides.blend_across.Given as goal
 
 abbrev pub invariant-loop-f : goal.invariant-loop-f

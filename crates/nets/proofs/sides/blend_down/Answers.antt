@@ -4,12 +4,9 @@ use borrow.Author.Tests.{not-true, not-false}
 use Prim.Native.Nat.{ℕ, ◌≤◌, ◌<◌, ◌-◌}
 use native.Mathlib.Nat.{sub_self}
 use native.Mathlib.Omega.{arith}
-use mathlib.Core.Path.{◌≡◌, refl, sym, ap, ap₂, ◌∙◌}
-use mathlib.Core.Bool.{true}
+use mathlib.Core.Path.{◌≡◌, refl, sym, ap, ◌∙◌}
 use lib.IntN.{ℤ, pos}
-use lib.ListN.{length, get_or, length-set}
-use mir.Syntax.{w64}
-use mir.Val.{to_z}
+use lib.ListN.{get_or, length-set}
 use Rattle.integers.specs.Test.{within}
 use Rattle.integers.proofs.All.{clash}
 use Rattle.integers.proofs.Signed.{seen, back_fits}

@@ -1,22 +1,10 @@
 -- `blend_down` meets its contract: the numbers before f are as they were, so each blend is of the old numbers, and those from f on are blended and within the limit.
-use borrow.Author.Rules.{rules, sfits_of}
-use borrow.Author.Tests.{not-true, not-false}
-use Prim.Native.Nat.{ℕ, ◌≤◌, ◌<◌, ◌-◌}
-use native.Mathlib.Nat.{sub_self}
-use native.Mathlib.Omega.{arith}
-use mathlib.Core.Path.{◌≡◌, refl, sym, ap, ap₂, ◌∙◌}
+use Prim.Native.Nat.{◌≤◌, ◌-◌}
+use mathlib.Core.Path.{◌≡◌}
 use mathlib.Core.Bool.{true}
-use lib.IntN.{ℤ, pos}
-use lib.ListN.{length, get_or, length-set}
-use mir.Syntax.{w64}
-use mir.Val.{to_z}
-use Rattle.integers.specs.Test.{within}
-use Rattle.integers.proofs.All.{clash}
-use Rattle.integers.proofs.Signed.{seen, back_fits}
+use lib.ListN.{length}
 use Rattle.nets.specs.Rows.{written, ranged}
 use Rattle.nets.specs.Sides.{mixed_down}
-use Rattle.nets.proofs.Lists.{written-outside, ranged-fails}
-use Rattle.nets.proofs.SideRow.{three-fit, three-value, write-before, range-before}
 use Rattle.nets.proofs.sides.blend_down.Given as goal
 
 abbrev pub invariant-loop-f : goal.invariant-loop-f

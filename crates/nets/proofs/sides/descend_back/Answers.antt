@@ -4,7 +4,7 @@ use borrow.Author.Tests.{not-true, not-false}
 use Prim.Native.Nat.{◌+◌, ◌*◌, ◌-◌, ◌≤◌, ◌<◌}
 use native.Mathlib.Nat.{mul-le-mul_left}
 use native.Mathlib.Omega.{arith}
-use mathlib.Core.Path.{◌≡◌, ap, ◌∙◌, subst}
+use mathlib.Core.Path.{◌≡◌, ap, subst}
 use mathlib.Core.List.{[], ◌∷◌}
 use lib.IntN.{nat_abs}
 use lib.ListN.{length}
@@ -17,7 +17,7 @@ use Rattle.nets.proofs.Row.{element}
 use Rattle.nets.proofs.Ranks.{size-curve}
 use Rattle.nets.proofs.Places.{degree-below}
 use Rattle.nets.proofs.Blended.{bounded-less}
-use Rattle.nets.proofs.SideValues.{Side, side-first, side-room, side-bounded, side-next, side-fails, side-last}
+use Rattle.nets.proofs.SideValues.{side-first, side-room, side-bounded, side-next, side-fails, side-last}
 use Rattle.nets.proofs.SideLine.{line-levelled}
 use Rattle.nets.proofs.sides.descend_back.Goals as goal
 use Rattle.nets.proofs.sides.descend_back.Lts as lts

@@ -1,7 +1,5 @@
 -- `descend_line` meets its contract, vertex by vertex. The levels of the first vertex are those of a point, which leave the new net in place.
-use borrow.Author.Rules.{rules}
-use native.Mathlib.Omega.{arith}
-use mathlib.Core.Path.{◌≡◌, sym, subst}
+use mathlib.Core.Path.{sym, subst}
 use Rattle.machine.specs.Calls.{weight_list}
 use Rattle.nets.specs.Levels.{ReplacedInPlace}
 use Rattle.nets.proofs.SideValues.{descended-replaces}

@@ -1,12 +1,7 @@
 -- `descend_second` meets its contract: after h turns every entry has as many copies of q as it had of the second vertex, but at most h, and all named values so far are in range.
-use borrow.Author.Rules.{rules}
-use borrow.Author.Tests.{not-true, not-false}
-use Prim.Native.Nat.{◌-◌, ◌<◌}
-use native.Mathlib.Omega.{arith}
-use mathlib.Core.Path.{◌∙◌}
+use Prim.Native.Nat.{◌-◌}
 use Rattle.machine.specs.Calls.{weight_list}
-use Rattle.nets.proofs.Places.{degree-below}
-use Rattle.nets.proofs.SideValues.{Side, side-first, side-room, side-bounded, side-next, side-fails, side-last}
+use Rattle.nets.proofs.SideValues.{Side}
 use Rattle.nets.proofs.sides.descend_second.Given as goal
 
 abbrev pub invariant-loop-h : goal.invariant-loop-h

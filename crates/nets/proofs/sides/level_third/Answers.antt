@@ -12,7 +12,7 @@ use Rattle.nets.specs.Rows.{weight_sum}
 use Rattle.nets.specs.Sides.{mixed_down}
 use Rattle.nets.proofs.Row.{element}
 use Rattle.nets.proofs.PatchRows.{tri, row-end}
-use Rattle.nets.proofs.SideRows.{Done, RowOf, row-start, row_room, row-least, rows_inside, third-row, done_first, done_next, done-bounded, done-beyond, done-fails, done-last}
+use Rattle.nets.proofs.SideRows.{RowOf, row-start, row_room, row-least, rows_inside, third-row, done_next, done-bounded, done-beyond, done-fails, done-last}
 use Rattle.nets.proofs.sides.level_third.Goals as goal
 use Rattle.nets.proofs.sides.level_third.Lts as lts
 use Rattle.nets.proofs.sides.level_third.Tie as tie

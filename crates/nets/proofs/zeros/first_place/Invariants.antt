@@ -1,12 +1,7 @@
 -- `first_place` meets its contract: the values before the d-th are four zeros, so what is left from it on is
 -- what is left.
-use borrow.Author.Rules.{rules}
-use borrow.Author.Tests.{not-true, not-false}
 use Prim.Native.Nat.{◌-◌}
-use native.Mathlib.Nat.{le_trans}
-use native.Mathlib.Omega.{arith}
-use mathlib.Core.Path.{sym, ◌∙◌}
-use Rattle.nets.proofs.ZeroPlaces.{Left, left-first, place-fits, left-found, left-next, left-last}
+use Rattle.nets.proofs.ZeroPlaces.{Left}
 use Rattle.nets.proofs.zeros.first_place.Given as goal
 
 abbrev pub invariant-loop-d : goal.invariant-loop-d

@@ -1,6 +1,5 @@
 -- `put_at_zero` meets its contract: in a copy of the entries one vertex is replaced by q, and the first of
 -- its entries that is not four zeros is put.
-use borrow.Author.Rules.{rules}
 use Prim.Native.Nat.{◌+◌, ◌*◌, ◌≤◌}
 use native.Mathlib.Nat.{le_trans}
 use native.Mathlib.Omega.{arith}

@@ -1,5 +1,4 @@
 -- `zeros_at` meets its contract: it is asked of the four numbers.
-use borrow.Author.Rules.{rules}
 use mathlib.Core.Path.{◌∙◌}
 use mathlib.Core.Bool.{◌&&◌}
 use lib.IntN.{pos}

@@ -1,13 +1,9 @@
 -- `put_later` meets its contract: where there is no group after the first its number has no text.
-use borrow.Author.Rules.{rules}
-use mathlib.Core.Path.{◌≡◌, sym, ◌∙◌}
-use mathlib.Core.List.{◌∷◌}
+use mathlib.Core.Path.{sym, ◌∙◌}
 use Rattle.kinds.specs.Kinds.{later_dimension}
-use Rattle.text.specs.Words.{decimal}
-use Rattle.text.specs.Parts.{later_text}
-use Rattle.text.proofs.InParts.{later-none, later-some}
+use Rattle.text.proofs.InParts.{later-none}
 use Rattle.text.proofs.Over.{nothing_written}
-use Rattle.text.proofs.Then.{room_as, wrote_as}
+use Rattle.text.proofs.Then.{wrote_as}
 use Rattle.text.proofs.kind.put_later.Goals as goal
 
 pub returns-then-later_dimension-eq0 : goal.returns-then-later_dimension-eq0

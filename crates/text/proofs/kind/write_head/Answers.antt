@@ -1,5 +1,4 @@
 -- `write_head` meets its contract: the word, the degree of each group and the scale are written one after the other.
-use borrow.Author.Rules.{rules}
 use Prim.Native.Nat.{ℕ}
 use mathlib.Core.List.{List, [], ◌∷◌, ◌++◌}
 use Rattle.kinds.specs.Kinds.{later_dimension}

@@ -1,5 +1,5 @@
 -- `write_direction` meets its contract: the word and the four numbers, as they are handed on.
-use borrow.Author.Rules.{rules, sfits_of}
+use borrow.Author.Rules.{sfits_of}
 use mathlib.Core.Path.{◌≡◌, sym}
 use mathlib.Core.List.{[], ◌∷◌, ◌++◌}
 use Rattle.integers.proofs.Signed.{seen, back_fits}

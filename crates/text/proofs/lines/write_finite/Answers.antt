@@ -1,5 +1,4 @@
 -- `write_finite` meets its contract: three bit patterns, the first after the word, and the end of the line.
-use borrow.Author.Rules.{rules}
 use Rattle.text.specs.Words.{line}
 use Rattle.text.specs.Text.{projection_line}
 use Rattle.text.proofs.Over.{first-room, then-room, in_a_row}

@@ -1,5 +1,4 @@
 -- `write_move` meets its contract: a taken move has no line, and a refused one has its two numbers.
-use borrow.Author.Rules.{rules}
 use mathlib.Core.Path.{sym}
 use Rattle.text.proofs.InParts.{move-line, move-none}
 use Rattle.text.proofs.Over.{nothing_written}

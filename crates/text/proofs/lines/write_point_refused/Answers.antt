@@ -1,5 +1,4 @@
 -- `write_point_refused` meets its contract: the words, and the number, which is a byte and so is handed on as it is.
-use borrow.Author.Rules.{rules}
 use native.Mathlib.Omega.{arith}
 use mathlib.Core.Path.{◌≡◌, sym, ap}
 use mathlib.Core.List.{[], ◌∷◌, ◌++◌}

@@ -1,5 +1,4 @@
 -- `write_projection` meets its contract, case by case: each writer's text is the line of its case.
-use borrow.Author.Rules.{rules}
 use mathlib.Core.Path.{sym, ap}
 use Rattle.text.specs.Words.{line}
 use Rattle.text.specs.Text.{projection_line}

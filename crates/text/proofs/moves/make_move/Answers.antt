@@ -1,5 +1,4 @@
 -- `make_move` meets its contract: a proper move is made on the lent places and answered by its number, and any other is refused 8 by every net that takes calls.
-use borrow.Author.Rules.{rules}
 use Rattle.text.proofs.Calls.{improper-made, proper-made}
 use Rattle.text.proofs.moves.make_move.Goals as goal
 

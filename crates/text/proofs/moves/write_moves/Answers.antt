@@ -1,16 +1,13 @@
 -- `write_moves` meets its contract: before move k, the lines and the net that the rest of the moves leave are those that all of them leave.
-use borrow.Author.Rules.{rules}
-use Prim.Native.Nat.{ℕ, ◌+◌, ◌-◌, ◌/◌}
-use native.Mathlib.Omega.{arith}
-use mathlib.Core.Path.{◌≡◌, sym, ap, ◌∙◌}
+use Prim.Native.Nat.{ℕ, ◌+◌, ◌/◌}
+use mathlib.Core.Path.{sym, ap, ◌∙◌}
 use mathlib.Core.List.{◌++◌}
 use lib.ListN.{length}
 use Rattle.machine.specs.Steps.{after, answers}
 use Rattle.machine.specs.Nets.{step_of}
 use Rattle.machine.specs.Lent.{net_at}
-use Rattle.opening.specs.Opening.{moves_of}
 use Rattle.text.specs.Text.{move_line, move_lines}
-use Rattle.text.specs.Parts.{Stands, moves_text}
+use Rattle.text.specs.Parts.{moves_text}
 use Rattle.text.proofs.Over.{first-room}
 use Rattle.text.proofs.Then.{Left, begin, left_as, left_after, left-none}
 use Rattle.text.proofs.Calls.{calls_left, lines_left, calls-all, lines_next, lines_none, after_next, after_none}

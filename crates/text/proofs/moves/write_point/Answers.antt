@@ -1,6 +1,6 @@
 -- `write_point` meets its contract: no bytes, no point; otherwise the eight places hold the point that the
 -- net answers, and its projection is the line, or the number of its refusal is.
-use borrow.Author.Rules.{rules, sfits_of}
+use borrow.Author.Rules.{sfits_of}
 use Prim.Native.Nat.{ℕ}
 use mathlib.Core.Path.{◌≡◌, refl, sym, ap, ◌∙◌}
 use mathlib.Core.List.{List}

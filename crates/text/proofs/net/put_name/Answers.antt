@@ -1,11 +1,10 @@
 -- `put_name` meets its contract, by how many vertices the group has: one number, or three with spaces between them.
-use borrow.Author.Rules.{rules}
 use mathlib.Core.Path.{sym}
 use mathlib.Core.List.{◌∷◌, ◌++◌}
 use lib.ListN.{get_or}
 use Rattle.text.specs.Words.{Room, decimal}
-use Rattle.text.proofs.InParts.{name-two, name-three}
-use Rattle.text.proofs.Over.{first-room, then-room, in_a_row}
+use Rattle.text.proofs.InParts.{name-three}
+use Rattle.text.proofs.Over.{then-room, in_a_row}
 use Rattle.text.proofs.Then.{room_as, wrote_as}
 use Rattle.text.proofs.net.put_name.Goals as goal
 use Rattle.text.proofs.net.put_name.Lts as lts

@@ -1,22 +1,16 @@
 -- `write_entries` meets its contract: before k of row h, what is left to write are the lines from the entries with these counts on, and their numbers are there for each.
-use borrow.Author.Rules.{rules}
-use Prim.Native.Nat.{ℕ, suc, ◌+◌, ◌*◌, ◌-◌, ◌≤◌, ◌<◌}
-use native.Mathlib.Nat.{mul-suc}
-use native.Mathlib.Omega.{arith}
-use mathlib.Core.Path.{◌≡◌, sym, ap, ap₂, ◌∙◌, subst}
-use mathlib.Core.List.{List, [], ◌∷◌, ◌++◌}
+use Prim.Native.Nat.{ℕ, suc, ◌+◌, ◌*◌, ◌-◌, ◌≤◌}
+use mathlib.Core.Path.{◌≡◌}
+use mathlib.Core.List.{List}
 use lib.IntN.{ℤ}
-use lib.ListN.{length, take, drop, length-drop}
-use lib.Seq.{length-take-le}
+use lib.ListN.{length, drop}
 use Rattle.polar.specs.Groups.{counts_over}
 use Rattle.entries.specs.Entries.{number_count}
 use Rattle.kinds.specs.Kinds.{groups_of, dimension_of, later_groups}
-use Rattle.kinds.proofs.Limits.{Limits, limits}
 use Rattle.text.specs.Text.{entry_lines}
-use Rattle.text.specs.Parts.{TwoOrThree, counts_at, last_of, lines_under}
-use Rattle.text.proofs.Over.{first-room}
-use Rattle.text.proofs.Then.{Left, begin, left_as, left_after, left-none}
-use Rattle.text.proofs.NetRows.{lines_none, later-long, counts-few, last-most, counts_left, after_count, left_over, count_next, same_row, next_row, entries_under, entries-whole, entries-long, count-lines}
+use Rattle.text.specs.Parts.{last_of}
+use Rattle.text.proofs.Then.{Left}
+use Rattle.text.proofs.NetRows.{counts_left, entries_under}
 use Rattle.text.proofs.net.write_entries.Given as goal
 
 -- the lines of all entries

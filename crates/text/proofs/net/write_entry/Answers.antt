@@ -1,6 +1,5 @@
 -- `write_entry` meets its contract: the first group's indices, that of the group after it, then the numbers.
-use borrow.Author.Rules.{rules}
-use Rattle.text.proofs.Over.{first-room, then-room, in_a_row}
+use Rattle.text.proofs.Over.{then-room, in_a_row}
 use Rattle.text.proofs.net.write_entry.Goals as goal
 
 pub returns : goal.returns

@@ -1,5 +1,4 @@
 -- `write_first` meets its contract: kind and degrees are read out of the places.
-use borrow.Author.Rules.{rules}
 use mathlib.Core.Path.{sym}
 use Rattle.text.proofs.Standing.{kind-there, degree-there, second-there, known-there, head-there}
 use Rattle.text.proofs.Then.{room_as, wrote_as}

@@ -1,6 +1,4 @@
 -- `write_frame` meets its contract: the kind is read out of the places, and the frame is as many numbers of them as the kind has.
-use borrow.Author.Rules.{rules}
-use Prim.Native.Nat.{◌≤◌}
 use native.Mathlib.Omega.{arith}
 use mathlib.Core.Path.{sym}
 use Rattle.kinds.proofs.Counts.{frame-few}

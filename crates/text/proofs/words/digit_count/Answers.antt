@@ -1,9 +1,7 @@
 -- `digit_count` meets its contract: what is counted and the digits of what is left are together the digits of the number, and one more.
-use Prim.Native.Nat.{suc, ◌+◌}
 use native.Mathlib.Omega.{arith}
-use mathlib.Core.Path.{◌≡◌, ap}
+use mathlib.Core.Path.{ap}
 use lib.ListN.{length}
-use Rattle.text.specs.Words.{decimal}
 use Rattle.text.proofs.Decimal.{decimal-small, length-large, length-u64}
 use Rattle.text.proofs.words.digit_count.Goals as goal
 

@@ -1,10 +1,8 @@
 -- `digit_count` meets its contract: what is counted and the digits of what is left are together the digits of the number, and one more.
 use Prim.Native.Nat.{suc, ◌+◌}
-use native.Mathlib.Omega.{arith}
-use mathlib.Core.Path.{◌≡◌, ap}
+use mathlib.Core.Path.{◌≡◌}
 use lib.ListN.{length}
 use Rattle.text.specs.Words.{decimal}
-use Rattle.text.proofs.Decimal.{decimal-small, length-large, length-u64}
 use Rattle.text.proofs.words.digit_count.Given as goal
 
 abbrev pub invariant-loop-left : goal.invariant-loop-left

@@ -1,13 +1,12 @@
 -- `put` meets its contract: after i turns the first i bytes of the word are copied in, and after the last turn the whole word.
-use borrow.Author.Rules.{rules}
-use Prim.Native.Nat.{ℕ, ◌+◌, ◌-◌, ◌≤◌}
+use Prim.Native.Nat.{ℕ, ◌+◌}
 use native.Mathlib.Nat.{le_antisymm}
 use native.Mathlib.Numerals.{add-one}
 use native.Mathlib.Omega.{arith}
-use mathlib.Core.Path.{◌≡◌, refl, sym, ap, ◌∙◌}
+use mathlib.Core.Path.{sym, ap, ◌∙◌}
 use mathlib.Core.List.{List}
-use lib.ListN.{length, get_or, set, length-set}
-use lib.Seq.{paste, paste-zero, paste-suc}
+use lib.ListN.{get_or, set, length-set}
+use lib.Seq.{paste, paste-suc}
 use Rattle.text.proofs.Over.{copied}
 use Rattle.text.proofs.words.put.Goals as goal
 

@@ -1,11 +1,10 @@
 -- `put_bits` meets its contract: a pattern of 64 bits has at most 16 digits, so `io` spells 16, and they are written after the label.
-use borrow.Author.Rules.{rules}
 use mathlib.Core.Path.{◌≡◌, sym, ap, ◌∙◌}
 use lib.Ieee.{binary64, to_bits}
-use lib.ListN.{length, take}
+use lib.ListN.{take}
 use Rattle.text.specs.Words.{hex_bits}
-use Rattle.text.proofs.Decimal.{length-hex_bits, hex-digits}
-use Rattle.text.proofs.Over.{first-room, then-room, in_a_row}
+use Rattle.text.proofs.Decimal.{hex-digits}
+use Rattle.text.proofs.Over.{then-room, in_a_row}
 use Rattle.text.proofs.Then.{room_as, wrote_as}
 use Rattle.text.proofs.words.put_bits.Goals as goal
 use Rattle.text.proofs.words.put_bits.Lts as lts

@@ -1,14 +1,8 @@
 -- `put_decimal` meets its contract: to write the digits of what is left would leave the whole number in the buffer, and each turn writes the last of them.
-use borrow.Author.Rules.{rules}
-use Prim.Native.Nat.{ℕ, suc, ◌+◌, ◌/◌, ◌≤◌, ◌<◌}
-use native.Mathlib.Nat.{mod-lt}
-use native.Mathlib.Omega.{arith}
-use mathlib.Core.Path.{◌≡◌, refl, sym, ap, ◌∙◌}
-use mathlib.Core.List.{[], ◌∷◌, ◌++◌}
-use lib.ListN.{length, set, length-set}
+use Prim.Native.Nat.{suc, ◌+◌, ◌≤◌}
+use mathlib.Core.Path.{◌≡◌}
+use lib.ListN.{length}
 use Rattle.text.specs.Words.{decimal, over}
-use Rattle.text.proofs.Over.{over_last, over-one}
-use Rattle.text.proofs.Decimal.{decimal-small, decimal-large, length_some, length-large}
 use Rattle.text.proofs.words.put_decimal.Given as goal
 
 abbrev pub invariant-loop-left : goal.invariant-loop-left

@@ -1,6 +1,5 @@
 -- `put_labelled` meets its contract: the label, then the number.
-use borrow.Author.Rules.{rules}
-use Rattle.text.proofs.Over.{first-room, then-room, in_a_row}
+use Rattle.text.proofs.Over.{in_a_row}
 use Rattle.text.proofs.words.put_labelled.Goals as goal
 
 pub returns : goal.returns

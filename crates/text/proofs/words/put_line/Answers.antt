@@ -1,6 +1,6 @@
 -- `put_line` meets its contract: before number i, what is left to write are the numbers from there on and the end of the line.
-use borrow.Author.Rules.{rules, sfits_of}
-use Prim.Native.Nat.{ℕ, ◌+◌, ◌-◌, ◌<◌}
+use borrow.Author.Rules.{sfits_of}
+use Prim.Native.Nat.{ℕ, ◌+◌, ◌<◌}
 use native.Mathlib.Numerals.{add-one}
 use mathlib.Core.Path.{◌≡◌, sym, ap, ◌∙◌}
 use mathlib.Core.List.{List, [], ◌∷◌, ◌++◌}
@@ -10,8 +10,8 @@ use lib.Seq.{drop-cons}
 use Rattle.integers.proofs.Signed.{back_fits}
 use Rattle.text.specs.Words.{signed_decimal}
 use Rattle.text.specs.Parts.{numbers_text}
-use Rattle.text.proofs.Over.{first-room, then-room, in_a_row}
-use Rattle.text.proofs.Then.{room_as, wrote_as, Left, begin, left_as, left_after, left-last}
+use Rattle.text.proofs.Over.{first-room, in_a_row}
+use Rattle.text.proofs.Then.{wrote_as, Left, left_as, left_after, left-last}
 use Rattle.text.proofs.words.put_line.Goals as goal
 use Rattle.text.proofs.words.put_line.Lts as lts
 use Rattle.text.proofs.words.put_line.Tie as tie

@@ -1,6 +1,5 @@
 -- `put_pair` meets its contract: two numbers after their labels, and the end of the line.
-use borrow.Author.Rules.{rules}
-use Rattle.text.proofs.Over.{first-room, then-room, in_a_row}
+use Rattle.text.proofs.Over.{then-room, in_a_row}
 use Rattle.text.proofs.words.put_pair.Goals as goal
 
 pub returns : goal.returns

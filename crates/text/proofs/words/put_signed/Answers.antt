@@ -1,5 +1,4 @@
 -- `put_signed` meets its contract: by the sign the text is the digits alone, or a minus sign before them.
-use borrow.Author.Rules.{rules}
 use mathlib.Core.Path.{◌≡◌, sym, ap, ◌∙◌}
 use mathlib.Core.List.{◌∷◌}
 use Rattle.integers.proofs.Signed.{seen, back_fits}
