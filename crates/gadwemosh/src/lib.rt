@@ -152,7 +152,8 @@ pub extern "C" fn gadwemosh_project_found(
     ensures direction { direction.new ≡ (found_returned found.now bits.old direction.old).direction }
     ensures accurate { AccurateFound found.now outcome.new bits.new }
 {
-    if found.len() < 8 {
+    let few = found.len() < 8;
+    if few {
         *outcome = 0;
         return SHORT;
     }

@@ -91,7 +91,8 @@ pub fn open(input: &[u8], net: &mut [i64]) -> Opened
         Reading::Fields(layout) => {
             let number = make_first(input, layout, net);
             let refusal = refusal_at(number, layout.coefficients.field);
-            if number != 0 {
+            let refused = number != 0;
+            if refused {
                 return refuse(input, refusal);
             }
             Opened { refusal, layout }

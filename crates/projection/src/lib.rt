@@ -219,7 +219,8 @@ pub fn project(x: i64, y: i64, z: i64, w: i64) -> Projection
     if !all_in_range(x, y, z, w) {
         return Projection::OutOfRange;
     }
-    if w != 0 {
+    let weighted = w != 0;
+    if weighted {
         return Projection::Finite(finite_point(x, y, z, w));
     }
     if all_zero(x, y, z) {

@@ -13,9 +13,9 @@ use Rattle.gadwemosh.specs.Projections.{projection_without_room, projection_retu
 use Rattle.gadwemosh.proofs.Places.{found-short, found-enough, patterns-found, bound-of}
 use Rattle.gadwemosh.proofs.gadwemosh_project_found.Goals as goal
 
-few : (c : goal.Then-found-lt8) → let a = c.args in
+short : (c : goal.Then-few) → let a = c.args in
     projection_without_room a.bits.now a.direction.now ≡ found_returned a.found.now a.bits.now a.direction.now
-few c = let a = c.args in found-short a.found.now a.bits.now a.direction.now c.if-found-lt8.true
+short c = let a = c.args in found-short a.found.now a.bits.now a.direction.now c.if-few.true
 
 -- what is projected is that of the eight numbers
 module _ (found : List ℤ) (bits : List ℕ) (direction : List ℤ) (p : Projection) where
@@ -23,44 +23,44 @@ module _ (found : List ℤ) (bits : List ℕ) (direction : List ℤ) (p : Projec
       → projection_returned p bits direction ≡ found_returned found bits direction
   eight is enough = ap (λ q. projection_returned q bits direction) is ∙ found-enough found bits direction enough
 
-pub returns-then-found-lt8-clause-number : goal.returns-then-found-lt8-clause-number
-returns-then-found-lt8-clause-number c = ap (λ r. r.number) (few c)
+pub returns-then-few-clause-number : goal.returns-then-few-clause-number
+returns-then-few-clause-number c = ap (λ r. r.number) (short c)
 
-pub returns-then-found-lt8-clause-outcome : goal.returns-then-found-lt8-clause-outcome
-returns-then-found-lt8-clause-outcome c = ap (λ r. r.outcome) (few c)
+pub returns-then-few-clause-outcome : goal.returns-then-few-clause-outcome
+returns-then-few-clause-outcome c = ap (λ r. r.outcome) (short c)
 
-pub returns-then-found-lt8-clause-bits : goal.returns-then-found-lt8-clause-bits
-returns-then-found-lt8-clause-bits c = ap (λ r. r.bits) (few c)
+pub returns-then-few-clause-bits : goal.returns-then-few-clause-bits
+returns-then-few-clause-bits c = ap (λ r. r.bits) (short c)
 
-pub returns-then-found-lt8-clause-direction : goal.returns-then-found-lt8-clause-direction
-returns-then-found-lt8-clause-direction c = ap (λ r. r.direction) (few c)
+pub returns-then-few-clause-direction : goal.returns-then-few-clause-direction
+returns-then-few-clause-direction c = ap (λ r. r.direction) (short c)
 
 pub returns-clause-number : goal.returns-clause-number
 returns-clause-number c =
     let a = c.args in
     let is : c.project_found-projection.result ≡ found_projection (four_at 0 a.found.now) (four_at 4 a.found.now) = search rules in
-    let e = eight a.found.now a.bits.now a.direction.now c.project_found-projection.result is c.if-found-lt8.false in
+    let e = eight a.found.now a.bits.now a.direction.now c.project_found-projection.result is c.if-few.false in
     c.return_projection.ensures.number ∙ ap (λ r. r.number) e
 
 pub returns-clause-outcome : goal.returns-clause-outcome
 returns-clause-outcome c =
     let a = c.args in
     let is : c.project_found-projection.result ≡ found_projection (four_at 0 a.found.now) (four_at 4 a.found.now) = search rules in
-    let e = eight a.found.now a.bits.now a.direction.now c.project_found-projection.result is c.if-found-lt8.false in
+    let e = eight a.found.now a.bits.now a.direction.now c.project_found-projection.result is c.if-few.false in
     c.return_projection.ensures.outcome ∙ ap (λ r. r.outcome) e
 
 pub returns-clause-bits : goal.returns-clause-bits
 returns-clause-bits c =
     let a = c.args in
     let is : c.project_found-projection.result ≡ found_projection (four_at 0 a.found.now) (four_at 4 a.found.now) = search rules in
-    let e = eight a.found.now a.bits.now a.direction.now c.project_found-projection.result is c.if-found-lt8.false in
+    let e = eight a.found.now a.bits.now a.direction.now c.project_found-projection.result is c.if-few.false in
     c.return_projection.ensures.patterns ∙ ap (λ r. r.bits) e
 
 pub returns-clause-direction : goal.returns-clause-direction
 returns-clause-direction c =
     let a = c.args in
     let is : c.project_found-projection.result ≡ found_projection (four_at 0 a.found.now) (four_at 4 a.found.now) = search rules in
-    let e = eight a.found.now a.bits.now a.direction.now c.project_found-projection.result is c.if-found-lt8.false in
+    let e = eight a.found.now a.bits.now a.direction.now c.project_found-projection.result is c.if-few.false in
     c.return_projection.ensures.direction ∙ ap (λ r. r.direction) e
 
 pub returns-clause-accurate : goal.returns-clause-accurate

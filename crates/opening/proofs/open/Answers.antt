@@ -28,13 +28,13 @@ make_first-number-requires c =
     let r = c.before.before.before.before in
     (enough r, layout-known c.args.input.now c.in-Fields.layout (sym c.read.ensures.reading ∙ c.in-Fields.is))
 
-pub returns-then-number-ne0 : goal.returns-then-number-ne0
-returns-then-number-ne0 c =
+pub returns-then-refused : goal.returns-then-refused
+returns-then-refused c =
     let r = c.before.before.before.before.before.before.before.before.before in
     let opens =
     first-refused c.args.input.now c.in-Fields.layout (sym c.read.ensures.reading ∙ c.in-Fields.is) c.args.net.now c.make_first-number.new.net (enough r) c.make_first-number.result
-    c.make_first-number.ensures c.if-number-ne0.true in
-    record { opened = c.refuse-then-number-ne0.ensures ∙ ap (λ x. record { refusal = x; layout = no_fields c.args.input.now }) c.refusal_at-refusal.ensures ∙ opens.0; places = opens.1 }
+    c.make_first-number.ensures c.if-refused.true in
+    record { opened = c.refuse-then-refused.ensures ∙ ap (λ x. record { refusal = x; layout = no_fields c.args.input.now }) c.refusal_at-refusal.ensures ∙ opens.0; places = opens.1 }
 
 pub returns-in-Refused : goal.returns-in-Refused
 returns-in-Refused c =
@@ -42,10 +42,10 @@ returns-in-Refused c =
     let opens = reading-refused c.args.input.now c.args.net.now (enough r) c.in-Refused.refusal (sym c.read.ensures.reading ∙ c.in-Refused.is) in
     record { opened = c.refuse-in-Refused.ensures ∙ opens.0; places = opens.1 }
 
-pub returns-else-number-ne0 : goal.returns-else-number-ne0
-returns-else-number-ne0 c =
+pub returns-else-refused : goal.returns-else-refused
+returns-else-refused c =
     let r = c.before.before.before.before.before.before.before.before in
     let opens =
     first_taken c.args.input.now c.in-Fields.layout (sym c.read.ensures.reading ∙ c.in-Fields.is) c.args.net.now c.make_first-number.new.net (enough r) c.make_first-number.result
-    c.make_first-number.ensures c.if-number-ne0.false in
+    c.make_first-number.ensures c.if-refused.false in
     record { opened = ap (λ x. record { refusal = x; layout = c.in-Fields.layout }) c.refusal_at-refusal.ensures ∙ opens.0; places = opens.1 }

@@ -47,26 +47,26 @@ finite_point-requires c =
     let a = c.args in
     within (seen a.x) (seen a.y) (seen a.z) (seen a.w) (read-ranged c.before)
 
-pub returns-then-w-ne0 : goal.returns-then-w-ne0
+pub returns-then-weighted : goal.returns-then-weighted
 unfolding projection_of projection_by
-returns-then-w-ne0 c =
+returns-then-weighted c =
     let start = c.before.before.before.before in
     let a = start.args in
     let f = start.ranges in
     projected a.x a.y a.z a.w
     (ap Finite (c.finite_point.ensures ∙ at-four coords_of a.x a.y a.z a.w f.x f.y f.z f.w)
     ∙ sym (ap (λ (b : Bool). projection_by b (is_zero a.w) (all_zero a.x a.y a.z) a.x a.y a.z a.w) (ranged c.before.before)
-    ∙ ap (λ (b : Bool). projection_by true b (all_zero a.x a.y a.z) a.x a.y a.z a.w) (not-zero a.w f.w c.if-w-ne0.true)))
+    ∙ ap (λ (b : Bool). projection_by true b (all_zero a.x a.y a.z) a.x a.y a.z a.w) (not-zero a.w f.w c.if-weighted.true)))
 
 -- past the second test w is 0
-weightless : (c : goal.Else-w-ne0) → let a = c.args in
+weightless : (c : goal.Else-weighted) → let a = c.args in
     projection_of a.x a.y a.z a.w ≡ projection_by true true (all_zero a.x a.y a.z) a.x a.y a.z a.w
 unfolding projection_of
 weightless c =
     let start = c.before.before.before in
     let a = start.args in
     ap (λ (b : Bool). projection_by b (is_zero a.w) (all_zero a.x a.y a.z) a.x a.y a.z a.w) (ranged c.before)
-    ∙ ap (λ (b : Bool). projection_by true b (all_zero a.x a.y a.z) a.x a.y a.z a.w) (is-zero a.w start.ranges.w c.if-w-ne0.false)
+    ∙ ap (λ (b : Bool). projection_by true b (all_zero a.x a.y a.z) a.x a.y a.z a.w) (is-zero a.w start.ranges.w c.if-weighted.false)
 
 zero_test : (c : After-all_zero) → let a = c.args in c.all_zero.result ≡ all_zero a.x a.y a.z
 zero_test c =
