@@ -1,7 +1,7 @@
 -- Demand 3 carried to the callers: any list of calls on lent places in which a first net was made.
 use Rattle.std.specs.Prelude.{ℕ, zero, suc, ◌+◌, ◌≡◌, true, cond, ◌↔◌, ℤ, pos, get_or, take, drop}
 use mathlib.Core.List.{List, ◌++◌, map, zip_with}
-use Rattle.std.proofs.Math.Seq.{slice}
+use lib.Seq.{slice}
 use Rattle.entries.specs.Entries.{number_count}
 use Rattle.projection.specs.Projection.{Four, found_projection}
 use Rattle.machine.specs.Refusals.{all_pass}
