@@ -1,3 +1,3 @@
 pub mod Numbers
-pub mod Bits
+pub mod Chunks
 pub mod Decoded

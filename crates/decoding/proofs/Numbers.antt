@@ -1,34 +1,27 @@
 -- Laws of the numbers in a part: parts of lists, items, digits to base 256, and lists of numbers.
 -- Each law is over the width n, so that 16-bit and 32-bit numbers have the same proofs.
-use mathlib.Core.Path.{◌≡◌, refl, sym, ◌∙◌, ap, ap₂, subst}
-use mathlib.Core.Bool.{Bool, true, false, ◌&&◌, ◌||◌, cond}
+use mathlib.Core.Path.{◌≡◌, refl, sym, ◌∙◌, ap, subst}
+use mathlib.Core.Bool.{Bool, true, false, ◌&&◌}
 use mathlib.Core.List.{List, [], ◌∷◌, foldl, map-map}
 use Prim.Native.Nat.{ℕ, zero, suc, ◌+◌, ◌-◌, ◌*◌, ◌/◌, ◌≤◌, ◌<◌}
 use native.Mathlib.Nat.{le-div_iff_mul-le, add-mul, one-mul, mul_comm, mul-div_right, le_trans}
 use native.Mathlib.Numerals.{add-one}
 use native.Mathlib.Omega.{arith}
-use borrow.Author.Tests.{eqb-true, eqb-false, ltb-true, ltb-false, lt-ltb, le-ltb, le-leb, lt-leb, leb-true, leb-false}
-use lib.ListN.{length, get_or, set, take, drop, length-drop, drop_of_length-le, length-map}
-use lib.Seq.{take-add, drop_at, length-take-le, take-take, take_all, drop-length, take-nil, drop-cons, ext_get_or, get_or-set_same, get_or-set_other}
-use lib.Dec.{eqb, ltb, leb}
-use lib.IntN.{ℤ, pos, neg_ℤ}
+use borrow.Author.Tests.{ltb-true, ltb-false, lt-ltb, le-ltb}
+use lib.ListN.{length, get_or, take, drop, length-map}
+use lib.Seq.{take-add, drop_at, length-take-le, take-take, take_all, drop-length, take-nil, drop-cons, ext_get_or}
+use lib.Dec.{ltb}
+use lib.IntN.{ℤ, pos}
 use Rattle.integers.specs.Sum.{upto}
 use Rattle.integers.proofs.Sums.{length-upto}
-use Rattle.integers.proofs.Laws.{nat_abs-neg}
-use Rattle.integers.specs.Test.{within, all}
+use Rattle.integers.specs.Test.{all}
 use Rattle.integers.proofs.All.{and-true, and_none}
 use Rattle.decoding.specs.Numbers.{item, unsigned_of, twos_complement, signed_of, number_at, numbers_to, coefficients_of}
 
 -- ---- parts of a list
 
-pub from_start : (l : List ℕ) (at : ℕ) → at ≤ length l → take (length l - at) (drop at l) ≡ drop at l
-from_start l at h = take_all (length l - at) (drop at l) (simp length-drop (omega arith))
-
 pub none_left : (l : List ℕ) → take (length l - length l) (drop (length l) l) ≡ []
 none_left l = ap (take (length l - length l)) (drop-length l) ∙ take-nil (length l - length l)
-
-pub past_end : (l : List ℕ) (at : ℕ) → length l < at → take (length l - length l) (drop (length l) l) ≡ drop at l
-past_end l at h = none_left l ∙ sym (drop_of_length-le l {i = at} (omega arith))
 
 -- ---- items
 
@@ -87,56 +80,12 @@ pub two_bytes : (part : List ℕ) (at : ℕ) → at + 2 ≤ length part → unsi
 unfolding unsigned_of
 two_bytes part at h = two_digits part 0 at h ∙ omega arith
 
--- four bytes are two digits to base 65536
-pub four_bytes : (part : List ℕ) (at : ℕ) → at + 4 ≤ length part
-    → unsigned_of (take 4 (drop at part)) ≡ 65536 * unsigned_of (take 2 (drop at part)) + unsigned_of (take 2 (drop (at + 2) part))
-unfolding unsigned_of
-four_bytes part at h =
-    next-digit part 0 3 at (omega arith)
-    ∙ next-digit part (0 * 256 + get_or part at 0) 2 (at + 1) (omega arith)
-    ∙ two_digits part high (at + 1 + 1) (omega arith)
-    ∙ ap (λ (v : ℕ). 65536 * v + (256 * get_or part (at + 1 + 1) 0 + get_or part (at + 1 + 1 + 1) 0)) (sym (two_digits part 0 at (omega arith) ∙ omega arith))
-    ∙ ap (λ (v : ℕ). 65536 * foldl digit 0 (take 2 (drop at part)) + v) (sym (two_digits part 0 (at + 1 + 1) (omega arith) ∙ omega arith))
-    ∙ ap (λ (j : ℕ). 65536 * foldl digit 0 (take 2 (drop at part)) + foldl digit 0 (take 2 (drop j part))) on
-  where
-    on : at + 1 + 1 ≡ at + 2
-    on = omega arith
-
-    high : ℕ
-    high = (0 * 256 + get_or part at 0) * 256 + get_or part (at + 1) 0
-
--- ---- two's complement
-
--- a number that the part has, from the unsigned number in its bytes
-pub number-there : (n : ℕ) (part : List ℕ) (k v : ℕ) → 0 < n → k < length part / n → v ≡ unsigned_of (take n (drop (n * k) part)) → number_at n part k ≡ twos_complement n v
-unfolding number_at signed_of
-number-there n part k v h t is =
-    let ends : n * k + n ≤ length part = item-end n k (length part) h t in
-    let bytes = take n (drop (n * k) part) in
-    let long : length bytes ≡ n = length-take-le n (drop (n * k) part) (simp length-drop (omega arith)) in
-    ap signed_of (item-there n part k t) ∙ ap₂ twos_complement long (sym is)
+-- ---- numbers
 
 -- no bytes are the number 0
 pub number-lacking : (n : ℕ) (part : List ℕ) (k : ℕ) → length part / n ≤ k → number_at n part k ≡ pos 0
 unfolding number_at signed_of unsigned_of twos_complement
 number-lacking n part k h = ap signed_of (item-lacking n part k h)
-
--- the absolute value is v or 256 ^ 4 - v, whichever is less: so one of the two is up to a limit or none is
-pub within-four : (v limit : ℕ) → v < 4294967296 → within limit (twos_complement 4 v) ≡ (leb v limit || leb (4294967296 - v) limit)
-unfolding twos_complement
-within-four v limit h = by-half (ltb (2 * v) 4294967296) refl
-  where
-    by_less : (t : Bool) → leb v limit ≡ t → 2 * v < 4294967296 → t ≡ (t || leb (4294967296 - v) limit)
-    by_less true e low = refl
-    by_less false e low = let over = leb-false v limit e in sym (lt-leb (4294967296 - v) limit (omega arith))
-
-    by-more : (t : Bool) → leb v limit ≡ t → 4294967296 ≤ 2 * v → leb (4294967296 - v) limit ≡ (t || leb (4294967296 - v) limit)
-    by-more true e high = let under = leb-true v limit e in le-leb (4294967296 - v) limit (omega arith)
-    by-more false e high = refl
-
-    by-half : (t : Bool) → ltb (2 * v) 4294967296 ≡ t → within limit (cond t (pos v) (neg_ℤ (pos (4294967296 - v)))) ≡ (leb v limit || leb (4294967296 - v) limit)
-    by-half true e = by_less (leb v limit) refl (ltb-true (2 * v) 4294967296 e)
-    by-half false e = ap (λ (k : ℕ). leb k limit) (nat_abs-neg (pos (4294967296 - v))) ∙ by-more (leb v limit) refl (ltb-false (2 * v) 4294967296 e)
 
 pub number-of-value : (n : ℕ) (part : List ℕ) (m k : ℕ) → 0 < n → m ≤ length part → k < m / n → number_at n (take m part) k ≡ number_at n part k
 unfolding number_at
@@ -165,24 +114,6 @@ numbers_to-same n f g h =
     ext_get_or (pos 0) (numbers_to n f) (numbers_to n g) (length-numbers_to n f ∙ sym (length-numbers_to n g))
     (λ k b. let below = subst (λ (m : ℕ). k < m) (length-numbers_to n f) b in get_d-numbers_to n f k below ∙ h k below ∙ sym (get_d-numbers_to n g k below))
 
--- What is so of each number below i, and of i, is so below i + 1.
-pub one_further : (P : ℕ → Type 0) (i : ℕ) → ((k : ℕ) → k < i → P k) → P i → (k : ℕ) → k < i + 1 → P k
-one_further P i before is k below = by-case (eqb k i) refl
-  where
-    by-case : (t : Bool) → eqb k i ≡ t → P k
-    by-case true e = subst P (sym (eqb-true k i e)) is
-    by-case false e = let other = eqb-false k i e in before k (omega arith)
-
--- What is so at each place below i is so below i + 1 after a number is put in place i.
-pub one_more : (out : List ℤ) (P : ℕ → ℤ → Type 0) (i : ℕ) (v : ℤ) → i < length out → ((k : ℕ) → k < i → P k (get_or out k (pos 0))) → P i v
-    → (k : ℕ) → k < i + 1 → P k (get_or (set out i v) k (pos 0))
-one_more out P i v h before is =
-    one_further
-    (λ k. P k (get_or (set out i v) k (pos 0)))
-    i
-    (λ k below. subst (P k) (sym (get_or-set_other out i k v (pos 0) (λ same. omega arith))) (before k below))
-    (subst (P i) (sym (get_or-set_same out i v (pos 0) h)) is)
-
 -- ---- a test of the numbers f 0, f 1, .., f (n - 1)
 
 next-number : (n : ℕ) (f : ℕ → ℤ) → numbers_to (suc n) f ≡ f 0 ∷ numbers_to n (λ i. f (suc i))
@@ -202,16 +133,6 @@ module _ (test : ℤ → Bool) where
       ap (all test) (next-number n f)
       ∙ ap (λ (t : Bool). test (f 0) && t) (one-fails n (λ i. f (suc i)) i (omega arith) h)
       ∙ and_none (test (f 0))
-
-  -- numbers that pass for sure need not be looked at
-  pub first-decide : (m n : ℕ) (f : ℕ → ℤ) → m ≤ n → ((k : ℕ) → m ≤ k → test (f k) ≡ true) → all test (numbers_to m f) ≡ all test (numbers_to n f)
-  unfolding numbers_to
-  first-decide zero n f b h = sym (each-passes n f (λ k l. h k (omega arith)))
-  first-decide (suc m) zero f b h = absurd (omega arith)
-  first-decide (suc m) (suc n) f b h =
-      ap (all test) (next-number m f)
-      ∙ ap (λ (t : Bool). test (f 0) && t) (first-decide m n (λ i. f (suc i)) (omega arith) (λ k l. h (suc k) (omega arith)))
-      ∙ sym (ap (all test) (next-number n f))
 
 -- ---- the numbers of a value, in the part that begins with it
 

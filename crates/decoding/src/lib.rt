@@ -5,12 +5,10 @@
 // Moves (how bytes make a move or the weights of a point).
 #![tactic(auto)]
 
-ghost use Rattle.std.specs.Prelude.{◌≡◌, cond, ◌+◌, ◌-◌, ◌*◌, ◌/◌, ◌<◌, ◌≤◌, ltb, pos, neg_ℤ, length, drop, take, get_or};
+ghost use Rattle.std.specs.Prelude.{◌≡◌, length, drop, take, get_or};
 ghost use Rattle.integers.specs.Test.{within, all};
 ghost use Rattle.decoding.specs.Numbers.{
   item,
-  unsigned_of,
-  twos_complement,
   number_at,
   numbers_to,
   frame_numbers,
@@ -21,8 +19,9 @@ ghost use Rattle.decoding.specs.Moves.{weights_of, proper, move_at, call_at, cal
 use machine::Weights;
 
 // A move of a record, decoded. It is proper where its operation is 1 or 2 and its vertex 1, 2, 3 or 4: no
-// kind takes another one. A proper move is judged when it is made, like any call.
-#[derive(Drop)]
+// kind takes another one. A proper move is judged when it is made, like any call. An improper one is no error
+// without a value: `move_at` promises its numbers too, by `call_of`.
+#[derive(Clone, Copy)]
 pub enum Move {
     Proper {
         operation: u8,
@@ -64,13 +63,11 @@ pub fn first_part(part: &[u8], count: usize) -> &[u8]
 pub fn byte_at(part: &[u8], k: usize) -> u8
     ensures { result ≡ get_or part.now k 0 }
 {
-    if part.len() <= k {
-        return 0;
-    }
-    part[k]
+    part.get(k).copied().unwrap_or(0)
 }
 
-// The eight bytes of move k; where the part does not have them all, the empty part at its end.
+// The eight bytes of move k; where the part does not have them all, the empty part at its end. `part_from` and
+// `first_part` after it would give what is left of them.
 fn move_bytes(part: &[u8], k: usize) -> &[u8]
     ensures bytes { result.now ≡ item 8 part.now k }
     ensures place { Lies result.ref_ptr part.entry.ref_ptr (item_place 8 part.now k) }
@@ -84,59 +81,27 @@ fn move_bytes(part: &[u8], k: usize) -> &[u8]
 
 // ---- numbers
 
-// A byte as a wider number.
-fn wide(b: u8) -> usize
-    ensures { result ≡ b }
-{
-    b as usize
-}
-
-// The number in the two bytes from `at` on, the higher one first.
-fn two_bytes(part: &[u8], at: usize) -> usize
-    requires { at + 2 ≤ length part.now }
-    ensures value { result ≡ unsigned_of (take 2 (drop at part.now)) }
-    ensures below { result < 65536 }
-{
-    256 * wide(part[at]) + wide(part[at + 1])
-}
-
-// The number in the four bytes from `at` on: two digits to base 65536.
-fn four_bytes(part: &[u8], at: usize) -> usize
-    requires { at + 4 ≤ length part.now }
-    ensures value { result ≡ unsigned_of (take 4 (drop at part.now)) }
-    ensures below { result < 4294967296 }
-{
-    65536 * two_bytes(part, at) + two_bytes(part, at + 2)
-}
-
-// What v stands for among the numbers below 2 half: from `half` on, for v - 2 half. Moved up by half,
-// round and down again, it needs no test.
-fn signed(v: usize, half: usize) -> i64
-    requires { (v < 2 * half) × (half ≤ 2147483648) }
-    ensures { result ≡ cond (ltb (2 * v) (2 * half)) (pos v) (neg_ℤ (pos (2 * half - v))) }
-{
-    let round = (v + half) % (2 * half);
-    (round as i64) - (half as i64)
-}
-
 // Signed number k of two bytes, 0 where the part does not have them.
 fn short_at(part: &[u8], k: usize) -> i64
     ensures { result ≡ number_at 2 part.now k }
 {
-    if part.len() / 2 <= k {
-        return 0;
+    let (numbers, _) = part.as_chunks();
+    match numbers.get(k) {
+        Some(bytes) => i64::from(i16::from_be_bytes(*bytes)),
+        None => 0,
     }
-    signed(two_bytes(part, 2 * k), 32768)
 }
 
-// Signed number k of four bytes, 0 where the part does not have them.
+// Signed number k of four bytes, 0 where the part does not have them. A const parameter for the width could
+// not choose the integer type, so there are two of them.
 fn long_at(part: &[u8], k: usize) -> i64
     ensures { result ≡ number_at 4 part.now k }
 {
-    if part.len() / 4 <= k {
-        return 0;
+    let (numbers, _) = part.as_chunks();
+    match numbers.get(k) {
+        Some(bytes) => i64::from(i32::from_be_bytes(*bytes)),
+        None => 0,
     }
-    signed(four_bytes(part, 4 * k), 2147483648)
 }
 
 // The numbers of a frame, where the part begins with field 2's value. A place whose two bytes the part
@@ -144,17 +109,7 @@ fn long_at(part: &[u8], k: usize) -> i64
 pub fn frame_numbers(part: &[u8]) -> [i64; 9]
     ensures { result ≡ frame_numbers part.now }
 {
-    [
-        short_at(part, 0),
-        short_at(part, 1),
-        short_at(part, 2),
-        short_at(part, 3),
-        short_at(part, 4),
-        short_at(part, 5),
-        short_at(part, 6),
-        short_at(part, 7),
-        short_at(part, 8),
-    ]
+    std::array::from_fn(|k| short_at(part, k))
 }
 
 // ---- coefficients
@@ -164,51 +119,21 @@ pub fn frame_numbers(part: &[u8]) -> [i64; 9]
 pub fn read_coefficients(part: &[u8], out: &mut [i64])
     ensures { out.new ≡ numbers_to (length out.old) (number_at 4 part.now) }
 {
-    let mut i: usize = 0;
-    while i < out.len() {
-        out[i] = long_at(part, i);
-        i = i + 1;
+    for (k, place) in out.iter_mut().enumerate() {
+        *place = long_at(part, k);
     }
-}
-
-// Whether the number that v stands for among those of four bytes is from -limit to limit.
-fn stands_within(v: usize, limit: usize) -> bool
-    requires { v < 4294967296 }
-    ensures { result ≡ within limit (twos_complement 4 v) }
-{
-    if v <= limit {
-        return true;
-    }
-    4294967296 - v <= limit
-}
-
-// Whether the first n coefficients, which the part has, are from -limit to limit. The first that is
-// not ends the search.
-fn first_within(part: &[u8], n: usize, limit: usize) -> bool
-    requires { n ≤ length part.now / 4 }
-    ensures { result ≡ all (within limit) (numbers_to n (number_at 4 part.now)) }
-{
-    let mut i: usize = 0;
-    while i < n {
-        if !stands_within(four_bytes(part, 4 * i), limit) {
-            return false;
-        }
-        i = i + 1;
-    }
-    true
 }
 
 // Whether the first `count` coefficients are from -limit to limit, where the part begins with field
-// 3's value. The length is tested once: a coefficient whose bytes the part does not have is 0, and
-// within every limit.
+// 3's value. A coefficient whose bytes the part does not have is 0, and within every limit.
 pub fn coefficients_within(part: &[u8], count: usize, limit: usize) -> bool
     ensures { result ≡ all (within limit) (numbers_to count (number_at 4 part.now)) }
 {
-    let whole = part.len() / 4;
-    if whole < count {
-        return first_within(part, whole, limit);
-    }
-    first_within(part, count, limit)
+    let (numbers, _) = part.as_chunks();
+    numbers.iter().take(count).all(|bytes| {
+        let coefficient = i32::from_be_bytes(*bytes);
+        coefficient.unsigned_abs() as usize <= limit
+    })
 }
 
 // ---- moves and points
@@ -216,6 +141,7 @@ pub fn coefficients_within(part: &[u8], count: usize, limit: usize) -> bool
 // The weights, where the part begins with them: field 5's value, or a move after its first two bytes.
 // A weight whose two bytes the part does not have is 0: the third and fourth of a curve's point, the
 // fourth of a patch's, and that of every move.
+#[tactic(auto, unfolding(crate::specs::Moves::weights_of))]
 pub fn point_weights(part: &[u8]) -> Weights
     ensures { result ≡ weights_of part.now }
 {
@@ -231,19 +157,11 @@ pub fn point_weights(part: &[u8]) -> Weights
 fn is_proper(operation: u8, vertex: u8) -> bool
     ensures { result ≡ proper operation vertex }
 {
-    if vertex < 1 {
-        return false;
-    }
-    if 4 < vertex {
-        return false;
-    }
-    if operation == 1 {
-        return true;
-    }
-    operation == 2
+    (1..=4).contains(&vertex) && (operation == 1 || operation == 2)
 }
 
 // Move k of field 4's value. Past the last move all its numbers are 0, and it is improper.
+#[tactic(auto, unfolding(crate::specs::Moves::move_at, crate::specs::Moves::call_at))]
 pub fn move_at(value: &[u8], k: usize) -> Move
     ensures decoded { result ≡ move_at value.now k }
     ensures numbers { call_of result ≡ call_at value.now k }

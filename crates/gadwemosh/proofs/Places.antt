@@ -1,7 +1,6 @@
--- Calls whose weights are read back from their bits, and what comes back from a projection in each case of
--- the code's tests of room, with the bound on its bit patterns.
+-- What comes back from a projection in each case of the code's tests of room, and the bound on its bit patterns.
 use Prim.Native.Nat.{ℕ, ◌≤◌, ◌<◌}
-use mathlib.Core.Path.{◌≡◌, refl, sym, ap, ap₂, subst, ◌∙◌}
+use mathlib.Core.Path.{◌≡◌, refl, sym, ap, ap₂, subst}
 use mathlib.Core.Bool.{Bool, true, false, cond, ◌&&◌}
 use mathlib.Core.List.{List, [], ◌∷◌}
 use native.Mathlib.Nat as NatL
@@ -10,47 +9,16 @@ use borrow.Author.Tests.{le-leb, lt-leb}
 use lib.Dec.{leb, lit<}
 use lib.IntN.{ℤ, pos}
 use lib.ListN.{length}
-use mir.Syntax.{w64}
-use mir.Val.{SFits}
-use Rattle.integers.proofs.Signed.{seen, back_fits}
-use Rattle.projection.specs.Projection.{Four, projection_of_four, found_projection, coordinate_bits}
+use Rattle.projection.specs.Projection.{Four, found_projection, coordinate_bits}
 use Rattle.projection.specs.Accuracy.{AccuratePoint, AccurateBits}
 use Rattle.projection.specs.declared.Projection.{Projection}
 use Rattle.projection.specs.declared.Projection.TheVariants.{Finite, Direction, Nowhere, OutOfRange}
-use Rattle.projection.proofs.Bound.{accurate-projections, accurate-found, accurate-bits}
+use Rattle.projection.proofs.Bound.{accurate-bits}
 use Rattle.projection.proofs.AllSamples.{fifths}
 use Rattle.machine.specs.Carried.{four_at}
-use Rattle.gadwemosh.specs.Calls.{move_call, point_call}
 use Rattle.gadwemosh.specs.Projections.{ProjectionReturned, projection_with_room, projection_without_room, projection_returned, found_returned, AccuratePatterns}
 
--- a call with its weights as they are handed on
-module _ {r s t u : ℤ} (fr : SFits w64 r) (fs : SFits w64 s) (ft : SFits w64 t) (fu : SFits w64 u) where
-  pub move-back : (operation vertex : ℕ)
-      → move_call operation vertex (seen r) (seen s) (seen t) (seen u) ≡ move_call operation vertex r s t u
-  move-back operation vertex =
-      λ i. move_call operation vertex (back_fits fr i) (back_fits fs i) (back_fits ft i) (back_fits fu i)
-
-  pub point-back : point_call (seen r) (seen s) (seen t) (seen u) ≡ point_call r s t u
-  point-back = λ i. point_call (back_fits fr i) (back_fits fs i) (back_fits ft i) (back_fits fu i)
-
 -- ---- what comes back from a projection
-
--- the four clauses of a contract that says what comes back
-abbrev pub Projects : ℕ → ℕ → List ℕ → List ℤ → ProjectionReturned → Type 0
-Projects number outcome bits direction r = (number ≡ r.number) × ((outcome ≡ r.outcome) × ((bits ≡ r.bits) × (direction ≡ r.direction)))
-
-pub clauses : (r must : ProjectionReturned) → r ≡ must → Projects r.number r.outcome r.bits r.direction must
-clauses r must e = (ap (λ x. x.number) e, (ap (λ x. x.outcome) e, (ap (λ x. x.bits) e, ap (λ x. x.direction) e)))
-
--- a projection q whose case is p
-pub case-returned : {p q : Projection} (bits : List ℕ) (direction : List ℤ) (r : ProjectionReturned) → q ≡ p → r ≡ projection_with_room p bits direction
-    → Projects r.number r.outcome r.bits r.direction (projection_with_room q bits direction)
-case-returned bits direction r is e = clauses r _ (e ∙ sym (ap (λ p. projection_with_room p bits direction) is))
-
--- clauses about what comes back are clauses about what equals it
-pub clauses-of : {number outcome : ℕ} {bits : List ℕ} {direction : List ℤ} {r must : ProjectionReturned} → r ≡ must
-    → Projects number outcome bits direction r → Projects number outcome bits direction must
-clauses-of {number} {outcome} {bits} {direction} e = subst (λ x. Projects number outcome bits direction x) e
 
 module _ (p : Projection) (bits : List ℕ) (direction : List ℤ) where
   by-room : (t : Bool) → (leb 3 (length bits) && leb 4 (length direction)) ≡ t → cond t (projection_with_room p bits direction) (projection_without_room bits direction) ≡ projection_returned p bits direction
@@ -81,7 +49,7 @@ module _ (found : List ℤ) (bits : List ℕ) (direction : List ℤ) where
 
 -- ---- how near the bit patterns are
 
-never : {A : Type 0} → ◌≡◌ {A = ℕ} 0 1 → A
+pub never : {A : Type 0} → ◌≡◌ {A = ℕ} 0 1 → A
 never e = absurd (omega arith)
 
 room-accurate : (p : Four) (at : Projection) (bits : List ℕ) (direction : List ℤ) → AccuratePoint p at
@@ -93,33 +61,13 @@ room-accurate p (Direction d) bits direction h is = absurd (omega arith)
 room-accurate p Nowhere bits direction h is = absurd (omega arith)
 room-accurate p OutOfRange bits direction h is = never is
 
-returned-accurate : (p : Four) (at : Projection) (bits : List ℕ) (direction : List ℤ) → AccuratePoint p at
+pub returned-accurate : (p : Four) (at : Projection) (bits : List ℕ) (direction : List ℤ) → AccuratePoint p at
     → let r = projection_returned at bits direction in AccuratePatterns p r.outcome r.bits
 unfolding projection_returned
 returned-accurate p at bits direction h = by (leb 3 (length bits) && leb 4 (length direction))
   where
     by : (t : Bool) → let r = cond t (projection_with_room at bits direction) (projection_without_room bits direction) in AccuratePatterns p r.outcome r.bits
     by true = room-accurate p at bits direction h
-    by false = never
-
--- what is projected, and what is projected of a found point
-pub patterns-projected : (p : Four) (bits : List ℕ) (direction : List ℤ)
-    → let r = projection_returned (projection_of_four p) bits direction in AccuratePatterns p r.outcome r.bits
-patterns-projected p bits direction = returned-accurate p (projection_of_four p) bits direction (accurate-projections p)
-
-pub patterns-found : (found : List ℤ) (bits : List ℕ) (direction : List ℤ)
-    → let r = found_returned found bits direction in AccuratePatterns (four_at 4 found) r.outcome r.bits
-unfolding found_returned
-patterns-found found bits direction = by (leb 8 (length found))
-  where
-    p : Four
-    p = four_at 4 found
-
-    at : Projection
-    at = found_projection (four_at 0 found) p
-
-    by : (t : Bool) → let r = cond t (projection_returned at bits direction) (projection_without_room bits direction) in AccuratePatterns p r.outcome r.bits
-    by true = returned-accurate p at bits direction (accurate-found (four_at 0 found) p)
     by false = never
 
 -- the bound on what comes back is one on what equals it

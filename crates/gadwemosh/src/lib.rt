@@ -21,16 +21,14 @@ ghost use Rattle.text.specs.Text.{text_of, written_of, written_number, written_b
 ghost use Rattle.gadwemosh.specs.Calls.{move_call, point_call};
 ghost use Rattle.gadwemosh.specs.Projections.{projection_returned, found_returned, AccuratePatterns, AccurateFound};
 
-use crate::answers::return_projection;
-use machine::Weights;
-use nets::{NET, find_point, first_net, take_move};
+use crate::answers::{answered, return_projection};
+use kinds::Head;
+use machine::{Refusal, Weights};
+use nets::{NET, find_point, first_net, project_point, take_move};
 use opening::open;
-use projection::{project, project_found};
-use records::extent_of;
-use text::{Written, write_text};
-
-// The number of a buffer that has too few places.
-const SHORT: u8 = 11;
+use projection::{Four, project};
+use records::{extent_of, no_fields};
+use text::write_text;
 
 // Opens a record: its first net goes into the lent places, or nothing does, and `offset` is that of the
 // refusal.
@@ -40,9 +38,16 @@ pub extern "C" fn gadwemosh_open(input: &[u8], net: &mut [i64], offset: &mut u64
     ensures offset { offset.new ≡ (opened_in input.now net.old).refusal.offset }
     ensures net { net.new ≡ places_in input.now net.old }
 {
-    let refusal = open(input, net).refusal;
-    *offset = refusal.offset as u64;
-    refusal.number
+    match open(input, net) {
+        Ok(_) => {
+            *offset = 0;
+            0
+        }
+        Err(refused) => {
+            *offset = refused.offset as u64;
+            u8::from(refused.refusal)
+        }
+    }
 }
 
 // Where the value of a record's field stands: its offset and its length. Nothing, after the last byte,
@@ -56,10 +61,14 @@ pub extern "C" fn gadwemosh_field(input: &[u8], tag: u8, start: &mut u64, length
 {
     let mut net = [0i64; NET];
     let opened = open(input, &mut net);
-    let extent = extent_of(opened.layout, input, tag);
+    let layout = opened.unwrap_or(no_fields(input));
+    let extent = extent_of(layout, input, tag);
     *start = extent.start as u64;
     *length = extent.length as u64;
-    opened.refusal.number
+    match opened {
+        Ok(_) => 0,
+        Err(answer) => u8::from(answer.refusal),
+    }
 }
 
 // Makes the first net of polynomials over a frame, without a record: nine numbers of a frame, of which a
@@ -77,7 +86,12 @@ pub extern "C" fn gadwemosh_first(
     ensures number { result ≡ made_number kind degree second frame.now coefficients.now net.old }
     ensures net { net.new ≡ made_places kind degree second frame.now coefficients.now net.old }
 {
-    first_net(net, kind, degree, second, frame, coefficients)
+    let head = Head {
+        kind,
+        degree,
+        second,
+    };
+    answered(first_net(net, head, frame, coefficients))
 }
 
 // Makes a move on a lent net; a refused one leaves every place as it was.
@@ -94,7 +108,7 @@ pub extern "C" fn gadwemosh_move(
     ensures number { result ≡ call_number (move_call operation vertex r s t u) net.old [] }
     ensures net { net.new ≡ call_places (move_call operation vertex r s t u) net.old [] }
 {
-    take_move(net, operation, vertex, Weights { r, s, t, u })
+    answered(take_move(net, operation, vertex, Weights { r, s, t, u }))
 }
 
 // Finds a point on a lent net: x, y, z and w go into the first four places of `found`, and the numbers
@@ -111,7 +125,7 @@ pub extern "C" fn gadwemosh_point(
     ensures number { result ≡ call_number (point_call r s t u) net.now found.old }
     ensures found { found.new ≡ call_found (point_call r s t u) net.now found.old }
 {
-    find_point(net, Weights { r, s, t, u }, found)
+    answered(find_point(net, Weights { r, s, t, u }, found))
 }
 
 // Projects four numbers: `outcome` is 1 for a finite point, whose three bit patterns go into `bits`, 2 for a
@@ -133,8 +147,8 @@ pub extern "C" fn gadwemosh_project(
     ensures direction { direction.new ≡ (projection_returned (projection_of x y z w) bits.old direction.old).direction }
     ensures accurate { AccuratePatterns (four x y z w) outcome.new bits.new }
 {
-    let projection = project(x, y, z, w);
-    return_projection(outcome, bits, direction, projection)
+    let projection = project(Four { x, y, z, w });
+    answered(return_projection(outcome, bits, direction, projection))
 }
 
 // Projects what `gadwemosh_point` found, by its eight numbers: as `gadwemosh_project` does the second four,
@@ -155,12 +169,10 @@ pub extern "C" fn gadwemosh_project_found(
     let few = found.len() < 8;
     if few {
         *outcome = 0;
-        return SHORT;
+        return u8::from(Refusal::Short);
     }
-    let projection = project_found(
-        found[0], found[1], found[2], found[3], found[4], found[5], found[6], found[7],
-    );
-    return_projection(outcome, bits, direction, projection)
+    let projection = project_point(found);
+    answered(return_projection(outcome, bits, direction, projection))
 }
 
 // Writes the text of a record; `length` is how many bytes it has, and 0 where the buffer is too short.
@@ -171,13 +183,13 @@ pub extern "C" fn gadwemosh_text(input: &[u8], out: &mut [u8], length: &mut u64)
     ensures buffer { out.new ≡ buffer_of (text_of input.now) out.old }
 {
     match write_text(input, out) {
-        Written::Bytes(n) => {
+        Ok(n) => {
             *length = n as u64;
             0
         }
-        Written::Refused(number) => {
+        Err(refusal) => {
             *length = 0;
-            number
+            u8::from(refusal)
         }
     }
 }

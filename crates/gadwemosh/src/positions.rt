@@ -1,7 +1,8 @@
 // The exported functions called by position, as a caller in C calls them. Nobody calls these: they are here
 // for their contracts, in which the arguments stand in the order of include/gadwemosh.h. The contract of an
 // exported function names its arguments, and so does not say in which order they are handed over. Those of
-// gadwemosh_open, gadwemosh_project_found and gadwemosh_text differ in their types.
+// gadwemosh_open, gadwemosh_project_found and gadwemosh_text differ in their types. The crate gadwemosh_c has
+// the same of its own exports, whose edits only they refuse.
 ghost use Rattle.std.specs.Prelude.{◌≡◌, []};
 ghost use Rattle.projection.specs.Projection.{projection_of};
 ghost use Rattle.machine.specs.Lent.{made_number, call_number};

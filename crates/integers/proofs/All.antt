@@ -1,7 +1,6 @@
 -- Laws of tests: two answers that cannot both be, the parts of a conjunction, and `all`, which passes exactly when the test passes at each member.
-use Prim.Native.Nat.{ℕ, zero, suc, ◌+◌, ◌<◌}
+use Prim.Native.Nat.{ℕ, zero, suc, ◌<◌}
 use native.Mathlib.Nat.{le_of_suc-le-suc, not-suc-le-zero}
-use native.Mathlib.Numerals.{add-one}
 use native.Mathlib.Omega.{arith}
 use mathlib.Core.Path.{◌≡◌, refl, sym, ap, ap₂, ◌∙◌}
 use mathlib.Core.Logic.{◌⊎◌, inl, inr}
@@ -9,8 +8,8 @@ use mathlib.Core.Bool.{Bool, true, false, ◌&&◌}
 use mathlib.Core.List.Memᴰ
 use mathlib.Core.List.{List, [], ◌∷◌, ◌++◌, map, Memᴰ}
 use lib.IntN.{ℤ, pos}
-use lib.ListN.{length, get_or, set, take, drop}
-use lib.Seq.{drop-cons}
+use lib.ListN.{length, get_or, set, take}
+use Rattle.std.specs.List.{list_all}
 use Rattle.integers.specs.Test.{all}
 
 pub clash : {b : Bool} → b ≡ true → b ≡ false → ⊥
@@ -89,11 +88,10 @@ pub all_map : {A B : Type 0} (test : B → Bool) (f : A → B) (xs : List A) →
 all_map test f [] = refl
 all_map test f (x ∷ xs) = ap (λ b. test (f x) && b) (all_map test f xs)
 
--- ---- the members one at a time
-
--- what is left of a list after i of its members
-pub all-next : (test : ℤ → Bool) (xs : List ℤ) (i : ℕ) → i < length xs → all test (drop i xs) ≡ (test (get_or xs i (pos 0)) && all test (drop (i + 1) xs))
-all-next test xs i h = ap (all test) (drop-cons xs i (pos 0) h) ∙ ap (λ j. test (get_or xs i (pos 0)) && all test (drop j xs)) (sym (add-one i))
+-- std's word for `all`
+pub list_all-is : {A : Type 0} (test : A → Bool) (xs : List A) → list_all test xs ≡ all test xs
+list_all-is test [] = refl
+list_all-is test (x ∷ xs) = ap (λ b. test x && b) (list_all-is test xs)
 
 -- each of the first n passes where all do
 pub all_first : (test : ℤ → Bool) (n : ℕ) (xs : List ℤ) → all test (take n xs) ≡ true → (i : ℕ) → i < n → i < length xs → test (get_or xs i (pos 0)) ≡ true

@@ -1,9 +1,7 @@
-pub mod Absolute
 pub mod All
 pub mod Largest
 pub mod Laws
 pub mod Ring
 pub mod Signed
 pub mod Sums
-pub mod Within
 pub mod Instances

@@ -1,4 +1,5 @@
 pub mod Kinds
+pub mod Heads
 pub mod Counts
 pub mod Frames
 pub mod Scales

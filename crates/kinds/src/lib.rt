@@ -2,7 +2,9 @@
 // entries, which frames it accepts, and its scale. Each function is held to the table of specs/Kinds.antt,
 // which also says what to touch to add a kind.
 //
-// Every function answers every number; a byte that is no kind has no vertices.
+// A kind is a byte and no enum, since every function promises an answer for every number; a byte that is no
+// kind has no vertices. What depends on the degrees too is asked of a head. The functions of a kind alone are
+// the columns of the table, one for each, as each has its own edits and its own promise.
 #![tactic(auto)]
 
 ghost use Rattle.std.specs.Prelude.{◌≡◌, true, ◌&&◌, ℕ, suc, ◌*◌, ◌≤◌, leb, eqb, nat_abs, ◌+ℤ◌, ◌-ℤ◌, ◌*ℤ◌, length, take};
@@ -15,6 +17,7 @@ ghost use Rattle.kinds.specs.Kinds.{
   later_groups,
   later_dimension,
 };
+ghost use Rattle.kinds.specs.Heads.{head_groups};
 ghost use Rattle.kinds.specs.Frames.{
   frame_of,
   determinant,
@@ -39,46 +42,87 @@ const PATCHES: [u64; 8] = [1, 2, 6, 12, 60, 180, 420, 1680];
 
 // ---- kinds and degrees
 
+// The head of a record, a text or a net: a kind and its degrees. Any three bytes may stand there.
+#[derive(Clone, Copy, Debug, PartialEq, Eq)]
+pub struct Head {
+    pub kind: u8,
+    pub degree: u8,
+    pub second: u8,
+}
+
+impl Head {
+    // Whether the kind is one and has the degrees.
+    pub fn is_known(self) -> bool
+        ensures { result ≡ known self.kind self.degree self.second }
+    {
+        match self.kind {
+            1 => one_degree(10, self.degree, self.second),
+            2 => one_degree(8, self.degree, self.second),
+            3 => two_degrees(5, self.degree, self.second),
+            _ => false,
+        }
+    }
+
+    // How many numbers the entries have, four to an entry, and how many the coefficients, four to a monomial:
+    // the two are the same. A byte that is no kind has one of each.
+    pub fn number_count(self) -> usize
+        ensures { NumberCount (head_groups self) result }
+    {
+        let m = self.degree as usize;
+        match self.kind {
+            1 => 4 * (m + 1),
+            2 => 2 * (m + 1) * (m + 2),
+            3 => 4 * (m + 1) * (self.second as usize + 1),
+            _ => 4,
+        }
+    }
+
+    // How many numbers the groups after the first have: so many stand in a row, seen from the first group.
+    pub fn later_count(self) -> usize
+        ensures { result ≡ number_count (later_groups self.kind self.second) }
+    {
+        match self.kind {
+            3 => 4 * (self.second as usize + 1),
+            _ => 4,
+        }
+    }
+
+    // The scale, the product of the groups' scales; 0 where there is no such kind, or where it has no such
+    // degrees.
+    pub fn scale(self) -> u64
+        ensures { result ≡ scale_of self.kind self.degree self.second }
+    {
+        if !self.is_known() {
+            return 0;
+        }
+        let first = group_scale(dimension_of(self.kind), self.degree);
+        let later = later_dimension(self.kind);
+        if later == 0 {
+            return first;
+        }
+        first * group_scale(later, self.second)
+    }
+}
+
 // Whether a degree is from 1 to the highest.
 fn up_to(highest: u8, degree: u8) -> bool
     ensures { result ≡ (leb 1 degree && leb degree highest) }
 {
-    if degree == 0 {
-        return false;
-    }
-    degree <= highest
+    (1..=highest).contains(&degree)
 }
 
 // Whether a kind of one group has the degrees: there is no second degree, and 0 stands there.
 fn one_degree(highest: u8, degree: u8, second: u8) -> bool
     ensures { result ≡ ((leb 1 degree && leb degree highest) && (eqb second 0 && true)) }
 {
-    if second != 0 {
-        return false;
-    }
-    up_to(highest, degree)
+    second == 0 && up_to(highest, degree)
 }
 
 // Whether a kind of two groups with the same highest degree has the degrees.
 fn two_degrees(highest: u8, degree: u8, second: u8) -> bool
     ensures { result ≡ ((leb 1 degree && leb degree highest) && ((leb 1 second && leb second highest) && true)) }
 {
-    if !up_to(highest, degree) {
-        return false;
-    }
-    up_to(highest, second)
-}
-
-// Whether the kind is one and has the degrees.
-pub fn known_kind(kind: u8, degree: u8, second: u8) -> bool
-    ensures { result ≡ known kind degree second }
-{
-    match kind {
-        1 => one_degree(10, degree, second),
-        2 => one_degree(8, degree, second),
-        3 => two_degrees(5, degree, second),
-        _ => false,
-    }
+    up_to(highest, degree) && up_to(highest, second)
 }
 
 // The number of coordinates before Z in the first group, which is that of the vertices after its first;
@@ -127,30 +171,6 @@ pub fn frame_count(kind: u8) -> usize
         2 => 9,
         3 => 8,
         _ => 0,
-    }
-}
-
-// How many numbers the entries have, four to an entry, and how many the coefficients, four to a monomial:
-// the two are the same. A byte that is no kind has one of each.
-pub fn number_count(kind: u8, degree: u8, second: u8) -> usize
-    ensures { NumberCount (groups_of kind degree second) result }
-{
-    let m = degree as usize;
-    match kind {
-        1 => 4 * (m + 1),
-        2 => 2 * (m + 1) * (m + 2),
-        3 => 4 * (m + 1) * (second as usize + 1),
-        _ => 4,
-    }
-}
-
-// How many numbers the groups after the first have: so many stand in a row, seen from the first group.
-pub fn later_count(kind: u8, second: u8) -> usize
-    ensures { result ≡ number_count (later_groups kind second) }
-{
-    match kind {
-        3 => 4 * (second as usize + 1),
-        _ => 4,
     }
 }
 
@@ -204,10 +224,8 @@ fn group_allowed(dimension: usize, numbers: &[i64]) -> bool
     ensures { result ≡ frame_allowed (suc dimension) numbers.now }
 {
     let vertices = dimension + 1;
-    if !all_within(&numbers[0..vertices * vertices], FRAME_LIMIT) {
-        return false;
-    }
-    frame_determinant(dimension, numbers) != 0
+    all_within(&numbers[..vertices * vertices], FRAME_LIMIT)
+        && frame_determinant(dimension, numbers) != 0
 }
 
 // Whether the numbers of all frames are within their limit and no determinant is 0, whatever the degrees
@@ -219,15 +237,8 @@ pub fn frame_allowed(kind: u8, numbers: &[i64; 9]) -> bool
     if n == 0 {
         return true;
     }
-    let all = &numbers[..];
-    if !group_allowed(n, all) {
-        return false;
-    }
     let later = later_dimension(kind);
-    if later == 0 {
-        return true;
-    }
-    group_allowed(later, &all[4..9])
+    group_allowed(n, numbers) && (later == 0 || group_allowed(later, &numbers[4..]))
 }
 
 // ---- scales
@@ -236,14 +247,10 @@ pub fn frame_allowed(kind: u8, numbers: &[i64; 9]) -> bool
 fn at_degree(row: &[u64], degree: u8) -> u64
     ensures { result ≡ at_degree row.now degree }
 {
-    let m = degree as usize;
-    if m == 0 {
+    if degree == 0 {
         return 0;
     }
-    if row.len() < m {
-        return 0;
-    }
-    row[m - 1]
+    row.get(usize::from(degree) - 1).copied().unwrap_or(0)
 }
 
 // The scale of one group, read off the row of its dimension; 0 where there is no such row or no such degree.
@@ -255,20 +262,4 @@ pub fn group_scale(dimension: usize, degree: u8) -> u64
         2 => at_degree(&PATCHES, degree),
         _ => 0,
     }
-}
-
-// The scale, the product of the groups' scales; 0 where there is no such kind, or where it has no such
-// degrees.
-pub fn scale(kind: u8, degree: u8, second: u8) -> u64
-    ensures { result ≡ scale_of kind degree second }
-{
-    if !known_kind(kind, degree, second) {
-        return 0;
-    }
-    let first = group_scale(dimension_of(kind), degree);
-    let later = later_dimension(kind);
-    if later == 0 {
-        return first;
-    }
-    first * group_scale(later, second)
 }

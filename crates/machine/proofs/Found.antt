@@ -95,7 +95,7 @@ found-range p later h = (h p (Memᴰ.head refl), range, by (is_four_zeros p))
     range = left-range (p ∷ later) h
 
     answered : refusal (projection_of_four left) ≡ 0
-    answered = (projected left.x left.y left.z left.w refl).1.0 ∙ ap (λ b. cond b 0 10) range
+    answered = (projected left (projection_of_four left) refl).1.0 ∙ ap (λ b. cond b 0 10) range
 
     by : (b : Bool) → refusal (cond b (without_length (projection_of_four left)) (projection_of_four left)) ≡ 0
     by true = length-unseen (projection_of_four left) ∙ answered

@@ -1,5 +1,6 @@
 pub mod AllSamples
 pub mod Names
+pub mod Numbers
 pub mod Refusals
 pub mod Frames
 pub mod LargestAfter

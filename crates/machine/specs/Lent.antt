@@ -11,6 +11,7 @@ use Rattle.polar.specs.Groups.{monomials_over}
 use Rattle.entries.specs.Entries.{number_count}
 use Rattle.machine.specs.Refusals.{◌else◌, first_failed}
 use Rattle.kinds.specs.Kinds.{groups_of}
+use Rattle.kinds.specs.declared.Head.{Head}
 use Rattle.kinds.specs.Frames.{frames_of, numbers_of}
 use Rattle.machine.specs.Steps.{point_values}
 use Rattle.machine.specs.Nets.{Net, net_tests, accepted}
@@ -25,6 +26,10 @@ use Rattle.machine.specs.declared.Call.TheVariants.{Move, Point}
 abbrev pub byte_of : ℤ → ℕ
 byte_of (pos n) = cond (leb n 255) n 255
 byte_of (negsuc n) = 255
+
+-- the head of the net in lent places: kind and degrees, in the first three of them
+abbrev pub head_at : List ℤ → Head
+head_at lent = record { kind = byte_of (get_or lent 0 (pos 0)); degree = byte_of (get_or lent 1 (pos 0)); second = byte_of (get_or lent 2 (pos 0)) }
 
 -- the net that stands in lent places
 unfoldable pub net_at : List ℤ → Net

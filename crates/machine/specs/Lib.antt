@@ -1,4 +1,5 @@
 pub mod Refusals
+pub mod Numbers
 pub mod Calls
 pub mod Frames
 pub mod Sizes

@@ -1,9 +1,10 @@
 -- What several reads take of the bytes that a reader has left, and several writes bring to those that a writer
 -- holds, where these are known.
-use Rattle.std.proofs.Common.{arith, ℕ, ◌+◌, ◌-◌, ◌≤◌, ◌≡◌, sym, ap, subst, ◌∙◌, List, ◌++◌, append_assoc, length, take, drop, length-append, length-drop, ℤ, pos, Option, None, Some, IfSome}
+use Rattle.std.proofs.Common.{arith, ℕ, ◌+◌, ◌-◌, ◌≤◌, ◌≡◌, refl, sym, ap, subst, ◌∙◌, List, ◌++◌, append_assoc, length, take, drop, length-append, length-drop, Option, None, Some, IfSome}
 use Rattle.std.proofs.Math.Seq.{take-add, take_all, take-append_seam, length-take-le}
 use Rattle.std.specs.Io.KnownBytes.{Consumes, Appends, IsAtEnd}
-use Rattle.netprint.specs.Process.{gave_bytes, ReadOf}
+use Rattle.std.specs.Option.{unwrap_or}
+use Rattle.netprint.specs.Process.{Moved, gave_bytes, ReadOf}
 use Rattle.netprint.specs.declared.Stop.{Stop}
 
 -- two reads one after the other
@@ -13,8 +14,17 @@ consumes-both (Some xs) None new a b p q = absurd p
 consumes-both (Some xs) (Some ys) None a b p q = absurd q
 consumes-both (Some xs) (Some ys) (Some zs) a b p q = p ∙ ap (λ r. a ++ r) q ∙ sym (append_assoc a b zs)
 
+-- how many bytes a read gave, 0 where it failed; and they are within the places that it was lent
+pub gave-some : (got : Option ℕ) → unwrap_or got 0 ≡ gave_bytes got
+gave-some None = refl
+gave-some (Some n) = refl
+
+pub moved-within : {m n d k : ℕ} (got : Option ℕ) → k ≡ gave_bytes got → d ≤ m → n ≡ m → Moved (m - d) got → d + k ≤ n
+moved-within None is low same moved = omega (arith, is, low, same)
+moved-within (Some k) is low same moved = omega (arith, is, low, same, moved)
+
 -- a read that gave k bytes, behind the first d, which it leaves as they were
-pub consumes-more : (old mid new : Option (List ℕ)) (before after : List ℕ) (d k : ℕ) (got : ℤ) → k ≡ gave_bytes got
+pub consumes-more : (old mid new : Option (List ℕ)) (before after : List ℕ) (d k : ℕ) (got : Option ℕ) → k ≡ gave_bytes got
     → take d after ≡ take d before → Consumes old mid (take d before)
     → Consumes mid new (take (gave_bytes got) (drop d after)) → Consumes old new (take (d + k) after)
 consumes-more old mid new before after d k got is kept p q =
@@ -24,7 +34,7 @@ consumes-more old mid new before after d k got is kept p q =
 
 -- what was read is of all the bytes that the reader had
 pub read-of : (old new : Option (List ℕ)) (stop : Stop) (input : List ℕ) → stop.bytes ≤ length input
-    → Consumes old new (take stop.bytes input) → (stop.last ≡ pos 0 → IsAtEnd new)
+    → Consumes old new (take stop.bytes input) → (stop.last ≡ Some 0 → IsAtEnd new)
     → IfSome old (λ whole. ReadOf stop input whole)
 read-of None new stop input within p ended = tt
 read-of (Some xs) None stop input within p ended = absurd p

@@ -6,11 +6,12 @@ use mathlib.Core.Path.{◌≡◌, refl, sym, ap, subst, ◌∙◌}
 use mathlib.Core.Bool.{Bool, true, false, cond}
 use mathlib.Core.List.{List, ◌++◌}
 use borrow.Author.Tests.{le-leb}
-use lib.IntN.{ℤ, pos, negsuc}
 use lib.ListN.{length, take, drop}
 use lib.Seq.{take_all}
-use Rattle.text.specs.declared.Written.{Written}
-use Rattle.text.specs.declared.Written.TheVariants.{Bytes, Refused}
+use Rattle.std.specs.Prelude.{Result, Ok, Err, Option, None, Some}
+use Rattle.std.specs.Result.{result_unwrap_or}
+use Rattle.machine.specs.declared.Refusal.{Refusal}
+use Rattle.machine.specs.declared.Refusal.TheVariants.{Short}
 use Rattle.text.specs.Text.{text_of, fits, written_of, written_bytes, buffer_of}
 use Rattle.text.specs.Longest.{longest_text}
 use Rattle.text.proofs.Longest.{no-longer-text, text-by-first-bytes}
@@ -32,12 +33,12 @@ module _ (s out : List ℕ) where
     has_room = le-leb (length (text_of s)) (length out) (omega (arith, no-longer-text s))
 
     -- every text fits, so it is written
-    whole : (w : Written) (left : List ℕ) → w ≡ written_of (text_of s) out → left ≡ buffer_of (text_of s) out
+    whole : (w : Result ℕ Refusal) (left : List ℕ) → w ≡ written_of (text_of s) out → left ≡ buffer_of (text_of s) out
         → Output false (written_bytes w) left
     unfolding written_of buffer_of
     whole w left answered stands =
         let n = length (text_of s) in
-        let bytes = ap (λ b. cond b (Bytes n) (Refused 11)) has_room in
+        let bytes = ap (λ b. cond b (Ok n) (Err Short)) has_room in
         let is : written_bytes w ≡ n = ap written_bytes (answered ∙ bytes) in (
           is,
           stands
@@ -45,10 +46,15 @@ module _ (s out : List ℕ) where
               ∙ ap (λ k. text_of s ++ drop k out) (sym is),
         )
 
-    pub output-text : {f : Bool} (w : Written) (left : List ℕ) → false ≡ f → w ≡ written_of (text_of s) out
+    pub output-text : {f : Bool} (w : Result ℕ Refusal) (left : List ℕ) → false ≡ f → w ≡ written_of (text_of s) out
         → left ≡ buffer_of (text_of s) out → Output f (written_bytes w) left
     output-text w left at answered stands =
         subst (λ f. Output f (written_bytes w) left) at (whole w left answered stands)
+
+-- how many bytes are counted where the text was not written
+pub bytes-are : (w : Result ℕ Refusal) → result_unwrap_or w 0 ≡ written_bytes w
+bytes-are (Ok n) = refl
+bytes-are (Err r) = refl
 
 -- ---- the whole input
 
@@ -60,12 +66,12 @@ pub output-of-whole : (stop : Stop) (input : List ℕ) → Stopped stop input �
     → OutputOfWhole stop input
 output-of-whole stop input stopped places all of = by stop.last refl
   where
-    by : (last : ℤ) → stop.last ≡ last
+    by : (last : Option ℕ) → stop.last ≡ last
         → output_by (failed last) (take stop.bytes input) ≡ output_by (failed last) all
-    by (negsuc n) is = refl
-    by (pos zero) is =
+    by None is = refl
+    by (Some zero) is =
         let ends = of.ended is in
         ap text_of (of.first ∙ take_all stop.bytes all (omega (arith, ends)))
-    by (pos (suc n)) is =
+    by (Some (suc n)) is =
         let full = stopped.full (ap gave is) in
         ap text_of of.first ∙ text-by-first-bytes stop.bytes (omega (arith, full, places)) all

@@ -1,30 +1,30 @@
 -- What netprint makes of the answers of its reads and writes: an answer about bytes that were not all read is
 -- never printed.
-use Rattle.std.specs.Prelude.{ℕ, zero, suc, ◌≤◌, ◌≡◌, Bool, true, false, List, [], ◌++◌, ℤ, pos, negsuc, length, take, drop}
+use Rattle.std.specs.Prelude.{ℕ, zero, suc, ◌≤◌, ◌≡◌, ⊤, Bool, true, false, Option, None, Some, List, [], ◌++◌, length, take, drop}
 use Rattle.io.specs.Counts.{IsPrefixLen}
 use Rattle.text.specs.Text.{text_of}
 use Rattle.netprint.specs.declared.Stop.{Stop}
 
--- a read of at most n bytes has answered how many it gave, or -1
-abbrev pub Moved : ℕ → ℤ → Type 0
-Moved n (pos k) = k ≤ n
-Moved n (negsuc k) = k ≡ 0
+-- a read of at most n bytes has answered how many it gave, or nothing
+abbrev pub Moved : ℕ → Option ℕ → Type 0
+Moved n (Some k) = k ≤ n
+Moved n None = ⊤
 
 -- how many bytes a read gave
-abbrev pub gave_bytes : ℤ → ℕ
-gave_bytes (pos n) = n
-gave_bytes (negsuc n) = 0
+abbrev pub gave_bytes : Option ℕ → ℕ
+gave_bytes (Some n) = n
+gave_bytes None = 0
 
--- a read that failed has answered -1
-abbrev pub failed : ℤ → Bool
-failed (pos n) = false
-failed (negsuc n) = true
+-- a read that failed has answered nothing
+abbrev pub failed : Option ℕ → Bool
+failed (Some n) = false
+failed None = true
 
 -- a read that gave bytes has answered how many
-abbrev pub gave : ℤ → Bool
-gave (pos zero) = false
-gave (pos (suc n)) = true
-gave (negsuc n) = false
+abbrev pub gave : Option ℕ → Bool
+gave (Some zero) = false
+gave (Some (suc n)) = true
+gave None = false
 
 -- The bytes that were read are the first of the buffer, and reading does not stop after a read that gave bytes,
 -- unless the buffer is full.
@@ -44,7 +44,7 @@ ReadEnough = (s : List ℕ) → text_of (take most_read s) ≡ text_of s
 -- the last read answered 0, the end of the input.
 pub record ReadOf (stop : Stop) (input whole : List ℕ) : Type 0 where
   pub first : take stop.bytes input ≡ take stop.bytes whole
-  pub ended : stop.last ≡ pos 0 → stop.bytes ≡ length whole
+  pub ended : stop.last ≡ Some 0 → stop.bytes ≡ length whole
 
 -- for standard output: the text of the bytes that were read, and nothing where a read failed
 abbrev pub output_by : Bool → List ℕ → List ℕ
@@ -74,5 +74,5 @@ error_by true wrote unread unwritten = unread
 error_by false true unread unwritten = []
 error_by false false unread unwritten = unwritten
 
-abbrev pub error_for : ℤ → Bool → List ℕ → List ℕ → List ℕ
+abbrev pub error_for : Option ℕ → Bool → List ℕ → List ℕ → List ℕ
 error_for last wrote unread unwritten = error_by (failed last) wrote unread unwritten

@@ -11,7 +11,7 @@
 // again. The exit status is 0 in each case.
 #![tactic(auto)]
 
-ghost use Rattle.std.specs.Prelude.{◌≡◌, ◌-◌, ◌<◌, ◌≤◌, pos, length, take, drop, IfSome, IsTrue};
+ghost use Rattle.std.specs.Prelude.{◌≡◌, ◌-◌, ◌<◌, ◌≤◌, length, take, drop, IfSome, IsTrue};
 ghost use Rattle.std.specs.Io.KnownBytes.{Consumes, Appends, IsAtEnd};
 ghost use Rattle.text.specs.Longest.{longest_text};
 ghost use Rattle.netprint.specs.Process.{
@@ -19,51 +19,41 @@ ghost use Rattle.netprint.specs.Process.{
   gave_bytes,
   Stopped,
   ReadOf,
-  failed,
   most_read,
   OutputReady,
   error_for,
 };
 
 use std::io::{Read, Write};
-use text::{Written, write_text};
+use text::write_text;
 
 // Where reading stopped.
-#[derive(Clone, Copy)]
+#[derive(Clone, Copy, Debug, PartialEq, Eq)]
 struct Stop {
     // How many bytes were read.
     bytes: usize,
-    // What the last read answered: -1 where it failed, 0 at the end of the input, else how many bytes
+    // What the last read answered: nothing where it failed, 0 at the end of the input, else how many bytes
     // it gave.
-    last: isize,
+    last: Option<usize>,
 }
 
-// One read, into the places from `done` on. It answers -1 where it failed, 0 at the end of the input, else
-// how many bytes it gave. The bytes before them stay. Where it is known which bytes the reader has left, it
-// gives the first of these, and at the answer 0 to one place or more none is left.
-fn read_on<R: Read>(from: &mut R, input: &mut [u8], done: usize) -> isize
+// One read, into the places from `done` on. It answers nothing where it failed, 0 at the end of the input,
+// else how many bytes it gave. The bytes before them stay. Where it is known which bytes the reader has
+// left, it gives the first of these, and at the answer 0 to one place or more none is left.
+fn read_on<R: Read>(from: &mut R, input: &mut [u8], done: usize) -> Option<usize>
     requires { done ≤ length input.old }
     ensures moved { Moved (length input.old - done) result }
     ensures kept { take done input.new ≡ take done input.old }
     ensures bytes { Consumes (R.remaining from.old) (R.remaining from.new)
         (take (gave_bytes result) (drop done input.new)) }
-    ensures end { result ≡ pos 0 → done < length input.old → IsAtEnd (R.remaining from.new) }
+    ensures end { result ≡ Some 0 → done < length input.old → IsAtEnd (R.remaining from.new) }
 {
-    match from.read(&mut input[done..]) {
-        Ok(n) => n as isize,
-        Err(_) => -1,
-    }
+    from.read(&mut input[done..]).ok()
 }
 
-// How many bytes a read gave, by its answer.
-fn count(got: isize) -> usize
-    ensures { result ≡ gave_bytes got }
-{
-    if got < 0 { 0 } else { got as usize }
-}
-
-// Reads until the input ends, `input` is full or a read fails. Where it is known which bytes the reader has
-// left, these are the whole input of which what is read is a part.
+// Reads until the input ends, `input` is full or a read fails. A read gives as many bytes as it likes, so
+// no `for` counts them. Where it is known which bytes the reader has left, these are the whole input of
+// which what is read is a part.
 fn read_input<R: Read>(from: &mut R, input: &mut [u8]) -> Stop
     ensures stopped { Stopped result input.new }
     ensures read { 0 < length input.old → IfSome (R.remaining from.old)
@@ -71,29 +61,13 @@ fn read_input<R: Read>(from: &mut R, input: &mut [u8]) -> Stop
 {
     let mut done = 0;
     loop {
-        let got = read_on(from, input, done);
-        let more = count(got);
-        if more == 0 {
-            return Stop {
-                bytes: done,
-                last: got,
-            };
-        }
+        let last = read_on(from, input, done);
+        let more = last.unwrap_or(0);
         done += more;
-        if done == input.len() {
-            return Stop {
-                bytes: done,
-                last: got,
-            };
+        if more == 0 || done == input.len() {
+            return Stop { bytes: done, last };
         }
     }
-}
-
-// Whether the read that gave this answer failed.
-fn is_failed(last: isize) -> bool
-    ensures { result ≡ failed last }
-{
-    last < 0
 }
 
 // Puts what goes to standard output into `out` and answers how many bytes that is: the text of the
@@ -105,32 +79,34 @@ fn answer(stop: Stop, input: &[u8], out: &mut [u8]) -> usize
     requires out { longest_text ≤ length out.old }
     ensures { OutputReady stop input.now out.old out.new result }
 {
-    if is_failed(stop.last) {
+    if stop.last.is_none() {
         return 0;
     }
     let n = stop.bytes;
-    match write_text(&input[..n], out) {
-        Written::Bytes(k) => k,
-        Written::Refused(_) => 0,
-    }
+    write_text(&input[..n], out).unwrap_or(0)
 }
 
 // What goes to standard error: one of two lines, `unread` where a read failed and `unwritten` where a
 // write failed, and else nothing.
-fn complaint<'a>(last: isize, wrote: bool, unread: &'a [u8], unwritten: &'a [u8]) -> &'a [u8]
+fn complaint<'a>(
+    last: Option<usize>,
+    wrote: bool,
+    unread: &'a [u8],
+    unwritten: &'a [u8],
+) -> &'a [u8]
     ensures { result.now ≡ error_for last wrote unread.now unwritten.now }
 {
-    if is_failed(last) {
+    if last.is_none() {
         return unread;
     }
     if wrote {
-        return &unread[0..0];
+        return b"";
     }
     unwritten
 }
 
 // Writes all the bytes and answers true, or stops at the first write that takes nothing or fails, and answers
-// false. Of no bytes at all it makes no call and answers true.
+// false. Of no bytes at all it makes no call and answers true. std's `write_all` makes an interrupted call again.
 fn write_whole<W: Write>(to: &mut W, bytes: &[u8]) -> bool
     ensures { IsTrue result → Appends (W.contents to.old) (W.contents to.new) bytes.now }
 {
@@ -146,7 +122,7 @@ fn write_whole<W: Write>(to: &mut W, bytes: &[u8]) -> bool
 
 // `answer` gets the places that it demands. 2048 bytes suffice, what comes after them is not read: the text
 // of any input is that of its first bytes (crates/text/specs/Longest.antt). No text is longer than 4183
-// bytes, so write_text does not answer 11 here.
+// bytes, so write_text does not refuse here.
 fn main(rt: HostRuntime) {
     let mut input = [0u8; 2048];
     let stop = read_input(&mut rt.stdin(), &mut input);

@@ -27,7 +27,7 @@ pub record At (w n m : ℕ) (ws xs cur : List ℤ) (h : ℕ) : Type 0 where
   pub ranged : all in_range (take (size w n (m - h)) cur) ≡ true
   pub named : all (named_at w n m ws xs) (upto (suc h)) ≡ true
 
-module _ (w n m : ℕ) (weights : Weights) (xs : List ℤ) (start : Descends w n m weights xs) where
+module _ {w n m : ℕ} {weights : Weights} {xs : List ℤ} (start : Descends w n m weights xs) where
   abbrev ws : List ℤ
   ws = weight_list weights
 
@@ -49,7 +49,7 @@ module _ (w n m : ℕ) (weights : Weights) (xs : List ℤ) (start : Descends w n
         named = named-first w n some m ws xs room (sym (level-named w n some m ws xs room 0 zero-le) ∙ ranged);
       }
 
-  module _ (cur : List ℤ) (h : ℕ) (a : At w n m ws xs cur h) where
+  module _ {cur : List ℤ} {h : ℕ} (a : At w n m ws xs cur h) where
     -- the numbers that the next step reads
     pub at_room : size w n (m - h) ≤ length cur
     at_room = let less = size_mono w n (m - h) m (omega arith) in omega (arith, less, room, a.long)
@@ -59,7 +59,7 @@ module _ (w n m : ℕ) (weights : Weights) (xs : List ℤ) (start : Descends w n
     at-bounded = range-bounded cur (size w n (m - h)) (weight_sum weights) at_room a.ranged start.light
 
     -- the next step, whose answer is b
-    module _ (more : h < m) (b : Bool) (is : b ≡ all in_range (take (size w n (pred (m - h))) (blended w n (pred (m - h)) ws cur))) where
+    module _ (more : h < m) {b : Bool} (is : b ≡ all in_range (take (size w n (pred (m - h))) (blended w n (pred (m - h)) ws cur))) where
       abbrev next : List ℤ
       next = blended w n (pred (m - h)) ws cur
 
@@ -76,8 +76,8 @@ module _ (w n m : ℕ) (weights : Weights) (xs : List ℤ) (start : Descends w n
       pub at-fails : b ≡ false → false ≡ all_named_at w n m ws xs
       at-fails no-range = sym (named-fails w n some m ws xs room (suc h) more (sym next-named ∙ no-range))
 
-      pub at_next : b ≡ true → (ys : List ℤ) → ys ≡ next → length ys ≡ length cur → At w n m ws xs ys (h + 1)
-      at_next ok ys made kept =
+      pub at_next : b ≡ true → {ys : List ℤ} → ys ≡ next → length ys ≡ length cur → At w n m ws xs ys (h + 1)
+      at_next ok {ys} made kept =
           subst (λ k. At w n m ws xs ys k) (sym (add-one h))
           (record {
             below = more;

@@ -29,7 +29,7 @@ use Rattle.entries.proofs.Lengths.{length-one, monomials-counts}
 use Rattle.entries.proofs.Listed.{length-listed, digits-below}
 use Rattle.entries.proofs.ListedOver.{length-listed-over, listed-over-cong}
 use Rattle.projection.specs.Projection.{is_zero}
-use Rattle.kinds.specs.Kinds.{group, groups_of, dimension_of, later_groups, later_dimension, known}
+use Rattle.kinds.specs.Kinds.{group, dimension_of, later_groups, later_dimension, known}
 use Rattle.kinds.specs.Frames.{frame_of, determinant, frame_allowed, frame_count, frames_of, frames_allowed}
 use Rattle.kinds.proofs.Limits.{UpTo, by-known, limits, groups-of, later-none, later-one, pairs-only}
 use Rattle.kinds.proofs.Counts.{coefficients-entries, row-size, known-size, size_fits, frame-few}
@@ -42,6 +42,8 @@ use Rattle.machine.specs.First.{first_tests, first_net}
 use Rattle.machine.specs.Lent.{put_at, put_net, enough_places, unless_refused, polynomials_from, made_number, made_places}
 use Rattle.machine.proofs.Refusals.{none-failed, passed_first, refused-first, row-passes}
 use Rattle.machine.proofs.Lent.{part-put}
+use Rattle.kinds.specs.Heads.{head_groups}
+use Rattle.kinds.specs.declared.Head.{Head}
 use Rattle.nets.specs.Rows.{Sized, written}
 use Rattle.nets.specs.Parts.{part_at, in_parts}
 use Rattle.nets.specs.Coordinates.{NoneBeyond, Limited}
@@ -130,74 +132,74 @@ later-fits = by-known (λ kind p q. (later_dimension kind ≡ 0 → ⊥) → (4 
 
 -- ---- a known kind
 
-module _ (kind p q : ℕ) (right : known kind p q ≡ true) where
+module _ (head : Head) (right : known head.kind head.degree head.second ≡ true) where
   abbrev n : ℕ
-  n = dimension_of kind
+  n = dimension_of head.kind
 
   abbrev later : List Group
-  later = later_groups kind q
+  later = later_groups head.kind head.second
 
   -- how many numbers a row has, seen from the first group
   abbrev w : ℕ
   w = number_count later
 
   -- as many coefficients as numbers
-  coefficients-size : 4 * length (monomials_over (groups_of kind p q)) ≡ size w n p
-  coefficients-size = coefficients-entries (groups_of kind p q) ∙ known-size kind p q right
+  coefficients-size : 4 * length (monomials_over (head_groups head)) ≡ size w n head.degree
+  coefficients-size = coefficients-entries (head_groups head) ∙ known-size head.kind head.degree head.second right
 
   monomials-size : (v d m : ℕ) → v * length (monomials d m) ≡ size v d m
   monomials-size v d m = ap (λ k. v * k) (monomials-counts d m)
 
   abbrev l : ℕ
-  l = later_dimension kind
+  l = later_dimension head.kind
 
   -- ---- the second group's parts of what the first group's making leaves
 
-  module _ (frame coefficients : List ℤ) (some : later_dimension kind ≡ 0 → ⊥) (room out : List ℤ) (places : size w n p ≤ length room) (made : out ≡ framed_list w n p frame coefficients room) where
+  module _ (frame coefficients : List ℤ) (some : later_dimension head.kind ≡ 0 → ⊥) (room out : List ℤ) (places : size w n head.degree ≤ length room) (made : out ≡ framed_list w n head.degree frame coefficients room) where
     abbrev rows : List ℤ
-    rows = framed w n p frame coefficients
+    rows = framed w n head.degree frame coefficients
 
-    rows_long : length rows ≡ size w n p
+    rows_long : length rows ≡ size w n head.degree
     unfolding framed
-    rows_long = length-listed w n p _
+    rows_long = length-listed w n head.degree _
 
     -- a part of the second group
-    pub part-size : size 4 l q ≡ w
+    pub part-size : size 4 l head.second ≡ w
     unfolding counts_over
-    part-size = sym (ap number_count (later-one kind q some) ∙ row-size (later_dimension kind) q [])
+    part-size = sym (ap number_count (later-one head.kind head.second some) ∙ row-size (later_dimension head.kind) head.second [])
 
-    entries-first : length (counts n p) ≡ p + 1
-    entries-first = ap (λ d. length (counts d p)) (pairs-only kind some).1 ∙ length-one p ∙ sym (add-one p)
+    entries-first : length (counts n head.degree) ≡ head.degree + 1
+    entries-first = ap (λ d. length (counts d head.degree)) (pairs-only head.kind some).1 ∙ length-one head.degree ∙ sym (add-one head.degree)
 
-    pub parts-room : size 4 l q * (p + 1) ≡ size w n p
+    pub parts-room : size 4 l head.second * (head.degree + 1) ≡ size w n head.degree
     parts-room = ap₂ ◌*◌ part-size (sym entries-first)
 
     -- its numbers are those of the rows
-    part-is : (j : ℕ) → j < p + 1 → part_at (size 4 l q) out j ≡ part_at w rows j
+    part-is : (j : ℕ) → j < head.degree + 1 → part_at (size 4 l head.second) out j ≡ part_at w rows j
     part-is j h =
         ap₂ (λ k xs. part_at k xs j) part-size made
-        ∙ ap (take w) (drop-append-le (w * j) rows (drop (size w n p) room) (subst (λ k. w * j ≤ k) (sym rows_long) (le_trans (le-add_right (w * j) w) inside)))
-        ∙ take-append-le w (drop (w * j) rows) (drop (size w n p) room) (subst (λ k. w ≤ k) (sym (length-drop (w * j) rows ∙ ap (λ k. k - w * j) rows_long)) (omega (arith, inside)))
+        ∙ ap (take w) (drop-append-le (w * j) rows (drop (size w n head.degree) room) (subst (λ k. w * j ≤ k) (sym rows_long) (le_trans (le-add_right (w * j) w) inside)))
+        ∙ take-append-le w (drop (w * j) rows) (drop (size w n head.degree) room) (subst (λ k. w ≤ k) (sym (length-drop (w * j) rows ∙ ap (λ k. k - w * j) rows_long)) (omega (arith, inside)))
       where
-        inside : w * j + w ≤ size w n p
+        inside : w * j + w ≤ size w n head.degree
         inside = let up = mul-le-mul_left w (subst (λ k. j < k) (sym entries-first) h) in omega (arith, up, mul-suc w j)
 
-    pub parts_in : size 4 l q * (p + 1) ≤ length out
+    pub parts_in : size 4 l head.second * (head.degree + 1) ≤ length out
     parts_in =
-        subst (λ k. size 4 l q * (p + 1) ≤ k) (sym (ap length made ∙ length-append rows (drop (size w n p) room) ∙ ap₂ ◌+◌ rows_long (length-drop (size w n p) room)))
-        (subst (λ k. k ≤ size w n p + (length room - size w n p)) (sym parts-room) (omega arith))
+        subst (λ k. size 4 l head.second * (head.degree + 1) ≤ k) (sym (ap length made ∙ length-append rows (drop (size w n head.degree) room) ∙ ap₂ ◌+◌ rows_long (length-drop (size w n head.degree) room)))
+        (subst (λ k. k ≤ size w n head.degree + (length room - size w n head.degree)) (sym parts-room) (omega arith))
 
   -- ---- what is accepted is within the limits
 
   -- the first group has four numbers, and the others are the second group's
-  pub others-are : (frame : List ℤ) → length frame ≡ 9 → (later_dimension kind ≡ 0 → ⊥) → take 5 (drop 4 frame) ≡ drop (suc n * suc n) frame
-  others-are frame nine some = take_all 5 (drop 4 frame) (simp length-drop (omega arith)) ∙ ap (λ d. drop (suc d * suc d) frame) (sym (pairs-only kind some).1)
+  pub others-are : (frame : List ℤ) → length frame ≡ 9 → (later_dimension head.kind ≡ 0 → ⊥) → take 5 (drop 4 frame) ≡ drop (suc n * suc n) frame
+  others-are frame nine some = take_all 5 (drop 4 frame) (simp length-drop (omega arith)) ∙ ap (λ d. drop (suc d * suc d) frame) (sym (pairs-only head.kind some).1)
 
-  module _ (frame : List ℤ) (nine : length frame ≡ 9) (ok : frames_allowed (groups_of kind p q) frame ≡ true) where
+  module _ (frame : List ℤ) (nine : length frame ≡ 9) (ok : frames_allowed (head_groups head) frame ≡ true) where
     -- the first frame and the others
     frame-parts : (frame_allowed (suc n) frame ≡ true) × (frames_allowed later (drop (suc n * suc n) frame) ≡ true)
     unfolding frames_allowed
-    frame-parts = and_parts (frame_allowed (suc n) frame) (frames_allowed later (drop (suc n * suc n) frame)) (subst (λ gs. frames_allowed gs frame ≡ true) (groups-of kind p q right) ok)
+    frame-parts = and_parts (frame_allowed (suc n) frame) (frames_allowed later (drop (suc n * suc n) frame)) (subst (λ gs. frames_allowed gs frame ≡ true) (groups-of head.kind head.degree head.second right) ok)
 
     -- a frame that is accepted is within its limit
     within-limit : (d : ℕ) (numbers : List ℤ) → suc d * suc d ≤ length numbers → frame_allowed (suc d) numbers ≡ true → FrameWithin d numbers
@@ -208,107 +210,107 @@ module _ (kind p q : ℕ) (right : known kind p q ≡ true) where
 
     first-corners : FrameWithin n frame
     first-corners =
-        let few = suc-le-suc (limits kind p q right).dimension-few in
+        let few = suc-le-suc (limits head.kind head.degree head.second right).dimension-few in
         within-limit n frame (subst (λ k. suc n * suc n ≤ k) (sym nine) (mul-le-mul few few)) frame-parts.0
 
-    module _ (some : later_dimension kind ≡ 0 → ⊥) where
+    module _ (some : later_dimension head.kind ≡ 0 → ⊥) where
       later-corners : FrameWithin l (take 5 (drop 4 frame))
       unfolding frames_allowed
       later-corners =
           subst (FrameWithin l) (sym (others-are frame nine some))
           (within-limit l (drop (suc n * suc n) frame) room
-          (and_parts (frame_allowed (suc l) (drop (suc n * suc n) frame)) true (subst (λ gs. frames_allowed gs (drop (suc n * suc n) frame) ≡ true) (later-one kind q some) frame-parts.1)).0)
+          (and_parts (frame_allowed (suc l) (drop (suc n * suc n) frame)) true (subst (λ gs. frames_allowed gs (drop (suc n * suc n) frame) ≡ true) (later-one head.kind head.second some) frame-parts.1)).0)
         where
           room : suc l * suc l ≤ length (drop (suc n * suc n) frame)
           room =
               subst (λ k. suc l * suc l ≤ k) (sym (length-drop (suc n * suc n) frame))
-              (subst (λ d. suc d * suc d ≤ length frame - suc n * suc n) (sym (pairs-only kind some).0)
-              (subst (λ d. 4 ≤ length frame - suc d * suc d) (sym (pairs-only kind some).1) (subst (λ k. 4 ≤ k - 4) (sym nine) (lit≤ tt))))
+              (subst (λ d. suc d * suc d ≤ length frame - suc n * suc n) (sym (pairs-only head.kind some).0)
+              (subst (λ d. 4 ≤ length frame - suc d * suc d) (sym (pairs-only head.kind some).1) (subst (λ k. 4 ≤ k - 4) (sym nine) (lit≤ tt))))
 
-    module _ (coefficients : List ℤ) (long : 180 ≤ length coefficients) (low : all (within 1048576) (take (4 * length (monomials_over (groups_of kind p q))) coefficients) ≡ true) where
-      coefficients-room : w * length (monomials n p) ≤ length coefficients
-      coefficients-room = le_trans (subst (λ k. k ≤ 180) (sym (monomials-size w n p)) (size_fits kind p q right)) long
+    module _ (coefficients : List ℤ) (long : 180 ≤ length coefficients) (low : all (within 1048576) (take (4 * length (monomials_over (head_groups head))) coefficients) ≡ true) where
+      coefficients-room : w * length (monomials n head.degree) ≤ length coefficients
+      coefficients-room = le_trans (subst (λ k. k ≤ 180) (sym (monomials-size w n head.degree)) (size_fits head.kind head.degree head.second right)) long
 
-      coefficients-up : NoneBeyond 1048576 (w * length (monomials n p)) coefficients
+      coefficients-up : NoneBeyond 1048576 (w * length (monomials n head.degree)) coefficients
       coefficients-up i b =
           leb-true (nat_abs (get_or coefficients i (pos 0))) 1048576
-          (all_first (within 1048576) (w * length (monomials n p)) coefficients (subst (λ k. all (within 1048576) (take k coefficients) ≡ true) (coefficients-size ∙ sym (monomials-size w n p)) low) i b
+          (all_first (within 1048576) (w * length (monomials n head.degree)) coefficients (subst (λ k. all (within 1048576) (take k coefficients) ≡ true) (coefficients-size ∙ sym (monomials-size w n head.degree)) low) i b
           (lt_of_lt_of_le b coefficients-room))
 
-      pub first-limited : Limited w n p coefficients
+      pub first-limited : Limited w n head.degree coefficients
       first-limited =
-          let lim = limits kind p q right in
+          let lim = limits head.kind head.degree head.second right in
           record {
-            sized = known-sized kind p q right;
+            sized = known-sized head.kind head.degree head.second right;
             low = lim.degree-low;
             high = omega (arith, lim.degree-below);
-            scaled = subst (λ k. k ≤ 2520) (first-scale kind p q right) (row_low n p);
+            scaled = subst (λ k. k ≤ 2520) (first-scale head.kind head.degree head.second right) (row_low n head.degree);
             long = coefficients-room;
             each = λ i b. le_trans (coefficients-up i b) (lit≤ tt);
           }
 
-      pub first-framing : Framing w n p frame coefficients
+      pub first-framing : Framing w n head.degree frame coefficients
       first-framing =
           record {
             limited = first-limited;
-            read = first-scale kind p q right;
+            read = first-scale head.kind head.degree head.second right;
             corners = first-corners;
             bound = 1048576;
             each = coefficients-up;
-            fits = first_fits kind p q right;
+            fits = first_fits head.kind head.degree head.second right;
           }
 
       -- ---- the second group, out being what the first group's making left
 
-      module _ (some : later_dimension kind ≡ 0 → ⊥) (room out : List ℤ) (places : size w n p ≤ length room) (made : out ≡ framed_list w n p frame coefficients room) where
-        part_up : (j : ℕ) → j < p + 1 → NoneBeyond 412316860416 (4 * length (monomials l q)) (part_at (size 4 l q) out j)
+      module _ (some : later_dimension head.kind ≡ 0 → ⊥) (room out : List ℤ) (places : size w n head.degree ≤ length room) (made : out ≡ framed_list w n head.degree frame coefficients room) where
+        part_up : (j : ℕ) → j < head.degree + 1 → NoneBeyond 412316860416 (4 * length (monomials l head.second)) (part_at (size 4 l head.second) out j)
         part_up j h i b =
             subst (λ x. nat_abs x ≤ 412316860416) (sym (ap (λ xs. get_or xs i (pos 0)) ((part-is frame coefficients some room out places made) j h) ∙ part-at w (rows frame coefficients some room out places made) j i below))
-            (le_trans (framed-small w n p frame coefficients first-limited first-corners 1048576 coefficients-up (w * j + i) inside) (first-up kind p q right some))
+            (le_trans (framed-small w n head.degree frame coefficients first-limited first-corners 1048576 coefficients-up (w * j + i) inside) (first-up head.kind head.degree head.second right some))
           where
             below : i < w
-            below = subst (λ k. i < k) (monomials-size 4 l q ∙ (part-size frame coefficients some room out places made)) b
+            below = subst (λ k. i < k) (monomials-size 4 l head.second ∙ (part-size frame coefficients some room out places made)) b
 
-            inside : w * j + i < size w n p
-            inside = digits-below w j i (length (counts n p)) (subst (λ k. j < k) (sym (entries-first frame coefficients some room out places made)) h) below
+            inside : w * j + i < size w n head.degree
+            inside = digits-below w j i (length (counts n head.degree)) (subst (λ k. j < k) (sym (entries-first frame coefficients some room out places made)) h) below
 
-        pub later-sized : Sized 4 l q
+        pub later-sized : Sized 4 l head.second
         later-sized =
-            let one = (pairs-only kind some).0 in
+            let one = (pairs-only head.kind some).0 in
             record {
               some = lit≤ tt;
               low = subst (λ d. 1 ≤ d) (sym one) (lit≤ tt);
               high = subst (λ d. d ≤ 2) (sym one) (lit≤ tt);
-              room = subst (λ k. k ≤ 180) (sym (part-size frame coefficients some room out places made)) (le_trans (le-mul_of_pos_right w (subst (λ k. 0 < k) (sym (entries-first frame coefficients some room out places made)) (omega arith))) (size_fits kind p q right));
+              room = subst (λ k. k ≤ 180) (sym (part-size frame coefficients some room out places made)) (le_trans (le-mul_of_pos_right w (subst (λ k. 0 < k) (sym (entries-first frame coefficients some room out places made)) (omega arith))) (size_fits head.kind head.degree head.second right));
             }
 
-        part-limited : (j : ℕ) → j < p + 1 → Limited 4 l q (part_at (size 4 l q) out j)
+        part-limited : (j : ℕ) → j < head.degree + 1 → Limited 4 l head.second (part_at (size 4 l head.second) out j)
         part-limited j h =
-            let lim = limits kind p q right in
-            let one = (pairs-only kind some).0 in
+            let lim = limits head.kind head.degree head.second right in
+            let one = (pairs-only head.kind some).0 in
             record {
               sized = later-sized;
               low = lim.second-low (subst (λ d. 1 ≤ d) (sym one) (lit≤ tt));
               high = omega (arith, lim.second_below);
-              scaled = subst (λ k. k ≤ 2520) (later-scale kind p q right some) (row_low l q);
-              long = le_of_eq (monomials-size 4 l q ∙ sym (part-long (size 4 l q) out j (p + 1) h (parts_in frame coefficients some room out places made)));
+              scaled = subst (λ k. k ≤ 2520) (later-scale head.kind head.degree head.second right some) (row_low l head.second);
+              long = le_of_eq (monomials-size 4 l head.second ∙ sym (part-long (size 4 l head.second) out j (head.degree + 1) h (parts_in frame coefficients some room out places made)));
               each = λ i b. le_trans (part_up j h i b) (lit≤ tt);
             }
 
-        pub later-framing : PartsFramed l q (p + 1) (take 5 (drop 4 frame)) out
+        pub later-framing : PartsFramed l head.second (head.degree + 1) (take 5 (drop 4 frame)) out
         later-framing =
             record {
               sized = later-sized;
-              room = subst (λ k. k ≤ 180) (sym (parts-room frame coefficients some room out places made)) (size_fits kind p q right);
+              room = subst (λ k. k ≤ 180) (sym (parts-room frame coefficients some room out places made)) (size_fits head.kind head.degree head.second right);
               long = (parts_in frame coefficients some room out places made);
               part =
                   λ j h. record {
                     limited = part-limited j h;
-                    read = later-scale kind p q right some;
+                    read = later-scale head.kind head.degree head.second right some;
                     corners = later-corners some;
                     bound = 412316860416;
                     each = part_up j h;
-                    fits = later-fits kind p q right some;
+                    fits = later-fits head.kind head.degree head.second right some;
                   };
             }
 
@@ -316,61 +318,61 @@ module _ (kind p q : ℕ) (right : known kind p q ≡ true) where
 
   module _ (frame coefficients : List ℤ) where
     abbrev net : Net
-    net = first_net (polynomials_from kind p q coefficients) frame
+    net = first_net (polynomials_from head.kind head.degree head.second coefficients) frame
 
     abbrev over : List Group → List ℤ
     over gs = listed_over gs (λ c es. polar_over gs (terms c (monomials_over gs) coefficients) (entry_points_over (frames_of gs frame) es))
 
     -- its entries are the polar values, of coefficients that may have more after them
-    first-entries : net.entries ≡ over (group n p ∷ later)
+    first-entries : net.entries ≡ over (group n head.degree ∷ later)
     unfolding net_over polar_of
     first-entries =
-        listed-over-cong (groups_of kind p q) _ _
-        (λ c es k counted. ap (λ ts. polar_over (groups_of kind p q) ts (entry_points_over (frames_of (groups_of kind p q) frame) es)) (terms-taken c k (monomials_over (groups_of kind p q)) coefficients))
-        ∙ ap over (groups-of kind p q right)
+        listed-over-cong (head_groups head) _ _
+        (λ c es k counted. ap (λ ts. polar_over (head_groups head) ts (entry_points_over (frames_of (head_groups head) frame) es)) (terms-taken c k (monomials_over (head_groups head)) coefficients))
+        ∙ ap over (groups-of head.kind head.degree head.second right)
 
-    first_count : length net.entries ≡ number_count (groups_of kind p q)
+    first_count : length net.entries ≡ number_count (head_groups head)
     unfolding net_over
-    first_count = length-listed-over (groups_of kind p q) _
+    first_count = length-listed-over (head_groups head) _
 
     -- entries in front of what stood past them
-    put_front : (out : List ℤ) (es : List ℤ) → net.entries ≡ es → es ++ drop (size w n p) out ≡ put_at 0 net.entries out
+    put_front : (out : List ℤ) (es : List ℤ) → net.entries ≡ es → es ++ drop (size w n head.degree) out ≡ put_at 0 net.entries out
     put_front out es is =
-        ap₂ (λ xs k. xs ++ drop k out) (sym is) (sym (zero-add (length net.entries) ∙ first_count ∙ known-size kind p q right))
+        ap₂ (λ xs k. xs ++ drop k out) (sym is) (sym (zero-add (length net.entries) ∙ first_count ∙ known-size head.kind head.degree head.second right))
 
     -- one group: what its making leaves
-    pub one-made : later_dimension kind ≡ 0 → (out ys : List ℤ) → ys ≡ framed_list w n p frame coefficients out → ys ≡ put_at 0 net.entries out
+    pub one-made : later_dimension head.kind ≡ 0 → (out ys : List ℤ) → ys ≡ framed_list w n head.degree frame coefficients out → ys ≡ put_at 0 net.entries out
     unfolding counts_over
     one-made none out ys is =
         is
-        ∙ put_front out (framed w n p frame coefficients)
-        (first-entries ∙ ap (λ gs. over (group n p ∷ gs)) (later-none kind q none) ∙ one-framed n p frame coefficients
-        ∙ ap (λ gs. framed (number_count gs) n p frame coefficients) (sym (later-none kind q none)))
+        ∙ put_front out (framed w n head.degree frame coefficients)
+        (first-entries ∙ ap (λ gs. over (group n head.degree ∷ gs)) (later-none head.kind head.second none) ∙ one-framed n head.degree frame coefficients
+        ∙ ap (λ gs. framed (number_count gs) n head.degree frame coefficients) (sym (later-none head.kind head.second none)))
 
     -- two groups: what the second group's making leaves of it
-    pub two_made : (some : later_dimension kind ≡ 0 → ⊥) (room out ys : List ℤ) → length frame ≡ 9 → size w n p ≤ length room → out ≡ framed_list w n p frame coefficients room
-        → ys ≡ in_parts (framed 4 (later_dimension kind) q (take 5 (drop 4 frame))) (size 4 (later_dimension kind) q) (p + 1) out → ys ≡ put_at 0 net.entries room
+    pub two_made : (some : later_dimension head.kind ≡ 0 → ⊥) (room out ys : List ℤ) → length frame ≡ 9 → size w n head.degree ≤ length room → out ≡ framed_list w n head.degree frame coefficients room
+        → ys ≡ in_parts (framed 4 (later_dimension head.kind) head.second (take 5 (drop 4 frame))) (size 4 (later_dimension head.kind) head.second) (head.degree + 1) out → ys ≡ put_at 0 net.entries room
     unfolding in_parts
     two_made some room out ys nine places made is =
         is
-        ∙ ap₂ ◌++◌ (each (p + 1) (λ j h. h) ∙ ap (λ k. joined (λ j. framed 4 l q (drop (suc n * suc n) frame) (part_at w (framed w n p frame coefficients) j)) (upto k)) (sym (entries-first frame coefficients some room out places made)))
-        (ap₂ drop (parts-room frame coefficients some room out places made) made ∙ drop_at (framed w n p frame coefficients) (drop (size w n p) room) (size w n p) (rows_long frame coefficients some room out places made))
+        ∙ ap₂ ◌++◌ (each (head.degree + 1) (λ j h. h) ∙ ap (λ k. joined (λ j. framed 4 l head.second (drop (suc n * suc n) frame) (part_at w (framed w n head.degree frame coefficients) j)) (upto k)) (sym (entries-first frame coefficients some room out places made)))
+        (ap₂ drop (parts-room frame coefficients some room out places made) made ∙ drop_at (framed w n head.degree frame coefficients) (drop (size w n head.degree) room) (size w n head.degree) (rows_long frame coefficients some room out places made))
         ∙ put_front room _
         (first-entries
-        ∙ ap (λ gs. over (group n p ∷ gs)) (later-one kind q some)
-        ∙ more-framed n p (group l q ∷ []) frame coefficients
-        ∙ ap (λ f. joined f (upto (length (counts n p)))) (fun_ext (λ k. one-framed l q (drop (suc n * suc n) frame) _))
-        ∙ ap (λ gs. joined (λ j. framed 4 l q (drop (suc n * suc n) frame) (part_at (number_count gs) (framed (number_count gs) n p frame coefficients) j)) (upto (length (counts n p)))) (sym (later-one kind q some)))
+        ∙ ap (λ gs. over (group n head.degree ∷ gs)) (later-one head.kind head.second some)
+        ∙ more-framed n head.degree (group l head.second ∷ []) frame coefficients
+        ∙ ap (λ f. joined f (upto (length (counts n head.degree)))) (fun_ext (λ k. one-framed l head.second (drop (suc n * suc n) frame) _))
+        ∙ ap (λ gs. joined (λ j. framed 4 l head.second (drop (suc n * suc n) frame) (part_at (number_count gs) (framed (number_count gs) n head.degree frame coefficients) j)) (upto (length (counts n head.degree)))) (sym (later-one head.kind head.second some)))
       where
-        each : (k : ℕ) → ((j : ℕ) → j < k → j < p + 1)
-            → joined (λ j. framed 4 l q (take 5 (drop 4 frame)) (part_at (size 4 l q) out j)) (upto k)
-            ≡ joined (λ j. framed 4 l q (drop (suc n * suc n) frame) (part_at w (framed w n p frame coefficients) j)) (upto k)
+        each : (k : ℕ) → ((j : ℕ) → j < k → j < head.degree + 1)
+            → joined (λ j. framed 4 l head.second (take 5 (drop 4 frame)) (part_at (size 4 l head.second) out j)) (upto k)
+            ≡ joined (λ j. framed 4 l head.second (drop (suc n * suc n) frame) (part_at w (framed w n head.degree frame coefficients) j)) (upto k)
         each k inside =
-            joined-upto k (λ j. framed 4 l q (take 5 (drop 4 frame)) (part_at (size 4 l q) out j)) (λ j. framed 4 l q (drop (suc n * suc n) frame) (part_at w (framed w n p frame coefficients) j))
-            (λ j h. ap₂ (framed 4 l q) (others-are frame nine some) (part-is frame coefficients some room out places made j (inside j h)))
+            joined-upto k (λ j. framed 4 l head.second (take 5 (drop 4 frame)) (part_at (size 4 l head.second) out j)) (λ j. framed 4 l head.second (drop (suc n * suc n) frame) (part_at w (framed w n head.degree frame coefficients) j))
+            (λ j h. ap₂ (framed 4 l head.second) (others-are frame nine some) (part-is frame coefficients some room out places made j (inside j h)))
 
     -- and their largest component is that of the net
-    pub first-largest : (out ys : List ℤ) (count largest : ℕ) → count ≡ number_count (groups_of kind p q) → ys ≡ put_at 0 net.entries out → largest ≡ largest_of (take count ys)
+    pub first-largest : (out ys : List ℤ) (count largest : ℕ) → count ≡ number_count (head_groups head) → ys ≡ put_at 0 net.entries out → largest ≡ largest_of (take count ys)
         → largest ≡ largest_of net.entries
     first-largest out ys count largest counted is found =
         found ∙ ap (λ l. largest_of (take count l)) is ∙ ap largest_of (take_at net.entries (drop (0 + length net.entries) out) count (first_count ∙ sym counted))
@@ -450,39 +452,39 @@ part-copied at n lent xs count room fits long =
     part-long : length (take n (drop at lent)) ≡ n
     part-long = length-take-le n (drop at lent) (simp length-drop (omega arith))
 
-module _ (kind p q largest : ℕ) (lent frame entries : List ℤ) (asked : Stores kind p q largest lent frame entries) where
+module _ (head : Head) (largest : ℕ) (lent frame entries : List ℤ) (asked : Stores head largest lent frame entries) where
   abbrev gs : List Group
-  gs = groups_of kind p q
+  gs = head_groups head
 
   -- the net is in range where its largest component is
-  pub range-is : leb largest 281474976710656 ≡ net_in_range (net_with kind p q frame entries)
+  pub range-is : leb largest 281474976710656 ≡ net_in_range (net_with head frame entries)
   range-is = ap (λ l. leb l 281474976710656) asked.largest-is ∙ sym (largest-within 281474976710656 (take (number_count gs) entries))
 
   -- the largest component is put, the entries are copied into their part of the places, the frame's numbers into theirs, and the head is put
   pub net-put : (base some more ys : List ℤ) → base ≡ put_at 192 (pos largest ∷ []) lent → some ≡ put_at 12 (take (number_count gs) entries) base → more ≡ put_at 3 (take (frame_count gs) frame) some
-      → ys ≡ put_at 0 (pos kind ∷ pos p ∷ pos q ∷ []) more → ys ≡ put_net (net_with kind p q frame entries) lent
+      → ys ≡ put_at 0 (pos head.kind ∷ pos head.degree ∷ pos head.second ∷ []) more → ys ≡ put_net (net_with head frame entries) lent
   unfolding put_net
   net-put base some more ys base-is some_is more-is is =
       is
-      ∙ ap (put_at 0 (pos kind ∷ pos p ∷ pos q ∷ []))
+      ∙ ap (put_at 0 (pos head.kind ∷ pos head.degree ∷ pos head.second ∷ []))
       (more-is
-      ∙ ap₂ (λ numbers l. put_at 3 numbers l) (sym (numbers-back gs frame (subst (λ k. frame_count gs ≤ k) (sym asked.nine) (frame-few kind p q))))
+      ∙ ap₂ (λ numbers l. put_at 3 numbers l) (sym (numbers-back gs frame (subst (λ k. frame_count gs ≤ k) (sym asked.nine) (frame-few head.kind head.degree head.second))))
       (some_is ∙ ap (put_at 12 (take (number_count gs) entries)) (base-is ∙ ap (λ l. put_at 192 (pos l ∷ []) lent) asked.largest-is)))
 
 -- a first net that is made in a room is stored as it is
-module _ (kind p q : ℕ) (right : known kind p q ≡ true) (frame coefficients room out : List ℤ)
-    (made-is : out ≡ put_at 0 (first_net (polynomials_from kind p q coefficients) frame).entries room) where
+module _ (head : Head) (right : known head.kind head.degree head.second ≡ true) (frame coefficients room out : List ℤ)
+    (made-is : out ≡ put_at 0 (first_net (polynomials_from head.kind head.degree head.second coefficients) frame).entries room) where
   abbrev asked : Polynomials
-  asked = polynomials_from kind p q coefficients
+  asked = polynomials_from head.kind head.degree head.second coefficients
 
-  pub own-entries : take (number_count (groups_of kind p q)) out ≡ (first_net asked frame).entries
+  pub own-entries : take (number_count (head_groups head)) out ≡ (first_net asked frame).entries
   own-entries =
-      ap (take (number_count (groups_of kind p q))) made-is
-      ∙ take_at (first_net asked frame).entries (drop (0 + length (first_net asked frame).entries) room) (number_count (groups_of kind p q)) (first_count kind p q right frame coefficients)
+      ap (take (number_count (head_groups head))) made-is
+      ∙ take_at (first_net asked frame).entries (drop (0 + length (first_net asked frame).entries) room) (number_count (head_groups head)) (first_count head right frame coefficients)
 
-  own-net : net_with kind p q frame out ≡ first_net asked frame
+  own-net : net_with head frame out ≡ first_net asked frame
   unfolding net_over
-  own-net = ap (λ l. record { kind = kind; degree = p; second = q; frames = frames_of (groups_of kind p q) frame; entries = l; largest = pos (largest_of l) }) own-entries
+  own-net = ap (λ l. record { kind = head.kind; degree = head.degree; second = head.second; frames = frames_of (head_groups head) frame; entries = l; largest = pos (largest_of l) }) own-entries
 
-  pub first-stored : (lent ys : List ℤ) (k : ℕ) → Stored (net_with kind p q frame out) lent k ys → FirstStored asked frame lent k ys
+  pub first-stored : (lent ys : List ℤ) (k : ℕ) → Stored (net_with head frame out) lent k ys → FirstStored asked frame lent k ys
   first-stored lent ys k is = subst (λ net. Stored net lent k ys) own-net is

@@ -7,8 +7,8 @@ use mathlib.Core.Path.{◌≡◌, refl, sym, ap, ap₂, ◌∙◌}
 use mathlib.Core.Bool.{Bool, true, false, ◌&&◌, ◌||◌, not, cond}
 use mathlib.Core.List.{List, [], ◌∷◌, ◌++◌, map}
 use lib.Dec.{leb, eqb}
-use borrow.Author.Tests.{le-leb, lt-leb, ne_eqb, eqb-true}
-use lib.IntN.{ℤ, pos, nat_abs}
+use borrow.Author.Tests.{le-leb, lt-leb, ne_eqb}
+use lib.IntN.{ℤ, pos}
 use lib.ListN.{length, get_or, take, drop, take-append-drop}
 use Rattle.integers.specs.Test.{within, all}
 use Rattle.integers.proofs.All.{clash, and_parts, and_one, and_none, all_append}
@@ -49,25 +49,6 @@ some-not (x ∷ xs) zero zero h l e = ap (λ b. b && all is_zero xs) e
 some-not (x ∷ xs) zero (suc i) h l e = ap (λ b. is_zero x && b) (some-not xs zero i zero-le (le_of_suc-le-suc l) e) ∙ and_none (is_zero x)
 some-not (x ∷ xs) (suc d) zero h l e = absurd (not-suc-le-zero h)
 some-not (x ∷ xs) (suc d) (suc i) h l e = some-not xs d i (le_of_suc-le-suc h) (le_of_suc-le-suc l) e
-
--- whether weights fit, once the first two are within the limit and the fourth is 0: of two vertices the third must be 0, of three it must be within
-module _ (weights : Weights) (first : within 4096 weights.r ≡ true) (second : within 4096 weights.s ≡ true) (fourth : is_zero weights.u ≡ true) where
-  zero-within : (v : ℤ) → is_zero v ≡ true → within 4096 v ≡ true
-  zero-within v h = le-leb (nat_abs v) 4096 (omega (arith, eqb-true (nat_abs v) 0 h))
-
-  pub fit-two : is_zero weights.t ≡ weights_fit 1 (weight_list weights)
-  fit-two = sym ((λ i. (first i && (second i && (within 4096 weights.t && (zero-within weights.u fourth i && true)))) && (is_zero weights.t && (fourth i && true))) ∙ by (is_zero weights.t) refl)
-    where
-      by : (b : Bool) → is_zero weights.t ≡ b → ((within 4096 weights.t && true) && (is_zero weights.t && true)) ≡ is_zero weights.t
-      by true e = (λ i. (zero-within weights.t e i && true) && (e i && true)) ∙ sym e
-      by false e = ap (λ b. (within 4096 weights.t && true) && (b && true)) e ∙ and_none (within 4096 weights.t && true) ∙ sym e
-
-  pub fit-three : within 4096 weights.t ≡ weights_fit 2 (weight_list weights)
-  fit-three =
-      sym
-      ((λ i. (first i && (second i && (within 4096 weights.t && (zero-within weights.u fourth i && true)))) && (fourth i && true))
-      ∙ and_one (within 4096 weights.t && true)
-      ∙ and_one (within 4096 weights.t))
 
 -- all members are 0 exactly where the first d and the others are
 split : (d : ℕ) (xs : List ℤ) → all is_zero xs ≡ (all is_zero (take d xs) && all is_zero (drop d xs))
@@ -282,8 +263,8 @@ module _ (weights : Weights) where
   JudgedPairs k = (p q : ℕ) → k ≡ first_failed (own_tests (group 1 p ∷ group 1 q ∷ []) (Point weights))
 
   -- by the results of the code's tests
-  pub pairs-judged : {a b c d e f : Bool} → within 4096 weights.r ≡ a → within 4096 weights.s ≡ b → within 4096 weights.t ≡ c → within 4096 weights.u ≡ d
+  pub pairs-judged : {a e f : Bool} → all (within 4096) (weight_list weights) ≡ a
       → all is_zero (weights.r ∷ weights.s ∷ []) ≡ e → all is_zero (weights.t ∷ weights.u ∷ []) ≡ f
-      → JudgedPairs (first_failed ((a && (b && (c && (d && true)))) else 8 ∷ true else 8 ∷ (not e && (not f && true)) else 9 ∷ []))
+      → JudgedPairs (first_failed (a else 8 ∷ true else 8 ∷ (not e && (not f && true)) else 9 ∷ []))
   unfolding own_tests
-  pairs-judged a b c d e f p q = sym (λ i. first_failed ((a i && (b i && (c i && (d i && true)))) else 8 ∷ true else 8 ∷ (not (e i) && (not (f i) && true)) else 9 ∷ []))
+  pairs-judged a e f p q = sym (λ i. first_failed (a i else 8 ∷ true else 8 ∷ (not (e i) && (not (f i) && true)) else 9 ∷ []))

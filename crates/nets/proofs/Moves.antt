@@ -22,7 +22,7 @@ use Rattle.entries.specs.Frame.{combination, unit_point, vertex_at}
 use Rattle.entries.proofs.Groups.{Framed}
 use Rattle.entries.specs.Entries.{number_count}
 use Rattle.entries.proofs.ListedOver.{length-listed-over}
-use Rattle.kinds.specs.Kinds.{groups_of, known}
+use Rattle.kinds.specs.Kinds.{known}
 use Rattle.kinds.specs.Frames.{Frames, frame_of, frame_count, frames_of, numbers_of}
 use Rattle.kinds.proofs.Counts.{entries_fit, frame-few}
 use Rattle.kinds.proofs.Frames.{point-wide, negative-wide, framed-numbers, negative-named}
@@ -39,15 +39,17 @@ use Rattle.machine.proofs.Lent.{drop-take, put-own, put-before, put-behind, put-
 use Rattle.machine.specs.declared.Weights.{Weights}
 use Rattle.machine.specs.declared.Call.{Call}
 use Rattle.machine.specs.declared.Call.TheVariants.{Move}
+use Rattle.kinds.specs.Heads.{head_groups}
+use Rattle.kinds.specs.declared.Head.{Head}
 use Rattle.nets.specs.Frames.{frame_start, OwnVertex, Small, NewVertex, point_at, new_vertex, padded}
 use Rattle.nets.specs.Calls.{net_from, net_in, size_test, Stepped, MoveAsked, Moved, MovedEntries, largest_in}
 use Rattle.nets.proofs.Made.{right, move-light, move-high}
 use Rattle.nets.proofs.InPlaces.{frame-numbers, size_same, left-same}
 use Rattle.nets.proofs.Vertices.{vertices-few, start_fits, frame_at, framed_at, point_at-of, numbers-put, padded-range, padded-taken}
 
-module _ {kind degree second : ℕ} {lent : List ℤ} {operation vertex : ℕ} {weights : Weights} (asked : MoveAsked kind degree second lent (Move operation vertex weights)) where
+module _ {head : Head} {lent : List ℤ} {operation vertex : ℕ} {weights : Weights} (asked : MoveAsked head lent (Move operation vertex weights)) where
   abbrev gs : List Group
-  gs = groups_of kind degree second
+  gs = head_groups head
 
   abbrev frames : Frames
   frames = frames_of gs (drop 3 lent)
@@ -78,7 +80,7 @@ module _ {kind degree second : ℕ} {lent : List ℤ} {operation vertex : ℕ} {
   inside = subst (λ k. v < k) (framed_at gs frames i framed place.0) place.1
 
   few : (2 ≤ d) × (d ≤ 3)
-  few = vertices-few kind degree second (right asked.ordered) i place.0
+  few = vertices-few head.kind head.degree head.second (right asked.ordered) i place.0
 
   fits : from + d * d ≤ frame_count gs
   fits = start_fits gs i place.0
@@ -88,13 +90,13 @@ module _ {kind degree second : ℕ} {lent : List ℤ} {operation vertex : ℕ} {
   within-square = let up = mul-le-mul_left d inside in omega (arith, up, mul-suc d v)
 
   count-few : frame_count gs ≤ 9
-  count-few = frame-few kind degree second
+  count-few = frame-few head.kind head.degree head.second
 
   long : 193 ≤ length lent
   long = asked.places
 
   numbers-are : numbers_of frames ≡ take (frame_count gs) (drop 3 lent)
-  numbers-are = frame-numbers kind degree second lent long
+  numbers-are = frame-numbers head lent long
 
   near : all in_range (numbers_of frames) ≡ true
   near = ap (all in_range) numbers-are ∙ asked.near
@@ -211,7 +213,7 @@ module _ {kind degree second : ℕ} {lent : List ℤ} {operation vertex : ℕ} {
     -- ---- the move put together
 
     abbrev net : Net
-    net = net_in kind degree second lent
+    net = net_in head lent
 
     abbrev part : List ℤ
     part = take 180 (drop 12 lent)
@@ -219,19 +221,19 @@ module _ {kind degree second : ℕ} {lent : List ℤ} {operation vertex : ℕ} {
     abbrev left : List ℤ
     left = (accepted net move).left.entries
 
-    known-kind : known kind degree second ≡ true
+    known-kind : known head.kind head.degree head.second ≡ true
     known-kind = right asked.ordered
 
     left-long : length left ≤ 180
     unfolding accepted entries_after
-    left-long = subst (λ k. k ≤ 180) (sym (length-listed-over gs _)) (entries_fit kind degree second known-kind)
+    left-long = subst (λ k. k ≤ 180) (sym (length-listed-over gs _)) (entries_fit head.kind head.degree head.second known-kind)
 
     -- the entries put into their part
-    part-is : put_mid 12 180 lent (put_at 0 (accepted (net_from kind degree second part) move).left.entries part) ≡ put_at 12 left lent
+    part-is : put_mid 12 180 lent (put_at 0 (accepted (net_from head part) move).left.entries part) ≡ put_at 12 left lent
     unfolding accepted
     part-is =
         let l = long in
-        ap (λ es. put_mid 12 180 lent (put_at 0 es part)) (left-same kind degree second lent l known-kind operation vertex weights)
+        ap (λ es. put_mid 12 180 lent (put_at 0 es part)) (left-same head lent l known-kind operation vertex weights)
         ∙ ap₂ (λ k r. take 12 lent ++ ((left ++ drop k part) ++ r)) (zero-add (length left)) (Post-is 12 192 lent (omega arith))
         ∙ part-put 12 180 lent (omega arith) left left-long
 
@@ -240,18 +242,18 @@ module _ {kind degree second : ℕ} {lent : List ℤ} {operation vertex : ℕ} {
     moved-beyond xs is beyond =
         record { number_is = sym (fails 12 (size_test net move) (sym (new-range xs is) ∙ beyond)); places = refl }
 
-    module _ (xs : List ℤ) (is : xs ≡ padded new) (passed : all in_range xs ≡ true) (k : ℕ) (out : List ℤ) (stepped : Stepped (net_from kind degree second part) move k part out) where
+    module _ (xs : List ℤ) (is : xs ≡ padded new) (passed : all in_range xs ≡ true) (k : ℕ) (out : List ℤ) (stepped : Stepped (net_from head part) move k part out) where
       number : k ≡ first_failed (all in_range (new_numbers gs frames move) else 12 ∷ size_test net move)
       number =
           stepped.number_is
-          ∙ ap first_failed (size_same kind degree second lent long known-kind move)
+          ∙ ap first_failed (size_same head lent long known-kind move)
           ∙ sym (passes 12 (size_test net move) (sym (new-range xs is) ∙ passed))
 
       -- refused for size
       pub moved-kept : (k ≡ 0 → ⊥) → Moved net move k lent (put_mid 12 180 lent out)
       moved-kept refused = record { number_is = number; places = by k refused stepped.places }
         where
-          by : (j : ℕ) → (j ≡ 0 → ⊥) → out ≡ unless_refused j (put_at 0 (accepted (net_from kind degree second part) move).left.entries part) part
+          by : (j : ℕ) → (j ≡ 0 → ⊥) → out ≡ unless_refused j (put_at 0 (accepted (net_from head part) move).left.entries part) part
               → put_mid 12 180 lent out ≡ unless_refused j (put_at 3 (numbers_of (accepted net move).left.frames) (put_at 12 left (put_at 192 ((accepted net move).left.largest ∷ []) lent))) lent
           by zero other made = absurd (other refl)
           by (suc j) other made = ap (put_mid 12 180 lent) made ∙ put_same 12 180 lent
@@ -260,7 +262,7 @@ module _ {kind degree second : ℕ} {lent : List ℤ} {operation vertex : ℕ} {
       module _ (taken : k ≡ 0) where
         pub entries-put : put_mid 12 180 lent out ≡ put_at 12 left lent
         entries-put =
-            ap (put_mid 12 180 lent) (stepped.places ∙ ap (λ j. unless_refused j (put_at 0 (accepted (net_from kind degree second part) move).left.entries part) part) taken) ∙ part-is
+            ap (put_mid 12 180 lent) (stepped.places ∙ ap (λ j. unless_refused j (put_at 0 (accepted (net_from head part) move).left.entries part) part) taken) ∙ part-is
 
         -- the entries that stand there are the move's
         left-stands : take (number_count gs) (drop 12 (put_at 12 left lent)) ≡ left
@@ -274,11 +276,11 @@ module _ {kind degree second : ℕ} {lent : List ℤ} {operation vertex : ℕ} {
         entries-long = let l = long in let e = left-long in subst (λ j. 193 ≤ j) (sym (put-length 12 left lent (omega arith))) l
 
         -- what the largest component is put by: those of a replace are in range, as all that it names is
-        pub entries-moved : MovedEntries kind degree second operation (put_mid 12 180 lent out)
+        pub entries-moved : MovedEntries head operation (put_mid 12 180 lent out)
         unfolding accepted
         entries-moved =
-            subst (MovedEntries kind degree second operation) (sym entries-put)
-            (record { places = entries-long; fit = entries_fit kind degree second known-kind; range = λ replace. ap (all in_range) left-stands ∙ in-range replace })
+            subst (MovedEntries head operation) (sym entries-put)
+            (record { places = entries-long; fit = entries_fit head.kind head.degree head.second known-kind; range = λ replace. ap (all in_range) left-stands ∙ in-range replace })
           where
             passed-size : (b : Bool) → first_failed (b else 10 ∷ []) ≡ 0 → b ≡ true
             passed-size true h = refl
@@ -289,13 +291,13 @@ module _ {kind degree second : ℕ} {lent : List ℤ} {operation vertex : ℕ} {
                 subst
                 (λ o. all_named (named_by gs (Move o vertex weights)) (net_polar net (Move o vertex weights)) ≡ true → all in_range (entries_after net o vertex weights) ≡ true) (sym replace)
                 (replaced-in net vertex weights place.0)
-                (passed-size _ (ap first_failed (sym (size_same kind degree second lent long known-kind move)) ∙ sym stepped.number_is ∙ taken))
+                (passed-size _ (ap first_failed (sym (size_same head lent long known-kind move)) ∙ sym stepped.number_is ∙ taken))
 
         -- the largest component that is put is the move's
         abbrev largest : ℤ
         largest = (accepted net move).left.largest
 
-        largest-put : largest_in kind degree second operation (put_at 12 left lent) ≡ largest
+        largest-put : largest_in head operation (put_at 12 left lent) ≡ largest
         unfolding accepted largest_after
         largest-put = ap₂ (λ es l. cond (eqb operation 1) (pos (largest_of es)) l) left-stands stays
           where
@@ -309,12 +311,12 @@ module _ {kind degree second : ℕ} {lent : List ℤ} {operation vertex : ℕ} {
         abbrev both : List ℤ
         both = put_at 12 left (put_at 192 (largest ∷ []) lent)
 
-        with-largest : (some : List ℤ) → some ≡ put_at 192 (largest_in kind degree second operation (put_mid 12 180 lent out) ∷ []) (put_mid 12 180 lent out) → some ≡ both
+        with-largest : (some : List ℤ) → some ≡ put_at 192 (largest_in head operation (put_mid 12 180 lent out) ∷ []) (put_mid 12 180 lent out) → some ≡ both
         with-largest some is =
             let l = long in
             let e = left-long in
             is
-            ∙ ap (λ r. put_at 192 (largest_in kind degree second operation r ∷ []) r) entries-put
+            ∙ ap (λ r. put_at 192 (largest_in head operation r ∷ []) r) entries-put
             ∙ ap (λ x. put_at 192 (x ∷ []) (put_at 12 left lent)) largest-put
             ∙ put-apart 12 192 left (largest ∷ []) lent (omega arith) (omega arith)
 
@@ -324,10 +326,7 @@ module _ {kind degree second : ℕ} {lent : List ℤ} {operation vertex : ℕ} {
         both_long : 193 ≤ length both
         both_long = let l = long in let e = left-long in subst (λ j. 193 ≤ j) (sym (put-length 12 left (put_at 192 (largest ∷ []) lent) (omega (arith, one-long)) ∙ one-long)) l
 
-        pub largest-long : (some : List ℤ) → some ≡ put_at 192 (largest_in kind degree second operation (put_mid 12 180 lent out) ∷ []) (put_mid 12 180 lent out) → 193 ≤ length some
-        largest-long some is = subst (λ r. 193 ≤ length r) (sym (with-largest some is)) both_long
-
-        pub moved_made : (some after : List ℤ) → some ≡ put_at 192 (largest_in kind degree second operation (put_mid 12 180 lent out) ∷ []) (put_mid 12 180 lent out)
+        pub moved_made : (some after : List ℤ) → some ≡ put_at 192 (largest_in head operation (put_mid 12 180 lent out) ∷ []) (put_mid 12 180 lent out)
             → after ≡ put_at (start + count * index) (take count xs) some → Moved net move 0 lent after
         unfolding accepted
         moved_made some after with_it made =

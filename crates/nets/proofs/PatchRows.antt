@@ -1,11 +1,11 @@
 -- The rows of a triangle, blended one after the other: a row's blend reads that row and the next one, which no earlier row has written.
 use Prim.Native.Nat.{ℕ, zero, suc, ◌+◌, ◌*◌, ◌-◌, ◌≤◌, ◌<◌}
-use native.Mathlib.Nat.{le_refl, zero-add, not-suc-le-zero, mul-le-mul_left}
+use native.Mathlib.Nat.{le_refl, zero-add, mul-zero, not-suc-le-zero, mul-le-mul_left}
 use native.Mathlib.Numerals.{add-one}
 use native.Mathlib.Omega.{arith}
 use native.Mathlib.Decide.{dec_lt}
 use mathlib.Core.Path.{◌≡◌, refl, sym, ap, ap₂, ◌∙◌, subst}
-use mathlib.Core.Bool.{false}
+use mathlib.Core.Bool.{Bool, true, false}
 use mathlib.Core.List.{List}
 use lib.IntN.{ℤ, pos, nat_abs, ◌+ℤ◌, ◌*ℤ◌}
 use lib.ListN.{length, get_or, take}
@@ -13,8 +13,10 @@ use Rattle.integers.specs.Test.{within, all}
 use Rattle.polar.specs.Order.{counts}
 use Rattle.entries.specs.Rows.{size, offset}
 use Rattle.machine.specs.declared.Weights.{Weights}
-use Rattle.nets.specs.Rows.{written, mixed, ranged, Bounded, rows_blended}
-use Rattle.nets.proofs.Lists.{length-written, written-outside, written_at, ranged-cong, ranged-part, ranged-list}
+use Rattle.nets.specs.Rows.{written, mixed, ranged, Bounded, BlendsLeft, Leaves, weight_sum, rows_blended}
+use Rattle.integers.proofs.Signed.{seen}
+use Rattle.nets.proofs.Row.{Read, read-sum}
+use Rattle.nets.proofs.Lists.{length-written, written-outside, written_at, ranged-cong, ranged-part, ranged-more, ranged-list}
 use Rattle.entries.proofs.Lengths.{tri-suc}
 use Rattle.nets.proofs.Ranks.{offset-mono, size-patch}
 
@@ -81,23 +83,6 @@ module _ (w : ℕ) where
         ∙ rows_at (suc k) k p (le_refl (suc k)) (omega (arith, up)) a b
         ∙ sym (rows_at i k p h l a b)
 
-    -- the row to blend next and the one after it are as small as they were
-    rows-bounded : (i hi W : ℕ) → Bounded xs 0 hi W → w * tri i + w * suc i + (w * suc i + w) ≤ hi → Bounded (rows_blended w xs ws i) (w * tri i) (w * tri i + w * suc i + (w * suc i + w)) W
-    rows-bounded i hi W b h =
-        record {
-          bound = b.bound;
-          each = λ p lo up. subst (λ v. nat_abs v ≤ b.bound) (sym (rows-still i p lo)) (b.each p (omega arith) (omega (arith, h)));
-          fits = b.fits;
-        }
-
-  -- the weights of three vertices are all that counts
-  pub rows-weights : (xs : List ℤ) (ws us : Weights) → ws.r ≡ us.r → ws.s ≡ us.s → ws.t ≡ us.t → (i : ℕ) → rows_blended w xs ws i ≡ rows_blended w xs us i
-  unfolding rows_blended
-  rows-weights xs ws us r s t zero = refl
-  rows-weights xs ws us r s t (suc i) =
-      let rest = rows-weights xs ws us r s t i in
-      λ j. written (rest j) (w * tri i) (w * suc i) (mixed (rest j) (w * suc i) (w * suc i + w) (r j) (s j) (t j))
-
   -- ---- one turn of the loop over the rows
 
   -- what stands before a row is among the numbers
@@ -110,50 +95,82 @@ module _ (w : ℕ) where
       let up = row-mono (suc (suc i)) (degree + 1) (omega arith) in
       omega (arith, size-patch w degree, row-end i, row-end (suc i), up)
 
-  module _ (xs xs' : List ℤ) (ws : Weights) (i degree from : ℕ) (below : i < degree) (at : from ≡ w * tri i) (inv : xs' ≡ rows_blended w xs ws i) where
-    -- the blends of the row, as the code writes their places
-    abbrev pub turn_of : ℕ → ℤ
-    turn_of = mixed xs' (w * (i + 1)) (w * (i + 1) + w) ws.r ws.s ws.t
+-- before a turn: the first i rows are blended and within the limit, and row i begins at `from`
+pub record RowsBlended (w : ℕ) (ws : Weights) (limit : ℕ) (xs ys : List ℤ) (from i : ℕ) : Type 0 where
+  pub place : from ≡ w * tri i
+  pub rows : ys ≡ rows_blended w xs ws i
+  pub small : ranged limit (λ p. get_or ys p (pos 0)) 0 from ≡ true
 
-    turn_is : turn_of ≡ row_of xs ws (rows_blended w xs ws i) i
-    turn_is = ap₂ (λ l k. mixed l (w * k) (w * k + w) ws.r ws.s ws.t) inv (add-one i)
+pub rows_first : (w : ℕ) (ws : Weights) (limit : ℕ) (xs : List ℤ) → RowsBlended w ws limit xs xs 0 0
+unfolding rows_blended ranged
+rows_first w ws limit xs = record { place = sym (mul-zero w); rows = refl; small = refl }
 
-    pub turn-next : from + w * (i + 1) ≡ w * tri (i + 1)
-    turn-next = omega (arith, at, row-end i, ap (λ k. w * tri k) (add-one i))
+-- the row and the next one are among the numbers
+pub turn_room : {w : ℕ} {ws : Weights} {limit : ℕ} {xs ys : List ℤ} {from i degree : ℕ} → RowsBlended w ws limit xs ys from i → i < degree → from + w * (i + 1) + (w * (i + 1) + w) ≤ size w 2 degree
+turn_room {w} {ws} {limit} {xs} {ys} {from} {i} {degree} at below = omega (arith, turn-fits w i degree below, at.place)
 
-    pub turn-bounded : (W : ℕ) → Bounded xs 0 (size w 2 degree) W → Bounded xs' from (from + w * (i + 1) + (w * (i + 1) + w)) W
-    turn-bounded W b =
-        let fits = turn-fits i degree below in
-        let here = rows-bounded xs ws i (size w 2 degree) W b (omega (arith, fits)) in
+module _ {w : ℕ} {ws : Weights} {limit : ℕ} {xs ys : List ℤ} {from i : ℕ} (read : Read ws) (at : RowsBlended w ws limit xs ys from i) where
+  -- the blends of the row, as the code writes their places
+  abbrev turn_of : ℕ → ℤ
+  turn_of = mixed ys (w * (i + 1)) (w * (i + 1) + w) (seen ws.r) (seen ws.s) (seen ws.t)
+
+  turn_is : turn_of ≡ row_of w xs ws (rows_blended w xs ws i) i
+  turn_is = λ j. mixed (at.rows j) (w * add-one i j) (w * add-one i j + w) (read.r j) (read.s j) (read.t j)
+
+  module _ {degree : ℕ} (below : i < degree) where
+    pub turn-bounded : Bounded xs 0 (size w 2 degree) (weight_sum ws) → Bounded ys from (from + w * (i + 1) + (w * (i + 1) + w)) (nat_abs (seen ws.r) + nat_abs (seen ws.s) + nat_abs (seen ws.t))
+    turn-bounded b =
+        subst (Bounded ys from (from + w * (i + 1) + (w * (i + 1) + w))) (sym (read-sum read))
         record {
-          bound = here.bound;
-          each = λ p lo up. subst (λ l. nat_abs (get_or l p (pos 0)) ≤ here.bound) (sym inv) (here.each p (omega (arith, at)) (omega (arith, at)));
-          fits = here.fits;
+          bound = b.bound;
+          each = λ p lo up. subst (λ l. nat_abs (get_or l p (pos 0)) ≤ b.bound) (sym at.rows)
+              (subst (λ v. nat_abs v ≤ b.bound) (sym (rows-still w xs ws i p (omega (arith, at.place)))) (b.each p (omega arith) (omega (arith, turn_room at below))));
+          fits = b.fits;
         }
 
-    pub turn_step : (ys : List ℤ) → ys ≡ written xs' from (w * (i + 1)) turn_of → ys ≡ rows_blended w xs ws (i + 1)
-    unfolding rows_blended
-    turn_step ys is =
-        is
-        ∙ (λ j. written (inv j) (at j) (w * add-one i j) (turn_is j))
-        ∙ ap (rows_blended w xs ws) (sym (add-one i))
+    module _ {b : Bool} {zs : List ℤ} (long : size w 2 degree ≤ length xs) (left : BlendsLeft limit turn_of from (w * (i + 1)) ys b zs) where
+      room : from + w * (i + 1) ≤ length ys
+      room = omega (arith, turn_room at below, ap length at.rows, length-rows w xs ws i)
 
-    -- a row beyond the limit is the level beyond the limit
-    pub turn-fails : (limit : ℕ) → size w 2 degree ≤ length xs → ranged limit turn_of from (w * (i + 1)) ≡ false
-        → all (within limit) (take (w * tri degree) (rows_blended w xs ws degree)) ≡ false
-    turn-fails limit long beyond =
-        let next = row-end i in
-        let up = row-mono (suc i) degree below in
-        let most = row-mono degree (degree + 1) (omega arith) in
-        let whole : w * tri degree ≡ w * tri i + w * suc i + (w * tri degree - w * tri (suc i)) = omega (arith, next, up) in
-        sym (ranged-list limit (rows_blended w xs ws degree) (w * tri degree) (subst (λ k. w * tri degree ≤ k) (sym (length-rows xs ws degree)) (omega (arith, most, size-patch w degree))))
-        ∙ ap (ranged limit final 0) whole
-        ∙ ranged-part limit final 0 (w * tri i) (w * suc i) (w * tri degree - w * tri (suc i))
-        (ap (λ j. ranged limit final j (w * suc i)) (zero-add (w * tri i))
-        ∙ sym (ranged-cong limit (row_of xs ws (rows_blended w xs ws i) i) final (w * tri i) (w * suc i)
-        (λ p lo hi. row-final xs ws degree i p below (omega (arith, most, size-patch w degree)) lo (omega (arith, next))))
-        ∙ (λ j. ranged limit (sym turn_is j) (sym at j) (w * sym (add-one i) j))
-        ∙ beyond)
-      where
-        final : ℕ → ℤ
-        final p = get_or (rows_blended w xs ws degree) p (pos 0)
+      -- the row is blended
+      pub turn_next : b ≡ true → RowsBlended w ws limit xs zs (from + w * (i + 1)) (i + 1)
+      unfolding rows_blended
+      turn_next ok =
+          record {
+            place = omega (arith, at.place, row-end w i, ap (λ k. w * tri k) (add-one i));
+            rows = left.1 ok
+                ∙ (λ j. written (at.rows j) (at.place j) (w * add-one i j) (turn_is j))
+                ∙ ap (rows_blended w xs ws) (sym (add-one i));
+            small = ranged-more limit ys zs from (w * (i + 1)) turn_of room (left.1 ok) at.small (sym left.0 ∙ ok);
+          }
+
+      -- a row beyond the limit is the level beyond the limit
+      pub turn-fails : b ≡ false → all (within limit) (take (w * tri degree) (rows_blended w xs ws degree)) ≡ false
+      turn-fails bad =
+          let next = row-end w i in
+          let up = row-mono w (suc i) degree below in
+          let most = row-mono w degree (degree + 1) (omega arith) in
+          let whole : w * tri degree ≡ w * tri i + w * suc i + (w * tri degree - w * tri (suc i)) = omega (arith, next, up) in
+          sym (ranged-list limit (rows_blended w xs ws degree) (w * tri degree) (subst (λ k. w * tri degree ≤ k) (sym (length-rows w xs ws degree)) (omega (arith, most, size-patch w degree))))
+          ∙ ap (ranged limit final 0) whole
+          ∙ ranged-part limit final 0 (w * tri i) (w * suc i) (w * tri degree - w * tri (suc i))
+          (ap (λ j. ranged limit final j (w * suc i)) (zero-add (w * tri i))
+          ∙ sym (ranged-cong limit (row_of w xs ws (rows_blended w xs ws i) i) final (w * tri i) (w * suc i)
+          (λ p lo hi. row-final w xs ws degree i p below (omega (arith, most, size-patch w degree)) lo (omega (arith, next))))
+          ∙ (λ j. ranged limit (sym turn_is j) (sym at.place j) (w * sym (add-one i) j))
+          ∙ sym left.0 ∙ bad)
+        where
+          final : ℕ → ℤ
+          final p = get_or (rows_blended w xs ws degree) p (pos 0)
+
+-- after the last turn
+pub rows_last : {w : ℕ} {ws : Weights} {limit : ℕ} {xs ys : List ℤ} {from i : ℕ} → RowsBlended w ws limit xs ys from i → (degree : ℕ) → i ≡ degree → size w 2 degree ≤ length xs
+    → Leaves limit (w * tri degree) (rows_blended w xs ws degree) true ys
+rows_last {w} {ws} {limit} {xs} {ys} {from} {i} before degree whole long =
+    (sym (ap₂ (λ l k. all (within limit) (take k l)) (sym at.rows) (sym at.place) ∙ sym (ranged-list limit ys from room) ∙ at.small), λ b. at.rows)
+  where
+    at : RowsBlended w ws limit xs ys from degree
+    at = subst (RowsBlended w ws limit xs ys from) whole before
+
+    room : from ≤ length ys
+    room = omega (arith, at.place, ap length at.rows, length-rows w xs ws degree, before-end w degree degree (le_refl degree))

@@ -1,21 +1,19 @@
 -- A vertex replaced where the entries stand. The entries' numbers are cut off from those behind them, which fix nothing and stay; they are saved in a room before, and put back where a
 -- named value is out of range.
 use Prim.Native.Nat.{ℕ, suc, ◌+◌, ◌-◌, ◌≤◌}
-use native.Mathlib.Nat.{sub-zero, le_refl}
+use native.Mathlib.Nat.{sub-zero}
 use native.Mathlib.Omega.{arith}
-use mathlib.Core.Path.{◌≡◌, refl, sym, ap, ap₂, ◌∙◌, subst}
+use mathlib.Core.Path.{◌≡◌, refl, sym, ap, ap₂, ◌∙◌}
 use mathlib.Core.Bool.{Bool, true, false}
 use mathlib.Core.List.{List, [], ◌++◌, append_assoc}
 use lib.IntN.{ℤ, pos}
 use lib.ListN.{length, get_or, set, take, drop, length-set, length-append, length-drop}
-use lib.Seq.{take-take, drop-length, length-take-le, get_or-append-add, get_or-drop}
-use Rattle.integers.specs.Test.{all}
+use lib.Seq.{drop-length, length-take-le, get_or-append-add, get_or-drop}
 use Rattle.polar.specs.Order.{counts}
 use Rattle.polar.proofs.Order.{counts-total}
 use Rattle.entries.specs.Rows.{entry_at, listed, size, replaced}
 use Rattle.entries.proofs.Groups.{total-set}
 use Rattle.entries.proofs.Listed.{rows-cong}
-use Rattle.projection.specs.Projection.{in_range}
 use Rattle.machine.specs.Calls.{weight_list}
 use Rattle.machine.specs.declared.Weights.{Weights}
 use Rattle.nets.specs.Rows.{written}
@@ -36,15 +34,6 @@ module _ (w n m v : ℕ) (weights : Weights) (xs : List ℤ) (start : Descends w
 
   own-long : length own ≡ size w n m
   own-long = ap length own_is ∙ length-take-le (size w n m) xs start.long
-
-  pub own-starts : Descends w n m weights own
-  own-starts =
-      record {
-        sized = start.sized;
-        long = subst (λ k. size w n m ≤ k) (sym own-long) (le_refl (size w n m));
-        range = ap (λ l. all in_range (take (size w n m) l)) own_is ∙ ap (all in_range) (take-take (size w n m) (size w n m) xs (le_refl (size w n m))) ∙ start.range;
-        light = start.light;
-      }
 
   -- ys is what stands in their place afterwards
   module _ {b : Bool} {ys : List ℤ} (done : ReplacedInPlace w n m ws v own b ys) where

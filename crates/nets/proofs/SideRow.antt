@@ -2,6 +2,7 @@
 -- And writes that go from the last place to the first: each write joins those behind it at their front.
 use Prim.Native.Nat.{ℕ, zero, suc, ◌+◌, ◌*◌, ◌-◌, ◌^◌, ◌≤◌, ◌<◌}
 use native.Mathlib.Nat.{add-zero, add-suc, suc-add}
+use native.Mathlib.Numerals.{add-one}
 use native.Mathlib.Omega.{arith}
 use mathlib.Core.Path.{◌≡◌, sym, ap, ap₂, ◌∙◌, subst}
 use mathlib.Core.Bool.{true}
@@ -16,6 +17,7 @@ use Rattle.integers.specs.Test.{within}
 use Rattle.integers.proofs.All.{and-true, and_parts}
 use Rattle.integers.proofs.Signed.{seen, back_fits}
 use Rattle.nets.specs.Rows.{written, ranged, Bounded}
+use Rattle.nets.proofs.Lists.{written-outside}
 use Rattle.nets.proofs.Row.{element, three-small}
 
 -- ---- one number
@@ -52,6 +54,14 @@ module _ (xs₀ xs : List ℤ) (p q r : ℕ) (a b c : ℤ) (fa : SFits w64 a) (f
       back_fits fz ∙ is
       ∙ ap₂ ◌+ℤ◌ (ap (λ v. seen a *ℤ v) read-p) (ap₂ ◌+ℤ◌ (ap (λ v. seen b *ℤ v) read-q) (ap (λ v. seen c *ℤ v) read-r))
 
+-- ---- numbers that are not written yet are as they were
+
+pub kept-past : (xs cur : List ℤ) (from k : ℕ) (g : ℕ → ℤ) → cur ≡ written xs from k g → (i : ℕ) → (from ≤ i → from + k ≤ i) → get_or cur i (pos 0) ≡ get_or xs i (pos 0)
+kept-past xs cur from k g inv i outside = ap (λ l. get_or l i (pos 0)) inv ∙ written-outside xs from k g i (λ x y. let past = outside x in omega arith)
+
+pub kept-before : (xs cur : List ℤ) (from k : ℕ) (g : ℕ → ℤ) → cur ≡ written xs from k g → (i : ℕ) → i < from → get_or cur i (pos 0) ≡ get_or xs i (pos 0)
+kept-before xs cur from k g inv i before = kept-past xs cur from k g inv i (λ x. omega arith)
+
 -- ---- from the last place to the first
 
 written-before : (xs : List ℤ) (from k : ℕ) (g : ℕ → ℤ) → set (written xs (suc from) k g) from (g from) ≡ written xs from (suc k) g
@@ -64,18 +74,18 @@ written-before xs from (suc k) g =
     wrong : suc from + k ≡ from → ⊥
     wrong e = omega arith
 
--- one write more, by its place
-pub write-before : (xs cur : List ℤ) (f end : ℕ) (v : ℤ) (g : ℕ → ℤ) → 1 ≤ f → f ≤ end → cur ≡ written xs f (end - f) g → v ≡ g (f - 1)
-    → set cur (f - 1) v ≡ written xs (f - 1) (end - (f - 1)) g
-write-before xs cur f end v g some below inv is =
-    ap₂ (λ l y. set l (f - 1) y) (inv ∙ ap (λ j. written xs j (end - f) g) place_is) is
-    ∙ written-before xs (f - 1) (end - f) g
-    ∙ ap (λ k. written xs (f - 1) k g) count-is
+-- one write more, of `count` at and past a place
+pub write-before : (xs cur : List ℤ) (from k count : ℕ) (v : ℤ) (g : ℕ → ℤ) → 1 ≤ k → k ≤ count → cur ≡ written xs (from + k) (count - k) g → v ≡ g (from + (k - 1))
+    → set cur (from + (k - 1)) v ≡ written xs (from + (k - 1)) (count - (k - 1)) g
+write-before xs cur from k count v g some most inv is =
+    ap₂ (λ l y. set l (from + (k - 1)) y) (inv ∙ ap (λ j. written xs j (count - k) g) place_is) is
+    ∙ written-before xs (from + (k - 1)) (count - k) g
+    ∙ ap (λ j. written xs (from + (k - 1)) j g) count-is
   where
-    place_is : f ≡ suc (f - 1)
+    place_is : from + k ≡ suc (from + (k - 1))
     place_is = omega arith
 
-    count-is : suc (end - f) ≡ end - (f - 1)
+    count-is : suc (count - k) ≡ count - (k - 1)
     count-is = omega arith
 
 ranged-before : (limit : ℕ) (g : ℕ → ℤ) (from k : ℕ) → within limit (g from) ≡ true → ranged limit g (suc from) k ≡ true → ranged limit g from (suc k) ≡ true
@@ -85,14 +95,19 @@ ranged-before limit g from (suc k) first rest =
     let parts = and_parts (ranged limit g (suc from) k) (within limit (g (suc from + k))) rest in
     and-true (ranged-before limit g from k first parts.0) (ap (λ i. within limit (g i)) (add-suc from k ∙ sym (suc-add from k)) ∙ parts.1)
 
--- one number more, by its place
-pub range-before : (limit : ℕ) (g : ℕ → ℤ) (f end : ℕ) → 1 ≤ f → f ≤ end → within limit (g (f - 1)) ≡ true → ranged limit g f (end - f) ≡ true
-    → ranged limit g (f - 1) (end - (f - 1)) ≡ true
-range-before limit g f end some below first rest =
-    ap (ranged limit g (f - 1)) (sym count-is) ∙ ranged-before limit g (f - 1) (end - f) first (ap (λ j. ranged limit g j (end - f)) (sym place_is) ∙ rest)
+-- one number more
+pub range-before : (limit : ℕ) (g : ℕ → ℤ) (from k count : ℕ) → 1 ≤ k → k ≤ count → within limit (g (from + (k - 1))) ≡ true → ranged limit g (from + k) (count - k) ≡ true
+    → ranged limit g (from + (k - 1)) (count - (k - 1)) ≡ true
+range-before limit g from k count some most first rest =
+    ap (ranged limit g (from + (k - 1))) (sym count-is) ∙ ranged-before limit g (from + (k - 1)) (count - k) first (ap (λ j. ranged limit g j (count - k)) (sym place_is) ∙ rest)
   where
-    place_is : f ≡ suc (f - 1)
+    place_is : from + k ≡ suc (from + (k - 1))
     place_is = omega arith
 
-    count-is : suc (end - f) ≡ end - (f - 1)
+    count-is : suc (count - k) ≡ count - (k - 1)
     count-is = omega arith
+
+-- one number more at the end
+pub range-after : (limit : ℕ) (g : ℕ → ℤ) (from k : ℕ) → ranged limit g from k ≡ true → within limit (g (from + k)) ≡ true → ranged limit g from (k + 1) ≡ true
+unfolding ranged
+range-after limit g from k inv next = ap (ranged limit g from) (add-one k) ∙ and-true inv next

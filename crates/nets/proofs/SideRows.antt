@@ -1,11 +1,11 @@
 -- One level of the second or the third vertex of a triangle, row by row from the last, on plain numbers. An entry's blend reads its own row and the row before, which are as they
 -- were when its row's turn comes; in the rows up to row h no entry has more than h copies of the vertex, and they stay.
-use Prim.Native.Nat.{ℕ, suc, pred, ◌+◌, ◌*◌, ◌-◌, ◌/◌, ◌%◌, ◌≤◌, ◌<◌}
+use Prim.Native.Nat.{ℕ, zero, suc, pred, ◌+◌, ◌*◌, ◌-◌, ◌/◌, ◌%◌, ◌≤◌, ◌<◌}
 use native.Mathlib.Nat.{le_refl, mul-le-mul_left, mul-le-mul_right, mod-lt, div-add-mod}
 use native.Mathlib.Omega.{arith}
 use native.Mathlib.Decide.{dec_lt}
 use mathlib.Core.Path.{◌≡◌, refl, sym, ap, ap₂, ◌∙◌, subst}
-use mathlib.Core.Bool.{true, false, cond}
+use mathlib.Core.Bool.{Bool, true, false, cond}
 use mathlib.Core.List.{List, [], ◌∷◌}
 use borrow.Author.Tests.{lt-ltb, le-ltb}
 use lib.IntN.{ℤ, pos, nat_abs, ◌+ℤ◌, ◌*ℤ◌}
@@ -19,7 +19,7 @@ use Rattle.entries.specs.Rows.{entry_at, size}
 use Rattle.entries.proofs.Lengths.{tri-suc, tri-double}
 use Rattle.entries.proofs.Listed.{entry-rank}
 use Rattle.projection.specs.Projection.{limit, in_range}
-use Rattle.nets.specs.Rows.{written, KeptFrom, ranged, Bounded}
+use Rattle.nets.specs.Rows.{written, KeptFrom, ranged, BlendsLeft, Bounded}
 use Rattle.nets.specs.Sides.{mixed_across, mixed_down, Stands, stepped_at, Beyond, Levelled}
 use Rattle.nets.proofs.Lists.{length-written, written-outside, written_at, ranged-at, ranged-beyond}
 use Rattle.nets.proofs.Ranks.{offset-mono, tri-most, rank-patch, size-patch, by_three}
@@ -273,7 +273,7 @@ module _ (m h i : ℕ) (more : h < i) (r s t u : ℤ) (xs cur : List ℤ) (still
       (ap (λ o. t *ℤ o +ℤ pos 0) (entry-spot m xs c a b (suc k) (omega arith) ∙ sym (still z bz ∙ ap (λ p. get_or xs p (pos 0)) pz))))
 
   -- of the second vertex
-  pub second-row : (from count : ℕ) → from ≡ 4 * tri i → count ≡ 4 * (i - h) → RowOf m 1 h ws xs i from count (mixed_across cur (4 * i) 4 s r t)
+  second-row : (from count : ℕ) → from ≡ 4 * tri i → count ≡ 4 * (i - h) → RowOf m 1 h ws xs i from count (mixed_across cur (4 * i) 4 s r t)
   second-row from count at many =
       record {
         first = 0;
@@ -302,7 +302,7 @@ module _ (m h i : ℕ) (more : h < i) (r s t u : ℤ) (xs cur : List ℤ) (still
           ∙ ring (r ∷ s ∷ t ∷ get_or cur (spot b k c - 4 * i) (pos 0) ∷ get_or cur (spot b k c) (pos 0) ∷ get_or cur (spot b k c + 4) (pos 0) ∷ []) (search ring-rules depth 60) tt)
 
   -- of the third
-  pub third-row : (from count : ℕ) → from ≡ 4 * tri i + 4 * (h + 1) → count ≡ 4 * (i - h) → RowOf m 2 h ws xs i from count (mixed_down cur (4 * (i + 1)) 4 t r s)
+  third-row : (from count : ℕ) → from ≡ 4 * tri i + 4 * (h + 1) → count ≡ 4 * (i - h) → RowOf m 2 h ws xs i from count (mixed_down cur (4 * (i + 1)) 4 t r s)
   third-row from count at many =
       record {
         first = h + 1;
@@ -329,3 +329,48 @@ module _ (m h i : ℕ) (more : h < i) (r s t u : ℤ) (xs cur : List ℤ) (still
           (omega (arith, here, one, ap tri less)) (omega (arith, here, ap tri same)) (omega (arith, here, ap tri again))
           (omega (arith, here, next)) (omega (arith, here, next)) (omega (arith, here, next))
           ∙ ring (r ∷ s ∷ t ∷ get_or cur (spot b k c - 4 * (i + 1)) (pos 0) ∷ get_or cur (spot b k c - 4) (pos 0) ∷ get_or cur (spot b k c) (pos 0) ∷ []) (search ring-rules depth 60) tt)
+
+-- an entry has no more copies of the second vertex, or of the third, than of these two together
+pub side-most : (v : ℕ) → 1 ≤ v → v ≤ 2 → (a b k : ℕ) → get_or (a ∷ b ∷ k ∷ []) v 0 ≤ b + k
+side-most zero low high a b k = absurd (omega arith)
+side-most (suc zero) low high a b k = omega arith
+side-most (suc (suc zero)) low high a b k = omega arith
+side-most (suc (suc (suc v))) low high a b k = absurd (omega arith)
+
+-- ---- what a turn leaves
+
+-- row i is done too, or a number of it is beyond the limit
+abbrev pub Turned : ℕ → ℕ → ℕ → ℕ → List ℤ → List ℤ → Bool → List ℤ → Type 0
+Turned m v h i ws xs b ys = (b ≡ true → Done m v h ws xs ys (i - 1)) × (b ≡ false → Beyond 4 2 m ws v h xs)
+
+-- the weights r', s' and t' are those that are read from their bits
+module _ (m v h i : ℕ) (r s t u r' s' t' : ℤ) (er : r' ≡ r) (es : s' ≡ s) (et : t' ≡ t) (xs cur : List ℤ) (enough : size 4 2 m ≤ length xs)
+    (d : Done m v h (r ∷ s ∷ t ∷ u ∷ []) xs cur i) (more : h < i) (b : Bool) (ys : List ℤ) where
+  turned : (from count : ℕ) (g : ℕ → ℤ) → RowOf m v h (r ∷ s ∷ t ∷ u ∷ []) xs i from count g → BlendsLeft limit g from count cur b ys
+      → Turned m v h i (r ∷ s ∷ t ∷ u ∷ []) xs b ys
+  turned from count g row left = (
+    λ ok. done_next m v h (r ∷ s ∷ t ∷ u ∷ []) xs cur i d more from count g row enough ys (left.1 ok) (sym left.0 ∙ ok),
+    λ bad. done-beyond m v h (r ∷ s ∷ t ∷ u ∷ []) xs cur i d more from count g row (sym left.0 ∙ bad),
+  )
+
+  pub second-turned : v ≡ 1 → BlendsLeft limit (mixed_across cur (4 * i) 4 s' r' t') (2 * i * (i + 1)) (4 * (i - h)) cur b ys
+      → Turned m v h i (r ∷ s ∷ t ∷ u ∷ []) xs b ys
+  second-turned is left =
+      let from = 2 * i * (i + 1) in
+      let count = 4 * (i - h) in
+      turned from count (mixed_across cur (4 * i) 4 s' r' t')
+      (subst (λ n. RowOf m n h (r ∷ s ∷ t ∷ u ∷ []) xs i from count (mixed_across cur (4 * i) 4 s' r' t')) (sym is)
+      (subst (RowOf m 1 h (r ∷ s ∷ t ∷ u ∷ []) xs i from count) (λ k. mixed_across cur (4 * i) 4 (sym es k) (sym er k) (sym et k))
+      (second-row m h i more r s t u xs cur d.still from count (row-start i) refl)))
+      left
+
+  pub third-turned : v ≡ 2 → BlendsLeft limit (mixed_down cur (4 * (i + 1)) 4 t' r' s') (2 * i * (i + 1) + 4 * (h + 1)) (4 * (i - h)) cur b ys
+      → Turned m v h i (r ∷ s ∷ t ∷ u ∷ []) xs b ys
+  third-turned is left =
+      let from = 2 * i * (i + 1) + 4 * (h + 1) in
+      let count = 4 * (i - h) in
+      turned from count (mixed_down cur (4 * (i + 1)) 4 t' r' s')
+      (subst (λ n. RowOf m n h (r ∷ s ∷ t ∷ u ∷ []) xs i from count (mixed_down cur (4 * (i + 1)) 4 t' r' s')) (sym is)
+      (subst (RowOf m 2 h (r ∷ s ∷ t ∷ u ∷ []) xs i from count) (λ k. mixed_down cur (4 * (i + 1)) 4 (sym et k) (sym er k) (sym es k))
+      (third-row m h i more r s t u xs cur d.still from count (ap (λ n. n + 4 * (h + 1)) (row-start i)) refl)))
+      left

@@ -6,11 +6,10 @@ use mathlib.Core.Path.{◌≡◌, refl, sym, ap, ◌∙◌}
 use mathlib.Core.Bool.{Bool, true, false, ◌&&◌}
 use mathlib.Core.List.{List, [], ◌∷◌, ◌++◌, append_assoc}
 use lib.IntN.{ℤ}
-use lib.ListN.{length, take}
-use lib.Seq.{length-take-le}
+use lib.ListN.{take}
 use Rattle.integers.specs.Test.{all}
 use Rattle.integers.proofs.All.{all_append}
-use Rattle.polar.specs.Groups.{Group, counts_over}
+use Rattle.polar.specs.Groups.{Group}
 use Rattle.projection.specs.Projection.{in_range}
 use Rattle.entries.specs.Entries.{number_count}
 use Rattle.kinds.specs.Kinds.{groups_of, known}
@@ -24,35 +23,31 @@ use Rattle.machine.specs.Sizes.{before_size, call_tests}
 use Rattle.machine.specs.Nets.{Net, net_groups, handed_tests, judged_numbers, net_tests}
 use Rattle.machine.specs.declared.Call.{Call}
 use Rattle.machine.specs.declared.Call.TheVariants.{Move, Point}
-use Rattle.nets.specs.Rows.{Whole}
+use Rattle.kinds.specs.Heads.{head_groups}
+use Rattle.kinds.specs.declared.Head.{Head}
 use Rattle.nets.specs.Calls.{net_from, size_test}
 
 -- ---- the tests of a handed net
 
-module _ (kind degree second : ℕ) (places : List ℤ) where
+module _ (head : Head) (places : List ℤ) where
   abbrev handed : List Test
-  handed = handed_tests (net_from kind degree second places)
+  handed = handed_tests (net_from head places)
 
-  pub handed-unknown : known kind degree second ≡ false → 4 ≡ first_failed handed
+  pub handed-unknown : known head.kind head.degree head.second ≡ false → 4 ≡ first_failed handed
   unfolding handed_tests
-  handed-unknown h = sym (fails 4 (all in_range (net_from kind degree second places).entries else 10 ∷ []) h)
+  handed-unknown h = sym (fails 4 (all in_range (net_from head places).entries else 10 ∷ []) h)
 
   -- the numbers that the code looks at are the net's
-  pub handed-range : known kind degree second ≡ true → (count : ℕ) → count ≡ number_count (groups_of kind degree second) → (b : Bool) → all in_range (take (count - 0) places) ≡ b
+  pub handed-range : known head.kind head.degree head.second ≡ true → (count : ℕ) → count ≡ number_count (head_groups head) → (b : Bool) → all in_range (take (count - 0) places) ≡ b
       → first_failed (b else 10 ∷ []) ≡ first_failed handed
   unfolding handed_tests
   handed-range right count is b h =
       ap (λ t. first_failed (t else 10 ∷ [])) (sym h ∙ ap (λ k. all in_range (take k places)) (sub-zero count ∙ is))
-      ∙ sym (passes 4 (all in_range (net_from kind degree second places).entries else 10 ∷ []) right)
+      ∙ sym (passes 4 (all in_range (net_from head places).entries else 10 ∷ []) right)
 
 -- a known kind's entries have room in the part that is lent
 pub entries-long : (kind degree second count long : ℕ) → known kind degree second ≡ true → count ≡ number_count (groups_of kind degree second) → long ≡ 180 → count ≤ long
 entries-long kind degree second count long right is l = let fit = entries_fit kind degree second right in omega arith
-
--- and are whole entries
-pub entries-whole : (gs : List Group) (count : ℕ) (xs : List ℤ) → count ≡ number_count gs → count ≤ length xs → Whole (length (take (count - 0) xs))
-entries-whole gs count xs is long =
-    record { entries = length (counts_over gs); four = ap (λ k. length (take k xs)) (sub-zero count) ∙ length-take-le count xs long ∙ is }
 
 -- ---- two tables, one after the other
 

@@ -37,7 +37,7 @@ use Rattle.nets.proofs.ZeroPlaces.{zeros-or}
 
 module _ (m second : ℕ) (xs : List ℤ) (w : Weights) where
   abbrev answer : ℕ → Answer
-  answer kind = (accepted (net_from kind m second xs) (Point w)).answer
+  answer kind = (accepted (net_from (record { kind = kind; degree = m; second = second }) xs) (Point w)).answer
 
   -- a patch names no values at a common zero
   patch : (kind : ℕ) → (kind ≡ 1 → ⊥) → (p : Four) → cond (is_four_zeros p) four_zeros p ≡ point_projected kind m w xs p
@@ -87,7 +87,7 @@ module _ (m : ℕ) (w : Weights) (xs ys : List ℤ)
   two-weights (suc zero) h = refl
   two-weights (suc (suc v)) h = absurd (NatL.not-suc-le-zero (NatL.le_of_suc-le-suc (NatL.le_of_suc-le-suc h)))
 
-  there-four : (d : ℕ) → d ≤ m → four_at (value_place (replaced_vertex w) m d) ys ≡ net_four (net_from 1 m 0 xs) (Point w) (other_counts w.s (m - d) d ∷ [])
+  there-four : (d : ℕ) → d ≤ m → four_at (value_place (replaced_vertex w) m d) ys ≡ net_four (net_from (record { kind = 1; degree = m; second = 0 }) xs) (Point w) (other_counts w.s (m - d) d ∷ [])
   unfolding net_four net_polar fixed_over
   there-four d h = by (is_zero w.s) refl
     where
@@ -108,5 +108,5 @@ module _ (m : ℕ) (w : Weights) (xs ys : List ℤ)
   pub places-line : places_projected (replaced_vertex w) m ys ≡ line_projected m w xs
   unfolding places_projected line_projected
   places-line =
-      let named = net_four (net_from 1 m 0 xs) (Point w) in
+      let named = net_four (net_from (record { kind = 1; degree = m; second = 0 }) xs) (Point w) in
       ap first_not_zeros (map-among _ (λ d. named (other_counts w.s (m - suc d) (suc d) ∷ [])) (upto m) (λ d k. there-four (suc d) (upto-below m d k)) ∙ sym (map-map named (λ d. other_counts w.s (m - suc d) (suc d) ∷ []) (upto m)))

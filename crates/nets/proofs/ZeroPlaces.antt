@@ -75,3 +75,6 @@ module _ {vertex m : ℕ} {xs : List ℤ} {d p : ℕ} (from : Left vertex m xs d
   left-last end =
       let one : 1 ≡ suc (m - d) = omega arith in
       (place-fits, ap (λ q. four_at q xs) place ∙ sym (left_step v d 0 ∙ zeros-or (v d) (is_four_zeros (v d)) refl) ∙ ap (left_from v d) one ∙ from.left)
+
+-- the steps of a search for it
+pub ruleset left_steps = (left-first, left-found, left-next, left-last)

@@ -7,6 +7,7 @@ use Rattle.entries.specs.Frame.{entry_points, units, vertex_at}
 use Rattle.entries.specs.Form.{Form}
 use Rattle.entries.specs.Rows.{entry_at, listed, size}
 use Rattle.kinds.specs.Kinds.{later_dimension}
+use Rattle.kinds.specs.declared.Head.{Head}
 use Rattle.kinds.specs.Frames.{frame_of}
 use Rattle.kinds.specs.Scales.{scale_row, at_degree}
 use Rattle.nets.specs.Rows.{Sized, Bounded, written, place_at}
@@ -116,11 +117,11 @@ pub record PartsFramed (n m k : ℕ) (frame xs : List ℤ) : Type 0 where
   pub part : (j : ℕ) → j < k → Framing 4 n m frame (part_at (size 4 n m) xs j)
 
 -- what the making of the second group asks for, p and q being the degrees, and what it leaves; where there is no second group there is nothing to do
-pub record LaterFraming (kind p q : ℕ) (frame out work cur base : List ℤ) : Type 0 where
+pub record LaterFraming (head : Head) (frame out work cur base : List ℤ) : Type 0 where
   pub nine : length frame ≡ 9
-  pub parts : (later_dimension kind ≡ 0 → ⊥) → PartsFramed (later_dimension kind) q (p + 1) (take 5 (drop 4 frame)) out
-  pub spare : (later_dimension kind ≡ 0 → ⊥) → Spare 4 (later_dimension kind) q work cur base
+  pub parts : (later_dimension head.kind ≡ 0 → ⊥) → PartsFramed (later_dimension head.kind) head.second (head.degree + 1) (take 5 (drop 4 frame)) out
+  pub spare : (later_dimension head.kind ≡ 0 → ⊥) → Spare 4 (later_dimension head.kind) head.second work cur base
 
-pub record LaterFramed (kind p q : ℕ) (frame out after : List ℤ) : Type 0 where
-  pub none : later_dimension kind ≡ 0 → after ≡ out
-  pub some : (later_dimension kind ≡ 0 → ⊥) → after ≡ in_parts (framed 4 (later_dimension kind) q (take 5 (drop 4 frame))) (size 4 (later_dimension kind) q) (p + 1) out
+pub record LaterFramed (head : Head) (frame out after : List ℤ) : Type 0 where
+  pub none : later_dimension head.kind ≡ 0 → after ≡ out
+  pub some : (later_dimension head.kind ≡ 0 → ⊥) → after ≡ in_parts (framed 4 (later_dimension head.kind) head.second (take 5 (drop 4 frame))) (size 4 (later_dimension head.kind) head.second) (head.degree + 1) out

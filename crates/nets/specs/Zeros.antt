@@ -28,7 +28,7 @@ places_projected vertex m xs = first_not_zeros (map (λ d. four_at (value_place 
 
 -- what is left of a line: of the values that are named at a common zero the first that is not four zeros
 unfoldable pub line_projected : ℕ → Weights → List ℤ → Four
-line_projected m weights xs = first_not_zeros (map (net_four (net_from 1 m 0 xs) (Point weights)) (line_named_at_zero m weights.s))
+line_projected m weights xs = first_not_zeros (map (net_four (net_from (record { kind = 1; degree = m; second = 0 }) xs) (Point weights)) (line_named_at_zero m weights.s))
 
 -- what finding it asks of the line's entries and of a room for them: the point has passed the test of its
 -- size

@@ -27,10 +27,8 @@ pub(crate) fn factorial_of(k: usize) -> u64
     ensures { result ≡ factorial k }
 {
     let mut product = 1;
-    let mut i = 0;
-    while i < k {
-        i += 1;
-        product = product * i as u64;
+    for i in 0..k {
+        product *= i as u64 + 1;
     }
     product
 }
@@ -83,7 +81,8 @@ pub(crate) fn scaled(a: i64, factor: i64) -> i64
     a * factor
 }
 
-// Puts the numbers of a row, scaled, into another place.
+// Puts the numbers of a row, scaled, into another place. A copy of a row, which scales nothing, is
+// `copy_row`: by the factor 1 it would multiply.
 pub(crate) fn scale_numbers(
     out: &mut [i64],
     to: usize,
@@ -97,10 +96,8 @@ pub(crate) fn scale_numbers(
 {
     let p = width * to;
     let q = width * from;
-    let mut c = 0;
-    while c < width {
+    for c in 0..width {
         out[p + c] = scaled(coefficients[q + c], factor);
-        c += 1;
     }
 }
 
@@ -148,7 +145,8 @@ pub(crate) fn put_entry(
     put_scaled(out, to, coefficients, from, width, times);
 }
 
-// All entries of the net over the frame of the coordinates; `all` is the scale.
+// All entries of the net over the frame of the coordinates; `all` is the scale. Two loops, of rows and in a
+// row, were tried: they take a curve's first net up to 6 in a hundred more instructions.
 pub(crate) fn coordinate_numbers(
     out: &mut [i64],
     all: u64,

@@ -4,6 +4,9 @@
 // vertex fixed, and in a row each entry from the net with its copies of the third fixed too.
 ghost use Rattle.std.specs.Prelude.{◌≡◌, pred, ◌+◌, ◌*◌, ◌-◌, ◌≤◌, cond, eqb, pos, length, get_or};
 ghost use Rattle.machine.specs.Refusals.{first_failed};
+ghost use Rattle.machine.specs.Numbers.{answered};
+ghost use Rattle.kinds.specs.Heads.{head_groups};
+ghost use Rattle.entries.specs.Entries.{number_count};
 ghost use Rattle.integers.specs.Largest.{largest_of};
 ghost use Rattle.machine.specs.First.{first_net};
 ghost use Rattle.machine.specs.Lent.{put_at, polynomials_from};
@@ -32,11 +35,8 @@ ghost use Rattle.nets.specs.Calls.{before_first, FirstAsked, Rooms};
 use crate::coordinates::coordinate_numbers;
 use crate::levels::{copy_row, spread};
 use crate::rows::{blend, copy, entries_largest, entries_within, numbers, place};
-use kinds::{
-    dimension_of, frame_allowed, group_scale, known_kind, later_count, later_dimension,
-    number_count,
-};
-use machine::Weights;
+use kinds::{Head, dimension_of, frame_allowed, group_scale, later_dimension};
+use machine::{Refusal, Weights};
 
 // No step is refused here: what fits 64 bits is within this limit. Only the entries made are judged.
 const WIDEST: u64 = 9223372036854775807;
@@ -80,7 +80,7 @@ pub(crate) fn blend_vertex(
     blend(cur, dimension, degree, width, weights, WIDEST);
 }
 
-// Steps with the second vertex until one row is left, at the front.
+// Steps with the second vertex until one row is left, at the front. Unlike `descend`, it judges no number.
 pub(crate) fn blend_second(
     cur: &mut [i64],
     dimension: usize,
@@ -91,10 +91,8 @@ pub(crate) fn blend_second(
     requires { Stepping width dimension degree frame.now cur.old }
     ensures { cur.new ≡ level width dimension degree (vertex_weights dimension frame.now 1) degree cur.old }
 {
-    let mut h = 0;
-    while h < degree {
+    for h in 0..degree {
         blend_vertex(&mut *cur, dimension, degree - h, width, frame, 1);
-        h += 1;
     }
 }
 
@@ -168,11 +166,9 @@ pub(crate) fn put_row(
     ensures { RowPut width dimension i frame.now cur.old out.old out.new }
 {
     let last = spread(dimension, i);
-    let mut k = 0;
-    while k < last {
+    for k in 0..last {
         put_entry(&mut *out, &mut *work, cur, dimension, width, frame, i, k);
         blend_vertex(&mut *cur, dimension, i - k, width, frame, 2);
-        k += 1;
     }
     last_entry(out, cur, dimension, width, frame, i, last);
 }
@@ -192,41 +188,33 @@ pub(crate) fn put_rows(
     requires { Room width dimension degree out.old × Room width dimension degree work.old × Room width dimension degree cur.old × Stepping width dimension degree frame.now base.old }
     ensures { NetPut width dimension degree frame.now base.old out.old out.new }
 {
-    let mut i = degree;
-    while i > 0 {
+    for before in (0..degree).rev() {
+        let i = before + 1;
         let count = numbers(dimension, i, width);
         copy(&mut *cur, base, count);
         put_row(&mut *out, &mut *work, &mut *cur, dimension, width, frame, i);
         blend_vertex(&mut *base, dimension, i, width, frame, 0);
-        i -= 1;
     }
     put_row(out, work, base, dimension, width, frame, 0);
 }
 
 // ---- the net
 
-// What is refused of polynomials and a frame before a net is made: the number, or 0.
-pub(crate) fn judge_first(
-    kind: u8,
-    degree: u8,
-    second: u8,
-    frame: &[i64; 9],
-    coefficients: &[i64],
-) -> u8
+// What is refused of polynomials and a frame before a net is made.
+pub(crate) fn judge_first(head: Head, frame: &[i64; 9], coefficients: &[i64]) -> Result<(), Refusal>
     requires { 180 ≤ length coefficients.now }
-    ensures { result ≡ first_failed (before_first (polynomials_from kind degree second coefficients.now) frame.now) }
+    ensures { answered result ≡ first_failed (before_first (polynomials_from head.kind head.degree head.second coefficients.now) frame.now) }
 {
-    if !known_kind(kind, degree, second) {
-        return 4;
+    if !head.is_known() {
+        return Err(Refusal::Kind);
     }
-    if !frame_allowed(kind, frame) {
-        return 5;
+    if !frame_allowed(head.kind, frame) {
+        return Err(Refusal::Frame);
     }
-    let count = number_count(kind, degree, second);
-    if !entries_within(&coefficients[0..count], COEFFICIENT) {
-        return 6;
+    if !entries_within(&coefficients[..head.number_count()], COEFFICIENT) {
+        return Err(Refusal::Coefficient);
     }
-    0
+    Ok(())
 }
 
 // Makes one group's net over its frame from the coefficients of polynomials, both in rows. The work is done in
@@ -251,7 +239,8 @@ pub(crate) fn make_rows(
     put_rows(out, work, cur, base, dimension, width, frame, m);
 }
 
-// The same in place: the entries of the net are put where the coefficients stood.
+// The same in place: the entries of the net are put where the coefficients stood. Both in one would lend
+// the same numbers twice.
 pub(crate) fn make_part(
     part: &mut [i64],
     work: &mut [i64],
@@ -285,8 +274,7 @@ pub(crate) fn make_parts(
     ensures { out.new ≡ in_parts (framed 4 dimension degree frame.now) (size 4 dimension degree) parts out.old }
 {
     let length = numbers(dimension, degree as usize, 4);
-    let mut k = 0;
-    while k < parts {
+    for k in 0..parts {
         let from = length * k;
         make_part(
             &mut out[from..from + length],
@@ -297,7 +285,6 @@ pub(crate) fn make_parts(
             degree,
             frame,
         );
-        k += 1;
     }
 }
 
@@ -308,15 +295,13 @@ pub(crate) fn make_later(
     work: &mut [i64],
     cur: &mut [i64],
     base: &mut [i64],
-    kind: u8,
-    degree: u8,
-    second: u8,
+    head: Head,
     frame: &[i64],
 )
-    requires { LaterFraming kind degree second frame.now out.old work.old cur.old base.old }
-    ensures { LaterFramed kind degree second frame.now out.old out.new }
+    requires { LaterFraming head frame.now out.old work.old cur.old base.old }
+    ensures { LaterFramed head frame.now out.old out.new }
 {
-    let later = later_dimension(kind);
+    let later = later_dimension(head.kind);
     if later == 0 {
         return;
     }
@@ -325,43 +310,41 @@ pub(crate) fn make_later(
         work,
         cur,
         base,
-        degree as usize + 1,
+        head.degree as usize + 1,
         later,
-        second,
+        head.second,
         &frame[4..9],
     );
 }
 
 // Makes the entries of the first net of accepted polynomials over an accepted frame, in the first of some
-// places, and tells the largest component: they are in range where that is. The groups are gone through one after the
-// other: the first group's polar values are the coefficients of the second group's polynomials.
-pub(crate) fn make_in(
+// places, and tells the largest component: they are in range where that is. The work is done in three
+// rooms. The groups are gone through one after the other: the first group's polar values are the
+// coefficients of the second group's polynomials.
+pub(crate) fn make_entries(
+    out: &mut [i64],
     work: &mut [i64],
     cur: &mut [i64],
     base: &mut [i64],
-    out: &mut [i64],
-    kind: u8,
-    degree: u8,
-    second: u8,
+    head: Head,
     frame: &[i64],
     coefficients: &[i64],
 ) -> u64
-    requires { FirstAsked kind degree second frame.now coefficients.now × Rooms kind degree second work.old cur.old base.old out.old }
-    ensures made { out.new ≡ put_at 0 (first_net (polynomials_from kind degree second coefficients.now) frame.now).entries out.old }
-    ensures largest { result ≡ largest_of (first_net (polynomials_from kind degree second coefficients.now) frame.now).entries }
+    requires { FirstAsked head frame.now coefficients.now × Rooms head work.old cur.old base.old out.old }
+    ensures made { out.new ≡ put_at 0 (first_net (polynomials_from head.kind head.degree head.second coefficients.now) frame.now).entries out.old }
+    ensures largest { result ≡ largest_of (first_net (polynomials_from head.kind head.degree head.second coefficients.now) frame.now).entries }
 {
     make_rows(
         &mut *out,
         &mut *work,
         &mut *cur,
         &mut *base,
-        dimension_of(kind),
-        degree,
-        later_count(kind, second),
+        dimension_of(head.kind),
+        head.degree,
+        head.later_count(),
         frame,
         coefficients,
     );
-    make_later(&mut *out, work, cur, base, kind, degree, second, frame);
-    let count = number_count(kind, degree, second);
-    entries_largest(&out[0..count])
+    make_later(&mut *out, work, cur, base, head, frame);
+    entries_largest(&out[..head.number_count()])
 }

@@ -38,11 +38,8 @@ pub(crate) fn sign_numbers(xs: &mut [i64], p: usize, width: usize, count: usize)
     ensures { xs.new ≡ signed_row width xs.old p count }
 {
     let from = width * p;
-    let end = from + width;
-    let mut i = from;
-    while i < end {
+    for i in from..from + width {
         xs[i] = sign(xs[i], count);
-        i += 1;
     }
 }
 
@@ -59,7 +56,8 @@ pub(crate) fn sign_row(xs: &mut [i64], p: usize, width: usize, count: usize)
 }
 
 // Flips a vertex in the rows of a net. Entry p has i copies of the vertices after the first, k of them of
-// the third.
+// the third. Two loops, of rows and in a row, were tried: they take a curve up to 9 in a hundred more
+// instructions.
 pub(crate) fn flip_entries(
     xs: &mut [i64],
     dimension: usize,

@@ -1,6 +1,6 @@
 // The frame of a net. Its numbers stand in the places from 3 on: group after group and vertex after vertex, as many
 // numbers for each vertex as its group has vertices. What is refused of it, and what a move does to it.
-ghost use Rattle.std.specs.Prelude.{◌≡◌, ℕ, ◌+◌, ◌≤◌, [], ◌∷◌, nat_abs, length, take, drop};
+ghost use Rattle.std.specs.Prelude.{◌≡◌, ℕ, ◌+◌, ◌*◌, ◌≤◌, [], ◌∷◌, nat_abs, length, take, drop};
 ghost use Rattle.integers.specs.Test.{all};
 ghost use Rattle.projection.specs.Projection.{in_range};
 ghost use Rattle.kinds.specs.Kinds.{groups_of, dimension_of};
@@ -28,37 +28,23 @@ use machine::Weights;
 
 // ---- refusals
 
-// Whether every number of the frame is within the limit: a curve has four of them, a rectangular patch eight and a patch
-// nine. It is asked with every call, and one after the other takes less time than a loop.
+// Whether the four numbers from a place on are within the limit.
+fn four_in_range(net: &[i64], at: usize) -> bool
+    requires { at + 4 ≤ length net.now }
+    ensures { result ≡ all in_range (take 4 (drop at net.now)) }
+{
+    four_within(net[at], net[at + 1], net[at + 2], net[at + 3], LIMIT)
+}
+
+// Whether every number of the frame is within the limit: a curve has four of them, a rectangular patch
+// eight and a patch nine. It is asked with every call, and one after the other takes less time than a loop.
 pub(crate) fn frame_within(net: &[i64], kind: u8) -> bool
     requires { (12 ≤ length net.now) × (1 ≤ dimension_of kind) }
     ensures { (p q : ℕ) → result ≡ all in_range (take (frame_count (groups_of kind p q)) (drop 3 net.now)) }
 {
-    if !four_within(
-        net[FRAME],
-        net[FRAME + 1],
-        net[FRAME + 2],
-        net[FRAME + 3],
-        LIMIT,
-    ) {
-        return false;
-    }
-    if kind == 1 {
-        return true;
-    }
-    if !four_within(
-        net[FRAME + 4],
-        net[FRAME + 5],
-        net[FRAME + 6],
-        net[FRAME + 7],
-        LIMIT,
-    ) {
-        return false;
-    }
-    if kind == 3 {
-        return true;
-    }
-    is_within(net[FRAME + 8], LIMIT)
+    four_in_range(net, FRAME)
+        && (kind == 1
+            || four_in_range(net, FRAME + 4) && (kind == 3 || is_within(net[FRAME + 8], LIMIT)))
 }
 
 // The numbers of a vertex; the third of two is 0.
@@ -69,11 +55,13 @@ pub(crate) struct Vertex {
     pub(crate) third: i64,
 }
 
-// Whether the numbers of a vertex are within the limit.
-pub(crate) fn vertex_within(vertex: Vertex) -> bool
-    ensures { result ≡ all in_range (vertex.first ∷ vertex.second ∷ vertex.third ∷ []) }
-{
-    four_within(vertex.first, vertex.second, vertex.third, 0, LIMIT)
+impl Vertex {
+    // Whether they are within the limit.
+    pub(crate) fn is_within(self) -> bool
+        ensures { result ≡ all in_range (self.first ∷ self.second ∷ self.third ∷ []) }
+    {
+        four_within(self.first, self.second, self.third, 0, LIMIT)
+    }
 }
 
 // ---- the place of a vertex
@@ -118,7 +106,7 @@ fn of_two(net: &[i64], at: usize, r: i64, s: i64) -> i64
     mix(r, net[at], s, net[at + 2], 0, 0)
 }
 
-// The same in a group of three.
+// The same in a group of three: another place for each vertex, and one weight more.
 fn of_three(net: &[i64], at: usize, r: i64, s: i64, t: i64) -> i64
     requires { (at + 7 ≤ length net.now) × (nat_abs r + nat_abs s + nat_abs t ≤ 12288) × Small net.now at × Small net.now (at + 3) × Small net.now (at + 6) }
     ensures { result ≡ of_three net.now r s t at }
@@ -127,13 +115,12 @@ fn of_three(net: &[i64], at: usize, r: i64, s: i64, t: i64) -> i64
 }
 
 // The point q that the weights name in a group of two or three vertices.
-fn point_at(net: &[i64], start: usize, count: usize, weights: Weights) -> Vertex
-    requires { Blends net.now start count weights }
-    ensures { result.first ∷ result.second ∷ result.third ∷ [] ≡ padded (point_at start count (weight_list weights) net.now) }
+fn point_at(net: &[i64], own: Own, weights: Weights) -> Vertex
+    requires { Blends net.now own.start own.count weights }
+    ensures { result.first ∷ result.second ∷ result.third ∷ [] ≡ padded (point_at own.start own.count (weight_list weights) net.now) }
 {
-    let r = weights.r;
-    let s = weights.s;
-    let t = weights.t;
+    let Own { start, count, .. } = own;
+    let Weights { r, s, t, .. } = weights;
     if count == 2 {
         return Vertex {
             first: of_two(net, start, r, s),
@@ -157,27 +144,16 @@ fn new_weights(operation: u8, index: usize, weights: Weights) -> Weights
     if operation == 1 {
         return weights;
     }
-    if index == 0 {
-        return Weights {
-            r: -1,
-            s: 0,
-            t: 0,
-            u: 0,
-        };
-    }
-    if index == 1 {
-        return Weights {
-            r: 0,
-            s: -1,
-            t: 0,
-            u: 0,
-        };
-    }
-    Weights {
+    let none = Weights {
         r: 0,
         s: 0,
-        t: -1,
+        t: 0,
         u: 0,
+    };
+    match index {
+        0 => Weights { r: -1, ..none },
+        1 => Weights { s: -1, ..none },
+        _ => Weights { t: -1, ..none },
     }
 }
 
@@ -186,27 +162,19 @@ pub(crate) fn new_vertex(net: &[i64], own: Own, operation: u8, weights: Weights)
     requires { NewVertex net.now own.start own.count own.index weights }
     ensures { result.first ∷ result.second ∷ result.third ∷ [] ≡ padded (new_vertex own.start own.count own.index operation weights net.now) }
 {
-    let named = new_weights(operation, own.index, weights);
-    point_at(net, own.start, own.count, named)
+    point_at(net, own, new_weights(operation, own.index, weights))
 }
 
-// Puts a vertex's numbers into their places. They are handed over one by one, since a signed number is stored from a
-// local of its own.
-pub(crate) fn put_vertex(
-    net: &mut [i64],
-    at: usize,
-    count: usize,
-    first: i64,
-    second: i64,
-    third: i64,
-)
-    requires { (2 ≤ count) × (count ≤ 3) × (at + count ≤ length net.old) }
-    ensures { net.new ≡ put_at at (take count (first ∷ second ∷ third ∷ [])) net.old }
+// Puts a vertex's numbers into their places.
+pub(crate) fn put_vertex(net: &mut [i64], own: Own, vertex: Vertex)
+    requires { (2 ≤ own.count) × (own.count ≤ 3) × (own.start + own.count * own.index + own.count ≤ length net.old) }
+    ensures { net.new ≡ put_at (own.start + own.count * own.index) (take own.count (vertex.first ∷ vertex.second ∷ vertex.third ∷ [])) net.old }
 {
-    net[at] = first;
-    net[at + 1] = second;
-    if count == 2 {
+    let at = own.start + own.count * own.index;
+    net[at] = vertex.first;
+    net[at + 1] = vertex.second;
+    if own.count == 2 {
         return;
     }
-    net[at + 2] = third;
+    net[at + 2] = vertex.third;
 }

@@ -17,10 +17,8 @@ pub(crate) fn copy_row(out: &mut [i64], to: usize, xs: &[i64], from: usize, widt
 {
     let p = width * to;
     let q = width * from;
-    let mut c = 0;
-    while c < width {
+    for c in 0..width {
         out[p + c] = xs[q + c];
-        c += 1;
     }
 }
 
@@ -72,12 +70,10 @@ pub(crate) fn descend(
     requires { Descends width dimension degree weights cur.old }
     ensures { Descended width dimension degree (weight_list weights) cur.old result cur.new }
 {
-    let mut h = 0;
-    while h < degree {
+    for h in 0..degree {
         if !blend(&mut *cur, dimension, degree - h, width, weights, LIMIT) {
             return false;
         }
-        h += 1;
     }
     true
 }

@@ -13,9 +13,13 @@ mod rows;
 mod sides;
 mod zeros;
 
-ghost use Rattle.std.specs.Prelude.{◌≡◌, [], ◌∷◌, ◌≤◌, pos, length, take};
+ghost use Rattle.std.specs.Prelude.{◌≡◌, [], ◌∷◌, ◌+◌, ◌^◌, ◌<◌, ◌≤◌, pos, length, get_or};
+ghost use Rattle.projection.specs.Projection.{found_projection};
+ghost use Rattle.projection.specs.Accuracy.{AccuratePoint};
+ghost use Rattle.machine.specs.Carried.{four_at};
 ghost use Rattle.machine.specs.Lent.{
   byte_of,
+  head_at,
   put_at,
   polynomials_from,
   made_number,
@@ -24,6 +28,9 @@ ghost use Rattle.machine.specs.Lent.{
   call_places,
   call_found,
 };
+ghost use Rattle.machine.specs.Numbers.{answered};
+ghost use Rattle.entries.specs.Entries.{number_count};
+ghost use Rattle.kinds.specs.Heads.{head_groups};
 ghost use Rattle.nets.specs.Calls.{
   net_in,
   MoveAsked,
@@ -38,11 +45,12 @@ ghost use Rattle.nets.specs.Calls.{
 };
 
 use crate::calls::{judge_net, judge_vertex, judge_weights, make_move, make_point};
-use crate::first::{judge_first, make_in};
-use crate::frames::{frame_within, new_vertex, own_vertex, put_vertex, vertex_within};
+use crate::first::{judge_first, make_entries};
+use crate::frames::{frame_within, new_vertex, own_vertex, put_vertex};
 use crate::rows::{FEW, LIMIT, PLACES, copy, entries_largest};
-use kinds::{frame_count, number_count};
-use machine::{Call, Weights};
+use kinds::{Head, frame_count};
+use machine::{Call, Refusal, Weights};
+use projection::{Four, Projection, project_found};
 
 // How many places a net has: kind and degrees, nine for a frame, the entries, and one for the largest
 // component.
@@ -55,44 +63,34 @@ pub const ENTRIES: usize = 12;
 
 const END: usize = 192;
 
-// A number as a byte; 255 where it is none, which is no kind and no degree.
+// A number as a byte; 255 where it is none, which is no kind and no degree. `u8::try_from` takes twice as many
+// instructions, and it is asked three times with every call.
 fn byte_of(v: i64) -> u8
     ensures { result ≡ byte_of v }
 {
-    if v < 0 {
-        return 255;
-    }
-    if v <= 255 {
-        return v as u8;
-    }
-    255
+    if (0..=255).contains(&v) { v as u8 } else { 255 }
 }
 
-// A byte as a wider number.
-fn wide(b: u8) -> i64
-    ensures { result ≡ pos b }
+// The head of the net in lent places: kind and degrees from the first three. A place that is not there counts as
+// 0.
+pub fn head_at(net: &[i64]) -> Head
+    ensures { result ≡ head_at net.now }
 {
-    b as i64
+    Head {
+        kind: byte_of(number_at(net, 0)),
+        degree: byte_of(number_at(net, 1)),
+        second: byte_of(number_at(net, 2)),
+    }
 }
 
 // Puts kind and degrees into the first three places.
-fn put_head(net: &mut [i64], kind: u8, degree: u8, second: u8)
+fn put_head(net: &mut [i64], head: Head)
     requires { 3 ≤ length net.old }
-    ensures { net.new ≡ put_at 0 (pos kind ∷ pos degree ∷ pos second ∷ []) net.old }
+    ensures { net.new ≡ put_at 0 (pos head.kind ∷ pos head.degree ∷ pos head.second ∷ []) net.old }
 {
-    net[0] = wide(kind);
-    net[1] = wide(degree);
-    net[2] = wide(second);
-}
-
-// The nine numbers that a frame begins with.
-fn first_nine(frame: &[i64]) -> [i64; 9]
-    requires { 9 ≤ length frame.now }
-    ensures { result ≡ take 9 frame.now }
-{
-    [
-        frame[0], frame[1], frame[2], frame[3], frame[4], frame[5], frame[6], frame[7], frame[8],
-    ]
+    net[0] = i64::from(head.kind);
+    net[1] = i64::from(head.degree);
+    net[2] = i64::from(head.second);
 }
 
 // Puts the largest component behind the entries.
@@ -103,124 +101,103 @@ fn put_largest(net: &mut [i64], largest: u64)
     net[END] = largest as i64;
 }
 
-// Stores a net whose largest component is in range, or tells the number of the refusal.
+// Stores a net, unless its largest component is out of range.
 fn store(
     net: &mut [i64],
     largest: u64,
-    kind: u8,
-    degree: u8,
-    second: u8,
+    head: Head,
     frame: &[i64],
     entries: &[i64],
-) -> u8
-    requires { Stores kind degree second largest net.old frame.now entries.now }
-    ensures { Stored (net_with kind degree second frame.now entries.now) net.old result net.new }
+) -> Result<(), Refusal>
+    requires { Stores head largest net.old frame.now entries.now }
+    ensures { Stored (net_with head frame.now entries.now) net.old (answered result) net.new }
 {
-    if LIMIT < largest {
-        return 7;
+    let beyond = LIMIT < largest;
+    if beyond {
+        return Err(Refusal::FirstNet);
     }
     put_largest(net, largest);
-    copy(
-        &mut net[ENTRIES..END],
-        entries,
-        number_count(kind, degree, second),
-    );
-    copy(&mut net[FRAME..ENTRIES], frame, frame_count(kind));
-    put_head(net, kind, degree, second);
-    0
+    copy(&mut net[ENTRIES..END], entries, head.number_count());
+    copy(&mut net[FRAME..ENTRIES], frame, frame_count(head.kind));
+    put_head(net, head);
+    Ok(())
 }
 
-// Makes the first net of accepted polynomials over an accepted frame and stores it. The work is done in small
-// rooms where they are enough, which take less time to clear.
-fn make_first(
+// Makes the first net of accepted polynomials over an accepted frame in rooms of N places, and stores it.
+fn make_in<const N: usize>(
     net: &mut [i64],
-    kind: u8,
-    degree: u8,
-    second: u8,
+    head: Head,
     frame: &[i64],
     coefficients: &[i64],
-) -> u8
-    requires { FirstAsked kind degree second frame.now coefficients.now × (193 ≤ length net.old) }
-    ensures { FirstStored (polynomials_from kind degree second coefficients.now) frame.now net.old result net.new }
+) -> Result<(), Refusal>
+    requires { FirstAsked head frame.now coefficients.now × (193 ≤ length net.old) × (number_count (head_groups head) ≤ N) × (N ≤ 180) }
+    ensures { FirstStored (polynomials_from head.kind head.degree head.second coefficients.now) frame.now net.old (answered result) net.new }
 {
-    if number_count(kind, degree, second) <= FEW {
-        let mut work = [0; FEW];
-        let mut cur = [0; FEW];
-        let mut base = [0; FEW];
-        let mut out = [0; FEW];
-        let largest = make_in(
-            &mut work,
-            &mut cur,
-            &mut base,
-            &mut out,
-            kind,
-            degree,
-            second,
-            frame,
-            coefficients,
-        );
-        return store(net, largest, kind, degree, second, frame, &out);
-    }
-    let mut work = [0; PLACES];
-    let mut cur = [0; PLACES];
-    let mut base = [0; PLACES];
-    let mut out = [0; PLACES];
-    let largest = make_in(
+    let mut entries = [0; N];
+    let mut work = [0; N];
+    let mut cur = [0; N];
+    let mut base = [0; N];
+    let largest = make_entries(
+        &mut entries,
         &mut work,
         &mut cur,
         &mut base,
-        &mut out,
-        kind,
-        degree,
-        second,
+        head,
         frame,
         coefficients,
     );
-    store(net, largest, kind, degree, second, frame, &out)
+    store(net, largest, head, frame, &entries)
 }
 
-// Makes the first net of polynomials over a frame, in places that the caller lends, and answers 0; or
-// answers the number of the refusal, and the places stay as they were. The frame has nine numbers or more,
-// of which a curve takes four, and the coefficients are 180 or more, of which kind and degrees take the
-// first ones, four to a monomial.
-pub fn first_net(
+// The same in small rooms where they are enough, which take less time to clear.
+fn make_first(
     net: &mut [i64],
-    kind: u8,
-    degree: u8,
-    second: u8,
+    head: Head,
     frame: &[i64],
     coefficients: &[i64],
-) -> u8
-    ensures number { result ≡ made_number kind degree second frame.now coefficients.now net.old }
-    ensures places { net.new ≡ made_places kind degree second frame.now coefficients.now net.old }
+) -> Result<(), Refusal>
+    requires { FirstAsked head frame.now coefficients.now × (193 ≤ length net.old) }
+    ensures { FirstStored (polynomials_from head.kind head.degree head.second coefficients.now) frame.now net.old (answered result) net.new }
 {
-    if frame.len() < 9 {
-        return 11;
+    if head.number_count() <= FEW {
+        return make_in::<FEW>(net, head, frame, coefficients);
     }
-    if coefficients.len() < PLACES {
-        return 11;
+    make_in::<PLACES>(net, head, frame, coefficients)
+}
+
+// Makes the first net of polynomials over a frame, in places that the caller lends; or refuses, and the
+// places stay as they were. The frame has nine numbers or more, of which a curve takes four, and the
+// coefficients are 180 or more, of which kind and degrees take the first ones, four to a monomial.
+pub fn first_net(
+    net: &mut [i64],
+    head: Head,
+    frame: &[i64],
+    coefficients: &[i64],
+) -> Result<(), Refusal>
+    ensures number { answered result ≡ made_number head.kind head.degree head.second frame.now coefficients.now net.old }
+    ensures places { net.new ≡ made_places head.kind head.degree head.second frame.now coefficients.now net.old }
+{
+    let Some(corners) = frame.first_chunk::<9>() else {
+        return Err(Refusal::Short);
+    };
+    if coefficients.len() < PLACES || net.len() < NET {
+        return Err(Refusal::Short);
     }
-    if net.len() < NET {
-        return 11;
-    }
-    let corners = first_nine(frame);
-    let number = judge_first(kind, degree, second, &corners, coefficients);
-    if number != 0 {
-        return number;
-    }
-    make_first(net, kind, degree, second, &corners, coefficients)
+    judge_first(head, corners, coefficients)?;
+    make_first(net, head, corners, coefficients)
 }
 
 // Puts the largest component after a move: that of a replace's entries, which are in range, is worked out, and a flip
 // hands on the number that stands there.
-fn move_largest(net: &mut [i64], kind: u8, degree: u8, second: u8, operation: u8)
-    requires { MovedEntries kind degree second operation net.old }
-    ensures { net.new ≡ put_at 192 (largest_in kind degree second operation net.old ∷ []) net.old }
+fn move_largest(net: &mut [i64], head: Head, operation: u8)
+    requires { MovedEntries head operation net.old }
+    ensures { net.new ≡ put_at 192 (largest_in head operation net.old ∷ []) net.old }
 {
-    if operation != 1 {
+    let flips = operation != 1;
+    if flips {
         return;
     }
-    let count = number_count(kind, degree, second);
+    let count = head.number_count();
     let largest = entries_largest(&net[ENTRIES..ENTRIES + count]);
     put_largest(net, largest);
 }
@@ -229,95 +206,89 @@ fn move_largest(net: &mut [i64], kind: u8, degree: u8, second: u8, operation: u8
 // made.
 fn make_moved(
     net: &mut [i64],
-    kind: u8,
-    degree: u8,
-    second: u8,
+    head: Head,
     operation: u8,
     vertex: u8,
     weights: Weights,
-) -> u8
-    requires { MoveAsked kind degree second net.old (Call.Move operation vertex weights) }
-    ensures { Moved (net_in kind degree second net.old) (Call.Move operation vertex weights) result net.old net.new }
+) -> Result<(), Refusal>
+    requires { MoveAsked head net.old (Call.Move operation vertex weights) }
+    ensures { Moved (net_in head net.old) (Call.Move operation vertex weights) (answered result) net.old net.new }
 {
-    let own = own_vertex(kind, vertex);
+    let own = own_vertex(head.kind, vertex);
     let moved = new_vertex(net, own, operation, weights);
-    if !vertex_within(moved) {
-        return 12;
+    if !moved.is_within() {
+        return Err(Refusal::FrameRange);
     }
-    let size = make_move(
-        &mut net[ENTRIES..END],
-        kind,
-        degree,
-        second,
-        operation,
-        vertex,
-        weights,
-    );
-    if size != 0 {
-        return size;
-    }
-    move_largest(net, kind, degree, second, operation);
-    put_vertex(
-        net,
-        own.start + own.count * own.index,
-        own.count,
-        moved.first,
-        moved.second,
-        moved.third,
-    );
-    0
+    make_move(&mut net[ENTRIES..END], head, operation, vertex, weights)?;
+    move_largest(net, head, operation);
+    put_vertex(net, own, moved);
+    Ok(())
 }
 
 // Makes a move on a net; a refused one leaves every place as it was. The tests are in the order of the table.
-pub fn take_move(net: &mut [i64], operation: u8, vertex: u8, weights: Weights) -> u8
-    ensures number { result ≡ call_number (Call.Move operation vertex weights) net.old [] }
+pub fn take_move(
+    net: &mut [i64],
+    operation: u8,
+    vertex: u8,
+    weights: Weights,
+) -> Result<(), Refusal>
+    ensures number { answered result ≡ call_number (Call.Move operation vertex weights) net.old [] }
     ensures places { net.new ≡ call_places (Call.Move operation vertex weights) net.old [] }
 {
     if net.len() < NET {
-        return 11;
+        return Err(Refusal::Short);
     }
-    let kind = byte_of(net[0]);
-    let degree = byte_of(net[1]);
-    let second = byte_of(net[2]);
-    let refusal = judge_net(&net[ENTRIES..END], kind, degree, second);
-    if refusal != 0 {
-        return refusal;
+    let head = head_at(net);
+    judge_net(&net[ENTRIES..END], head)?;
+    judge_vertex(head.kind, operation, vertex, weights)?;
+    if !frame_within(net, head.kind) {
+        return Err(Refusal::FrameRange);
     }
-    let number = judge_vertex(kind, operation, vertex, weights);
-    if number != 0 {
-        return number;
-    }
-    if !frame_within(net, kind) {
-        return 12;
-    }
-    make_moved(net, kind, degree, second, operation, vertex, weights)
+    make_moved(net, head, operation, vertex, weights)
 }
 
 // Finds a point of a net: x, y, z and w go into the first four places of `found` and the numbers projected
 // into the next four, or nothing does. The tests are in the order of the table.
-pub fn find_point(net: &[i64], weights: Weights, found: &mut [i64]) -> u8
-    ensures number { result ≡ call_number (Call.Point weights) net.now found.old }
+pub fn find_point(net: &[i64], weights: Weights, found: &mut [i64]) -> Result<(), Refusal>
+    ensures number { answered result ≡ call_number (Call.Point weights) net.now found.old }
     ensures found { found.new ≡ call_found (Call.Point weights) net.now found.old }
 {
-    if net.len() < NET {
-        return 11;
+    if net.len() < NET || found.len() < 8 {
+        return Err(Refusal::Short);
     }
-    if found.len() < 8 {
-        return 11;
+    let head = head_at(net);
+    judge_net(&net[ENTRIES..END], head)?;
+    judge_weights(head.kind, weights)?;
+    if !frame_within(net, head.kind) {
+        return Err(Refusal::FrameRange);
     }
-    let kind = byte_of(net[0]);
-    let degree = byte_of(net[1]);
-    let second = byte_of(net[2]);
-    let refusal = judge_net(&net[ENTRIES..END], kind, degree, second);
-    if refusal != 0 {
-        return refusal;
+    make_point(&net[ENTRIES..END], head, weights, found)
+}
+
+// A number among some; one that is not there counts as 0.
+fn number_at(numbers: &[i64], place: usize) -> i64
+    ensures { result ≡ get_or numbers.now place (pos 0) }
+{
+    numbers.get(place).copied().unwrap_or(0)
+}
+
+// The four numbers that stand from a place on.
+fn four_at(numbers: &[i64], at: usize) -> Four
+    requires { at + 3 < 2 ^ 64 }
+    ensures { result ≡ four_at at numbers.now }
+{
+    Four {
+        x: number_at(numbers, at),
+        y: number_at(numbers, at + 1),
+        z: number_at(numbers, at + 2),
+        w: number_at(numbers, at + 3),
     }
-    let number = judge_weights(kind, weights);
-    if number != 0 {
-        return number;
-    }
-    if !frame_within(net, kind) {
-        return 12;
-    }
-    make_point(&net[ENTRIES..END], kind, degree, second, weights, found)
+}
+
+// Projects the point that `find_point` found, by its eight numbers; one that is not there counts as 0.
+pub fn project_point(found: &[i64]) -> Projection
+    ensures answer { result ≡ found_projection (four_at 0 found.now) (four_at 4 found.now) }
+    ensures accurate { AccuratePoint (four_at 4 found.now) result }
+{
+    project_found(four_at(found, 0), four_at(found, 4))
 }

@@ -44,16 +44,7 @@ pub(crate) const LIMIT: u64 = 281474976710656;
 pub(crate) fn four_within(a: i64, b: i64, c: i64, d: i64, limit: u64) -> bool
     ensures { result ≡ all (within limit) (a ∷ b ∷ c ∷ d ∷ []) }
 {
-    if !is_within(a, limit) {
-        return false;
-    }
-    if !is_within(b, limit) {
-        return false;
-    }
-    if !is_within(c, limit) {
-        return false;
-    }
-    is_within(d, limit)
+    is_within(a, limit) && is_within(b, limit) && is_within(c, limit) && is_within(d, limit)
 }
 
 // Whether the numbers of whole entries are within a limit: four a turn, which takes less time than one.
@@ -61,8 +52,8 @@ pub(crate) fn entries_within(numbers: &[i64], limit: u64) -> bool
     requires { Whole (length numbers.now) }
     ensures { result ≡ all (within limit) numbers.now }
 {
-    let mut i = 0;
-    while i < numbers.len() {
+    for entry in 0..numbers.len() / 4 {
+        let i = 4 * entry;
         if !four_within(
             numbers[i],
             numbers[i + 1],
@@ -72,31 +63,19 @@ pub(crate) fn entries_within(numbers: &[i64], limit: u64) -> bool
         ) {
             return false;
         }
-        i += 4;
     }
     true
 }
 
 // ---- the largest
 
-// The larger of two numbers.
-pub(crate) fn larger(a: u64, b: u64) -> u64
-    ensures { result ≡ max a b }
-{
-    if a < b {
-        return b;
-    }
-    a
-}
-
 // The largest absolute value of four numbers.
 pub(crate) fn four_largest(a: i64, b: i64, c: i64, d: i64) -> u64
     ensures { result ≡ largest_of (a ∷ b ∷ c ∷ d ∷ []) }
 {
-    larger(
-        larger(magnitude(a), magnitude(b)),
-        larger(magnitude(c), magnitude(d)),
-    )
+    magnitude(a)
+        .max(magnitude(b))
+        .max(magnitude(c).max(magnitude(d)))
 }
 
 // The largest absolute value among the numbers of whole entries.
@@ -105,13 +84,10 @@ pub(crate) fn entries_largest(numbers: &[i64]) -> u64
     ensures { result ≡ largest_of numbers.now }
 {
     let mut largest = 0;
-    let mut i = 0;
-    while i < numbers.len() {
-        largest = larger(
-            largest,
-            four_largest(numbers[i], numbers[i + 1], numbers[i + 2], numbers[i + 3]),
-        );
-        i += 4;
+    for entry in 0..numbers.len() / 4 {
+        let i = 4 * entry;
+        let four = four_largest(numbers[i], numbers[i + 1], numbers[i + 2], numbers[i + 3]);
+        largest = largest.max(four);
     }
     largest
 }
@@ -123,10 +99,8 @@ pub(crate) fn copy(to: &mut [i64], from: &[i64], count: usize)
     requires { (count ≤ length to.old) × (count ≤ length from.now) }
     ensures { to.new ≡ written to.old 0 count (λ i. get_or from.now i (pos 0)) }
 {
-    let mut i = 0;
-    while i < count {
+    for i in 0..count {
         to[i] = from[i];
-        i += 1;
     }
 }
 
@@ -141,7 +115,8 @@ pub(crate) fn mix(a: i64, x: i64, b: i64, y: i64, c: i64, z: i64) -> i64
 }
 
 // Blends a row in place, each number with those d and e places further on, which are not blended yet. The
-// first blended number beyond the limit ends the work.
+// first blended number beyond the limit ends the work. The loop ends by a test for equality, which takes the
+// compiled code one instruction less for each number than a `for`, which tests for less.
 pub(crate) fn blend_row(
     xs: &mut [i64],
     from: usize,
@@ -206,18 +181,16 @@ pub(crate) fn blend_rows(
     requires { Sized width 2 degree × (size width 2 degree ≤ length xs.old) × Bounded xs.old 0 (size width 2 degree) (weight_sum weights) }
     ensures { Leaves limit (width * offset (counts 1) degree) (rows_blended width xs.old weights degree) result xs.new }
 {
-    let a = weights.r;
-    let b = weights.s;
-    let c = weights.t;
     let mut from = 0;
-    let mut i = 0;
-    while i < degree {
+    for i in 0..degree {
         let count = width * (i + 1);
-        if !blend_row(&mut *xs, from, count, count, count + width, a, b, c, limit) {
+        let next = count + width;
+        if !blend_row(
+            &mut *xs, from, count, count, next, weights.r, weights.s, weights.t, limit,
+        ) {
             return false;
         }
         from += count;
-        i += 1;
     }
     true
 }

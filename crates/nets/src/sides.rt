@@ -16,12 +16,13 @@ use machine::Weights;
 
 // ---- one row
 
-// Blends numbers in place, from the first to the last, each with the one d places before, which is not blended, and the
-// one e places further on, which is not blended yet. The first blended number beyond the limit ends the work.
+// Blends some numbers in place, from the first to the last, each with the one d places before, which is not
+// blended, and the one e places further on, which is not blended yet. The first blended number beyond the
+// limit ends the work.
 pub(crate) fn blend_across(
     xs: &mut [i64],
     from: usize,
-    end: usize,
+    count: usize,
     d: usize,
     e: usize,
     a: i64,
@@ -29,27 +30,27 @@ pub(crate) fn blend_across(
     c: i64,
     limit: u64,
 ) -> bool
-    requires { (d ≤ from) × (from ≤ end) × (end ≤ from + d) × (1 ≤ e) × (end + e ≤ length xs.old) × Bounded xs.old (from - d) (end + e) (nat_abs a + nat_abs b + nat_abs c) }
-    ensures { BlendsLeft limit (mixed_across xs.old d e a b c) from (end - from) xs.old result xs.new }
+    requires { (d ≤ from) × (count ≤ d) × (1 ≤ e) × (from + count + e ≤ length xs.old) × Bounded xs.old (from - d) (from + count + e) (nat_abs a + nat_abs b + nat_abs c) }
+    ensures { BlendsLeft limit (mixed_across xs.old d e a b c) from count xs.old result xs.new }
 {
-    let mut f = from;
-    while f != end {
+    for k in 0..count {
+        let f = from + k;
         let v = mix(a, xs[f], b, xs[f - d], c, xs[f + e]);
         xs[f] = v;
         if !is_within(v, limit) {
             return false;
         }
-        f += 1;
     }
     true
 }
 
-// Blends numbers in place, from the last to the first, each with those d and e places before, which are not blended yet.
-// The first blended number beyond the limit ends the work.
+// Blends some numbers in place, from the last to the first, each with those d and e places before, which
+// are not blended yet. The first blended number beyond the limit ends the work. Beside `blend_across` the
+// order and the side of the partners differ, and the bounds with them.
 pub(crate) fn blend_down(
     xs: &mut [i64],
     from: usize,
-    end: usize,
+    count: usize,
     d: usize,
     e: usize,
     a: i64,
@@ -57,12 +58,11 @@ pub(crate) fn blend_down(
     c: i64,
     limit: u64,
 ) -> bool
-    requires { (1 ≤ e) × (e ≤ d) × (d ≤ from) × (from ≤ end) × (end ≤ length xs.old) × Bounded xs.old (from - d) end (nat_abs a + nat_abs b + nat_abs c) }
-    ensures { BlendsLeft limit (mixed_down xs.old d e a b c) from (end - from) xs.old result xs.new }
+    requires { (1 ≤ e) × (e ≤ d) × (d ≤ from) × (from + count ≤ length xs.old) × Bounded xs.old (from - d) (from + count) (nat_abs a + nat_abs b + nat_abs c) }
+    ensures { BlendsLeft limit (mixed_down xs.old d e a b c) from count xs.old result xs.new }
 {
-    let mut f = end;
-    while f != from {
-        f -= 1;
+    for k in (0..count).rev() {
+        let f = from + k;
         let v = mix(a, xs[f], b, xs[f - d], c, xs[f - e]);
         xs[f] = v;
         if !is_within(v, limit) {
@@ -74,52 +74,49 @@ pub(crate) fn blend_down(
 
 // ---- one level of a triangle
 
-// Level 1 + h of the second vertex. Row i has the entries with i copies of the second and the third vertex together;
-// the partners of an entry are in the row before and further on in its row.
-pub(crate) fn level_second(xs: &mut [i64], degree: usize, h: usize, weights: Weights) -> bool
-    requires { LevelAsked degree h weights xs.old }
-    ensures { Levelled 4 2 degree (weight_list weights) 1 h xs.old result xs.new }
-{
-    let mut i = degree;
-    while h < i {
-        let from = 2 * i * (i + 1);
-        if !blend_across(
-            &mut *xs,
-            from,
-            from + 4 * (i - h),
-            4 * i,
-            4,
-            weights.s,
-            weights.r,
-            weights.t,
-            LIMIT,
-        ) {
-            return false;
-        }
-        i -= 1;
-    }
-    true
-}
-
-// Level 1 + h of the third vertex: the partners of an entry are in the row before and before it in its row.
-pub(crate) fn level_third(xs: &mut [i64], degree: usize, h: usize, weights: Weights) -> bool
-    requires { LevelAsked degree h weights xs.old }
-    ensures { Levelled 4 2 degree (weight_list weights) 2 h xs.old result xs.new }
+// Level 1 + h of the second or the third vertex. Row i has the entries with i copies of these two together;
+// the partners of an entry are in the row before and in its own, further on for the second vertex and before
+// it for the third. The rows are counted by hand: under a `for` each blended number of the third vertex
+// takes more instructions.
+pub(crate) fn level_side<const VERTEX: usize>(
+    xs: &mut [i64],
+    degree: usize,
+    h: usize,
+    weights: Weights,
+) -> bool
+    requires { LevelAsked degree h weights xs.old × (1 ≤ VERTEX) × (VERTEX ≤ 2) }
+    ensures { Levelled 4 2 degree (weight_list weights) VERTEX h xs.old result xs.new }
 {
     let mut i = degree;
     while h < i {
         let row = 2 * i * (i + 1);
-        if !blend_down(
-            &mut *xs,
-            row + 4 * (h + 1),
-            row + 4 * (i + 1),
-            4 * (i + 1),
-            4,
-            weights.t,
-            weights.r,
-            weights.s,
-            LIMIT,
-        ) {
+        let count = 4 * (i - h);
+        let all_within = if VERTEX == 1 {
+            blend_across(
+                &mut *xs,
+                row,
+                count,
+                4 * i,
+                4,
+                weights.s,
+                weights.r,
+                weights.t,
+                LIMIT,
+            )
+        } else {
+            blend_down(
+                &mut *xs,
+                row + 4 * (h + 1),
+                count,
+                4 * (i + 1),
+                4,
+                weights.t,
+                weights.r,
+                weights.s,
+                LIMIT,
+            )
+        };
+        if !all_within {
             return false;
         }
         i -= 1;
@@ -136,12 +133,12 @@ pub(crate) fn descend_back(cur: &mut [i64], degree: usize, width: usize, weights
     ensures { ReplacedInPlace width 1 degree (weight_list weights) 1 cur.old result cur.new }
 {
     let end = width * (degree + 1);
-    let mut h = 0;
-    while h < degree {
+    for h in 0..degree {
+        let from = width * (h + 1);
         if !blend_down(
             &mut *cur,
-            width * (h + 1),
-            end,
+            from,
+            end - from,
             width,
             width,
             weights.s,
@@ -151,7 +148,6 @@ pub(crate) fn descend_back(cur: &mut [i64], degree: usize, width: usize, weights
         ) {
             return false;
         }
-        h += 1;
     }
     true
 }
@@ -175,32 +171,20 @@ pub(crate) fn descend_line(
 
 // ---- all levels of a triangle
 
-// Replaces the second vertex of a triangle in place. The work ends with the first number that is out of range.
-pub(crate) fn descend_second(xs: &mut [i64], degree: usize, weights: Weights) -> bool
-    requires { Descends 4 2 degree weights xs.old }
-    ensures { ReplacedInPlace 4 2 degree (weight_list weights) 1 xs.old result xs.new }
+// Replaces the second or the third vertex of a triangle in place. The work ends with the first number that
+// is out of range.
+pub(crate) fn descend_side<const VERTEX: usize>(
+    xs: &mut [i64],
+    degree: usize,
+    weights: Weights,
+) -> bool
+    requires { Descends 4 2 degree weights xs.old × (1 ≤ VERTEX) × (VERTEX ≤ 2) }
+    ensures { ReplacedInPlace 4 2 degree (weight_list weights) VERTEX xs.old result xs.new }
 {
-    let mut h = 0;
-    while h < degree {
-        if !level_second(&mut *xs, degree, h, weights) {
+    for h in 0..degree {
+        if !level_side::<VERTEX>(&mut *xs, degree, h, weights) {
             return false;
         }
-        h += 1;
-    }
-    true
-}
-
-// The same for the third vertex.
-pub(crate) fn descend_third(xs: &mut [i64], degree: usize, weights: Weights) -> bool
-    requires { Descends 4 2 degree weights xs.old }
-    ensures { ReplacedInPlace 4 2 degree (weight_list weights) 2 xs.old result xs.new }
-{
-    let mut h = 0;
-    while h < degree {
-        if !level_third(&mut *xs, degree, h, weights) {
-            return false;
-        }
-        h += 1;
     }
     true
 }
@@ -219,7 +203,7 @@ pub(crate) fn descend_triangle(
         return descend(xs, 2, degree, 4, weights);
     }
     if vertex == 1 {
-        return descend_second(xs, degree, weights);
+        return descend_side::<1>(xs, degree, weights);
     }
-    descend_third(xs, degree, weights)
+    descend_side::<2>(xs, degree, weights)
 }

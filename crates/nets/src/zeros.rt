@@ -15,45 +15,18 @@ ghost use Rattle.nets.specs.Zeros.{
   projected_put,
 };
 
+use crate::four_at;
 use crate::rows::copy;
 use crate::sides::descend_line;
+use kinds::Head;
 use machine::Weights;
-use projection::four_zeros;
 
 // Whether four numbers that stand one after the other are all 0.
 fn zeros_at(numbers: &[i64], at: usize) -> bool
     requires { at + 4 ≤ length numbers.now }
     ensures { result ≡ is_four_zeros (four_at at numbers.now) }
 {
-    four_zeros(
-        numbers[at],
-        numbers[at + 1],
-        numbers[at + 2],
-        numbers[at + 3],
-    )
-}
-
-// Puts four numbers behind those of a point.
-fn put_second(found: &mut [i64], x: i64, y: i64, z: i64, w: i64)
-    requires { 8 ≤ length found.old }
-    ensures { found.new ≡ put_at 4 (x ∷ y ∷ z ∷ w ∷ []) found.old }
-{
-    found[4] = x;
-    found[5] = y;
-    found[6] = z;
-    found[7] = w;
-}
-
-// Puts a point's own numbers behind them.
-fn put_again(found: &mut [i64])
-    requires { 8 ≤ length found.old }
-    ensures { found.new ≡ put_at 4 (four_numbers (four_at 0 found.old)) found.old }
-{
-    let x = found[0];
-    let y = found[1];
-    let z = found[2];
-    let w = found[3];
-    put_second(found, x, y, z, w);
+    four_at(numbers, at).is_zeros()
 }
 
 // The vertex of a line that is replaced by q: the second, or the first where q's weight of the second is 0.
@@ -79,19 +52,18 @@ fn value_place(vertex: usize, degree: usize, d: usize) -> usize
 
 // The place of the first of these entries, d from 1 on, that is not four zeros; where all are, the last
 // one's.
+#[tactic(auto, using(crate::proofs::ZeroPlaces::left_steps))]
 fn first_place(room: &[i64], vertex: usize, degree: usize) -> usize
     requires { (1 ≤ degree) × (degree ≤ 10) × (4 * (degree + 1) ≤ length room.now) }
     ensures { (result + 4 ≤ 4 * (degree + 1)) × (four_at result room.now ≡ places_projected vertex degree room.now) }
 {
-    let mut d = 1;
-    while d < degree {
+    for d in 1..degree {
         let at = value_place(vertex, degree, d);
         if !zeros_at(room, at) {
             return at;
         }
-        d += 1;
     }
-    value_place(vertex, degree, d)
+    value_place(vertex, degree, degree)
 }
 
 // Puts what is left of a line at a common zero behind a point's numbers. In a room one vertex is replaced by
@@ -110,7 +82,7 @@ fn put_at_zero(
     copy(&mut *room, entries, 4 * (degree + 1));
     descend_line(&mut *room, vertex, degree, 4, weights);
     let at = first_place(room, vertex, degree);
-    put_second(found, room[at], room[at + 1], room[at + 2], room[at + 3]);
+    found[4..8].copy_from_slice(&room[at..at + 4]);
 }
 
 // Puts the numbers projected behind a point's: the point's own or, where they are four zeros on a curve, what
@@ -118,21 +90,16 @@ fn put_at_zero(
 pub(crate) fn put_projected(
     room: &mut [i64],
     entries: &[i64],
-    kind: u8,
-    degree: u8,
+    head: Head,
     weights: Weights,
     found: &mut [i64],
 )
-    requires { ProjectedAsked kind degree weights entries.now room.old found.old }
-    ensures { found.new ≡ projected_put kind degree weights entries.now found.old }
+    requires { ProjectedAsked head.kind head.degree weights entries.now room.old found.old }
+    ensures { found.new ≡ projected_put head.kind head.degree weights entries.now found.old }
 {
-    if kind != 1 {
-        put_again(found);
+    if head.kind != 1 || !zeros_at(found, 0) {
+        found.copy_within(0..4, 4);
         return;
     }
-    if !zeros_at(found, 0) {
-        put_again(found);
-        return;
-    }
-    put_at_zero(room, entries, degree as usize, weights, found);
+    put_at_zero(room, entries, head.degree as usize, weights, found);
 }

@@ -7,11 +7,10 @@ use mathlib.Core.List.{List}
 use lib.ListN.{length}
 use Rattle.machine.specs.Lent.{unless_refused}
 use Rattle.records.specs.Table.{slots}
-use Rattle.records.specs.Reading.{end_extent, extent_among, no_fields, bytes_of, reading_of}
+use Rattle.records.specs.Reading.{Fields, end_extent, extent_among, no_fields, bytes_of, reading_of}
 use Rattle.records.specs.Fields.{tag_byte, length_bytes, FieldAt}
 use Rattle.records.specs.declared.Extent.{Extent}
 use Rattle.records.specs.declared.Layout.{Layout}
-use Rattle.records.specs.declared.Reading.TheVariants.{Fields}
 use Rattle.records.proofs.Fields.{field_found, field-absent, no_field, field-inside}
 use Rattle.opening.specs.Opening.{reading_layout, layout_read, opened_layout, refusal_in, field_extent}
 use Rattle.opening.specs.Fields.{Found, AtEnd, FieldLookup}

@@ -30,17 +30,17 @@ filled places out part whole start n room is read =
 
 module _ (l : Layout) (s : List ℕ) (frame coefficients rest lent : List ℤ) (n : ℕ) (count : NumberCount (layout_groups l) n) where
   -- the coefficients are those of the layout, as many as kind and degrees have
-  polynomials-given : coefficients ≡ numbers_to n (number_at 4 (drop l.coefficients.start s)) ++ rest → polynomials_from l.kind l.degree l.second coefficients ≡ polynomials_at l s
+  polynomials-given : coefficients ≡ numbers_to n (number_at 4 (drop l.coefficients.start s)) ++ rest → polynomials_from l.said.kind l.said.degree l.said.second coefficients ≡ polynomials_at l s
   unfolding coefficients_of
   polynomials-given is =
-      ap (λ cs. polynomials_from l.kind l.degree l.second cs) is
+      ap (λ cs. polynomials_from l.said.kind l.said.degree l.said.second cs) is
       ∙ ap with-coefficients (take_at (numbers_to n number) rest _ (length-numbers_to n number ∙ count.coefficients) ∙ ap (λ k. numbers_to k number) count.coefficients)
     where
       number : ℕ → ℤ
       number = number_at 4 (drop l.coefficients.start s)
 
       with-coefficients : List ℤ → Polynomials
-      with-coefficients cs = record { kind = l.kind; degree = l.degree; second = l.second; coefficients = cs }
+      with-coefficients cs = record { kind = l.said.kind; degree = l.said.degree; second = l.said.second; coefficients = cs }
 
   -- the frame has nine numbers
   nine : frame ≡ numbers_at l s → length frame ≡ 9
@@ -48,7 +48,7 @@ module _ (l : Layout) (s : List ℕ) (frame coefficients rest lent : List ℤ) (
   nine is = ap length is ∙ length-numbers_to 9 (number_at 2 (bytes_of l.frame s))
 
   pub first_made : frame ≡ numbers_at l s → coefficients ≡ numbers_to n (number_at 4 (drop l.coefficients.start s)) ++ rest → length coefficients ≡ 180 → enough_places lent ≡ true
-      → (number : ℕ) (left : List ℤ) → number ≡ made_number l.kind l.degree l.second frame coefficients lent → left ≡ made_places l.kind l.degree l.second frame coefficients lent
+      → (number : ℕ) (left : List ℤ) → number ≡ made_number l.said.kind l.said.degree l.said.second frame coefficients lent → left ≡ made_places l.said.kind l.said.degree l.said.second frame coefficients lent
       → FirstMade l s lent number left
   unfolding made_number made_places first_refusal
   first_made frame_is coefficients-are long enough number left answered stands =
@@ -56,13 +56,13 @@ module _ (l : Layout) (s : List ℕ) (frame coefficients rest lent : List ℤ) (
         number =
             answered
             ∙ passed_first (leb 9 (length frame) else 11 ∷ leb 180 (length coefficients) else 11 ∷ enough_places lent else 11 ∷ [])
-            (first_tests (polynomials_from l.kind l.degree l.second coefficients) (take 9 frame))
+            (first_tests (polynomials_from l.said.kind l.said.degree l.said.second coefficients) (take 9 frame))
             (λ i. leb 9 (nine frame_is i) && (leb 180 (long i) && (enough i && true)))
             ∙ ap₂ (λ f ns. first_failed (first_tests f ns)) polynomials numbers;
         places = stands ∙ (λ i. unless_refused (sym answered i) (put_net (first_net (polynomials i) (numbers i)) lent) lent);
       }
     where
-      polynomials : polynomials_from l.kind l.degree l.second coefficients ≡ polynomials_at l s
+      polynomials : polynomials_from l.said.kind l.said.degree l.said.second coefficients ≡ polynomials_at l s
       polynomials = polynomials-given coefficients-are
 
       numbers : take 9 frame ≡ numbers_at l s

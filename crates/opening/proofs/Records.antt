@@ -1,9 +1,8 @@
--- A record opened, by the reading: a refusal of the reader, a first net that is refused, and neither. Of a
--- record that the reader does not refuse, kind, frame and coefficients are accepted, so that only its first
--- net is left to be judged.
+-- A record opened, by the reading. Of a record that the reader does not refuse, kind, frame and coefficients
+-- are accepted, so that only its first net is left to be judged; and every field lies within the record.
 use Prim.Native.Nat.{ℕ, zero, suc}
 use native.Mathlib.Omega.{arith}
-use mathlib.Core.Path.{◌≡◌, refl, sym, ap, ap₂, ◌∙◌, subst}
+use mathlib.Core.Path.{◌≡◌, refl, sym, ap, ◌∙◌, subst}
 use mathlib.Core.Bool.{Bool, true, false, ◌&&◌, cond}
 use mathlib.Core.List.{List, [], ◌∷◌}
 use lib.IntN.{ℤ}
@@ -13,83 +12,25 @@ use Rattle.kinds.specs.Frames.{frames_allowed}
 use Rattle.machine.specs.Refusals.{◌else◌, first_failed}
 use Rattle.machine.specs.Comparison.{groups}
 use Rattle.machine.specs.Nets.{net_in_range}
-use Rattle.machine.specs.First.{first_net, first_tests, first_refusal}
-use Rattle.machine.specs.Lent.{put_net, enough_places, unless_refused}
+use Rattle.machine.specs.First.{first_tests, first_refusal}
+use Rattle.machine.specs.Lent.{enough_places, unless_refused}
 use Rattle.machine.proofs.Refusals.{passed_first}
-use Rattle.records.proofs.Causes.{refused-caused}
+use Rattle.records.proofs.Causes.{caused-refused, refused-caused}
+use Rattle.records.proofs.Longest.{refused-near}
 use Rattle.records.proofs.Accepted.{accepted-sound, found_inside, none_inside}
 use Rattle.records.specs.Table.{slots}
-use Rattle.records.specs.Reading.{no_fields, extent_in, extent_among, Inside, reading_of}
+use Rattle.records.specs.Reading.{Reading, Fields, Refused, no_fields, extent_in, extent_among, Inside, reading_of}
 use Rattle.records.specs.Causes.{Caused, Sound}
 use Rattle.records.specs.declared.Extent.{Extent}
 use Rattle.records.specs.declared.Layout.{Layout}
-use Rattle.records.specs.declared.Refusal.{Refusal}
 use Rattle.records.specs.declared.Slot.{Slot}
-use Rattle.records.specs.declared.Reading.{Reading}
-use Rattle.records.specs.declared.Reading.TheVariants.{Fields, Refused}
-use Rattle.opening.specs.Opening.{
-  reading_layout,
-  layout_read,
-  polynomials_at,
-  polynomials_in,
-  numbers_at,
-  numbers_in,
-  first_net_from,
-  refusal_at,
-  refusal_by,
-  refusal_in,
-  opened_with,
-  opened_layout,
-  field_extent,
-  refusal_over,
-  opened_in,
-  places_in,
-  FirstMade,
-}
-use Rattle.opening.specs.declared.Opened.{Opened}
+use Rattle.opening.specs.Opening.{Opened, reading_layout, layout_read, polynomials_at, polynomials_in, numbers_at, numbers_in, first_net_from, refusal_at, refusal_by, refusal_in, opened_with, opened_layout, field_extent, refusal_over, opened_in}
 
 -- ---- numbers and offsets
-
-pub refusal-none : (number offset : ℕ) → number ≡ 0 → record { number = 0; offset = 0 } ≡ refusal_at number offset
-refusal-none number offset h = ap (λ k. refusal_at k offset) (sym h)
-
-pub refusal-some : (number offset : ℕ) → (number ≡ 0 → ⊥) → record { number = number; offset = offset } ≡ refusal_at number offset
-refusal-some zero offset h = absurd (h refl)
-refusal-some (suc k) offset h = refl
 
 refusal-number : (k offset : ℕ) → (refusal_at k offset).number ≡ k
 refusal-number zero offset = refl
 refusal-number (suc k) offset = refl
-
--- where the number is not 0, what stood there stands
-stood : {A : Type 0} (k : ℕ) (written before : A) → (k ≡ 0 → ⊥) → unless_refused k written before ≡ before
-stood zero written before h = absurd (h refl)
-stood (suc k) written before h = refl
-
--- ---- by the refusal
-
--- what `open` promises
-abbrev pub Opens : List ℕ → List ℤ → Opened → List ℤ → Type 0
-Opens s lent opened left = (opened ≡ opened_in s lent) × (left ≡ places_in s lent)
-
-module _ (s : List ℕ) (lent : List ℤ) (r : Refusal) (is : refusal_over s lent ≡ r) where
-  opens : Opens s lent (opened_with r s) (unless_refused r.number (put_net (first_net_from s) lent) lent)
-  unfolding opened_in places_in
-  opens = (ap (λ x. opened_with x s) (sym is), ap (λ x. unless_refused x.number (put_net (first_net_from s) lent) lent) (sym is))
-
-  -- a refused record has no fields, and the places stand
-  opens-refused : (r.number ≡ 0 → ⊥) → Opens s lent (record { refusal = r; layout = no_fields s }) lent
-  opens-refused some = (
-    ap (λ l. record { refusal = r; layout = l }) (sym (stood r.number (layout_read s) (no_fields s) some)) ∙ opens.0,
-    sym (stood r.number (put_net (first_net_from s) lent) lent some) ∙ opens.1,
-  )
-
-  -- another one has those that the reader found, and its first net is in the places
-  opens-taken : r.number ≡ 0 → Opens s lent (record { refusal = r; layout = layout_read s }) (put_net (first_net_from s) lent)
-  opens-taken none = (
-    ap (λ k. record { refusal = r; layout = unless_refused k (layout_read s) (no_fields s) }) (sym none) ∙ opens.0,
-    ap (λ k. unless_refused k (put_net (first_net_from s) lent) lent) (sym none) ∙ opens.1,
-  )
 
 -- with places enough the refusal is the record's own
 refusal-wide : (s : List ℕ) (lent : List ℤ) → enough_places lent ≡ true → refusal_over s lent ≡ refusal_in s
@@ -99,26 +40,9 @@ pub opened-wide : (s : List ℕ) (lent : List ℤ) → enough_places lent ≡ tr
 unfolding opened_in
 opened-wide s lent enough = ap (λ r. opened_with r s) (refusal-wide s lent enough)
 
--- too few
-pub opens-short : (s : List ℕ) (lent : List ℤ) → enough_places lent ≡ false → Opens s lent (record { refusal = record { number = 11; offset = 0 }; layout = no_fields s }) lent
-opens-short s lent short =
-    opens-refused s lent (record { number = 11; offset = 0 }) (ap (λ b. cond b (refusal_in s) (record { number = 11; offset = 0 })) short) (λ z. let e : ◌≡◌ {A = ℕ} 11 0 = z in omega arith)
-
--- ---- a refused reading
-
 -- no cause has number 0
 pub caused-some : {s : List ℕ} {n at : ℕ} → Caused s n at → n ≡ 0 → ⊥
-caused-some (Caused.cut_field b h k) z = omega arith
-caused-some (Caused.cut_value b h k) z = omega arith
-caused-some (Caused.wrong_tag b h k) z = omega arith
-caused-some (Caused.absent_tag b h) z = omega arith
-caused-some (Caused.wrong_length b h) z = omega arith
-caused-some (Caused.wrong_value b h k f) z = omega arith
-
-pub reading-refused : (s : List ℕ) (lent : List ℤ) → enough_places lent ≡ true → (r : Refusal) → reading_of s ≡ Refused r
-    → Opens s lent (record { refusal = r; layout = no_fields s }) lent
-unfolding refusal_in
-reading-refused s lent enough r e = opens-refused s lent r (refusal-wide s lent enough ∙ ap (λ x. refusal_by x s) e) (caused-some (refused-caused s r e))
+caused-some {s} {n} {at} c z = let near = refused-near s (record { number = n; offset = at }) (caused-refused c) in absurd (omega (arith, near.some))
 
 -- ---- a reading that is not refused
 
@@ -138,7 +62,7 @@ module _ (s : List ℕ) (l : Layout) (e : reading_of s ≡ Fields l) where
   sound : Sound s l
   sound = accepted-sound s l e
 
-  pub layout-known : known l.kind l.degree l.second ≡ true
+  pub layout-known : known l.said.kind l.said.degree l.said.second ≡ true
   layout-known = sound.degrees
 
   pub refusal_is : refusal_in s ≡ refusal_at (first_refusal (polynomials_in s) (numbers_in s)) l.coefficients.field
@@ -157,29 +81,6 @@ module _ (s : List ℕ) (l : Layout) (e : reading_of s ≡ Fields l) where
       let g = polynomials-are i in
       known g.kind g.degree g.second && (frames_allowed (groups g) (numbers-are i) && (all (within 1048576) g.coefficients && true)))
       ∙ (λ i. sound.degrees i && (sound.frame_good i && (sound.coefficients_good i && true))))
-
-  -- the first net as it was made
-  module _ (lent left : List ℤ) (enough : enough_places lent ≡ true) (number : ℕ) (made : FirstMade l s lent number left) where
-    refusal-made : refusal_over s lent ≡ refusal_at number l.coefficients.field
-    refusal-made =
-        refusal-wide s lent enough
-        ∙ refusal_is
-        ∙ ap (λ k. refusal_at k l.coefficients.field) (ap₂ first_refusal polynomials-are numbers-are ∙ sym made.number)
-
-    pub first-refused : (number ≡ 0 → ⊥) → Opens s lent (record { refusal = refusal_at number l.coefficients.field; layout = no_fields s }) left
-    first-refused some =
-        let opens = opens-refused s lent (refusal_at number l.coefficients.field) refusal-made (λ z. some (sym (refusal-number number l.coefficients.field) ∙ z)) in
-        (opens.0, made.places ∙ stood number _ lent some ∙ opens.1)
-
-    pub first_taken : number ≡ 0 → Opens s lent (record { refusal = refusal_at number l.coefficients.field; layout = l }) left
-    first_taken none =
-        let opens = opens-taken s lent (refusal_at number l.coefficients.field) refusal-made (refusal-number number l.coefficients.field ∙ none) in (
-          ap (λ x. record { refusal = refusal_at number l.coefficients.field; layout = x }) (sym layout_is) ∙ opens.0,
-          made.places
-              ∙ ap (λ k. unless_refused k (put_net (first_net (polynomials_at l s) (numbers_at l s)) lent) lent) none
-              ∙ sym (ap₂ (λ f ns. put_net (first_net f ns) lent) polynomials-are numbers-are)
-              ∙ opens.1,
-        )
 
 -- ---- any record
 

@@ -8,11 +8,8 @@ use mathlib.Core.Bool.{Bool, true, false}
 use mathlib.Core.List.{List, [], ◌∷◌}
 use Rattle.machine.specs.Refusals.{◌else◌, first_failed}
 use Rattle.machine.specs.Nets.{net_in_range}
-use Rattle.records.specs.Reading.{reading_of}
+use Rattle.records.specs.Reading.{NumberAt, Reading, Fields, Refused, reading_of}
 use Rattle.records.specs.declared.Layout.{Layout}
-use Rattle.records.specs.declared.Refusal.{Refusal}
-use Rattle.records.specs.declared.Reading.{Reading}
-use Rattle.records.specs.declared.Reading.TheVariants.{Fields, Refused}
 use Rattle.records.proofs.Causes.{caused-refused, refused-caused}
 use Rattle.opening.specs.Opening.{first_net_from, refusal_at, refusal_by, refusal_in}
 use Rattle.opening.specs.Refusals.{FirstCause, EachRefusal}
@@ -28,7 +25,7 @@ by-first-net s l e {b} is =
     ∙ ap (λ k. refusal_at k l.coefficients.field)
     (judged-before s l e ∙ ap (λ b. first_failed (b else 7 ∷ [])) is)
 
-abbrev at-number : ℕ → ℕ → Refusal
+abbrev at-number : ℕ → ℕ → NumberAt
 at-number at n = record { number = n; offset = at }
 
 -- the refusal by its cause
@@ -50,7 +47,7 @@ outcome : (s : List ℕ) → Outcome s
 outcome s = by (reading_of s) refl
   where
     by-net : (l : Layout) → reading_of s ≡ Fields l → (b : Bool) → net_in_range (first_net_from s) ≡ b → Outcome s
-    by-net l e true is = taken (ap (λ (r : Refusal). r.number) (by-first-net s l e is))
+    by-net l e true is = taken (ap (λ (r : NumberAt). r.number) (by-first-net s l e is))
     by-net l e false is = stopped (first_net e is)
 
     by : (r : Reading) → reading_of s ≡ r → Outcome s
@@ -61,17 +58,17 @@ module _ (s : List ℕ) where
   one-cause : {n m at place : ℕ} → FirstCause s n at → FirstCause s m place → (n ≡ m) × (at ≡ place)
   one-cause {n} {m} {at} {place} c d =
       let same : at-number at n ≡ at-number place m = sym (cause-refuses c) ∙ cause-refuses d in
-      (ap (λ (r : Refusal). r.number) same, ap (λ (r : Refusal). r.offset) same)
+      (ap (λ (r : NumberAt). r.number) same, ap (λ (r : NumberAt). r.offset) same)
 
   refused : (k offset : ℕ) → refusal_in s ≡ record { number = suc k; offset = offset }
       → FirstCause s (suc k) offset
   refused k offset e = by (outcome s)
     where
       by : Outcome s → FirstCause s (suc k) offset
-      by (taken z) = let no = sym z ∙ ap (λ (r : Refusal). r.number) e in absurd (omega arith)
+      by (taken z) = let no = sym z ∙ ap (λ (r : NumberAt). r.number) e in absurd (omega arith)
       by (stopped {n = n} {at = at} c) =
           let same : at-number at n ≡ at-number offset (suc k) = sym (cause-refuses c) ∙ e in
-          subst (λ (r : Refusal). FirstCause s r.number r.offset) same c
+          subst (λ (r : NumberAt). FirstCause s r.number r.offset) same c
 
   accepted : ((number offset : ℕ) → FirstCause s number offset → ⊥) → (refusal_in s).number ≡ 0
   accepted none = by (outcome s)
@@ -81,7 +78,7 @@ module _ (s : List ℕ) where
       by (stopped {n = n} {at = at} c) = absurd (none n at c)
 
   uncaused : (refusal_in s).number ≡ 0 → (number offset : ℕ) → FirstCause s number offset → ⊥
-  uncaused z number offset c = cause-some c (sym (ap (λ (r : Refusal). r.number) (cause-refuses c)) ∙ z)
+  uncaused z number offset c = cause-some c (sym (ap (λ (r : NumberAt). r.number) (cause-refuses c)) ∙ z)
 
   pub each-refusal : EachRefusal s
   each-refusal =

@@ -1,6 +1,6 @@
 -- What the bytes of a record say: its polynomials, its frame, its first net, its fields, its moves and its point, or the refusal with its offset
 -- (docs/RECORDS.md, 'The bytes' and 'Refusals': after the end of input comes 7, at the offset of field 3).
-use Rattle.std.specs.Prelude.{ℕ, zero, suc, ◌/◌, ◌≡◌, cond, List, [], ◌∷◌, map, eqb, ℤ, length, drop}
+use Rattle.std.specs.Prelude.{ℕ, Result, Ok, Err, zero, suc, ◌/◌, ◌≡◌, cond, List, [], ◌∷◌, map, eqb, ℤ, length, drop}
 use Rattle.integers.specs.Sum.{upto}
 use Rattle.kinds.specs.Frames.{Frames, frames_of}
 use Rattle.machine.specs.Nets.{Net}
@@ -12,13 +12,10 @@ use Rattle.machine.specs.declared.Call.TheVariants as call
 use Rattle.decoding.specs.Numbers.{frame_numbers}
 use Rattle.decoding.specs.Moves.{weights_of, call_at}
 use Rattle.records.specs.Table.{slots, polynomials_of}
-use Rattle.records.specs.Reading.{no_fields, extent_among, bytes_of, reading_of}
+use Rattle.records.specs.Reading.{NumberAt, Reading, Fields, Refused, number_at, no_fields, extent_among, bytes_of, reading_of}
 use Rattle.records.specs.declared.Extent.{Extent}
 use Rattle.records.specs.declared.Layout.{Layout}
-use Rattle.records.specs.declared.Refusal.{Refusal}
-use Rattle.records.specs.declared.Reading.{Reading}
-use Rattle.records.specs.declared.Reading.TheVariants.{Fields, Refused}
-use Rattle.opening.specs.declared.Opened.{Opened}
+use Rattle.records.specs.declared.RefusedAt.{RefusedAt}
 
 -- ---- what the fields say
 
@@ -32,7 +29,7 @@ layout_read s = reading_layout (reading_of s) s
 
 -- the polynomials by a layout: the coefficients stand in the part of the record where field 3's value begins
 abbrev pub polynomials_at : Layout → List ℕ → Polynomials
-polynomials_at l s = polynomials_of l.kind l.degree l.second (drop l.coefficients.start s)
+polynomials_at l s = polynomials_of l.said.kind l.said.degree l.said.second (drop l.coefficients.start s)
 
 unfoldable pub polynomials_in : List ℕ → Polynomials
 polynomials_in s = polynomials_at (layout_read s) s
@@ -54,23 +51,29 @@ first_net_from s = first_net (polynomials_in s) (numbers_in s)
 -- ---- the refusal
 
 -- a number at an offset; where nothing is refused both are 0
-abbrev pub refusal_at : ℕ → ℕ → Refusal
+abbrev pub refusal_at : ℕ → ℕ → NumberAt
 refusal_at zero offset = record { number = 0; offset = 0 }
 refusal_at (suc k) offset = record { number = suc k; offset = offset }
 
 -- the reader's own refusal comes first, then that of the first net, at the offset of field 3
-abbrev pub refusal_by : Reading → List ℕ → Refusal
+abbrev pub refusal_by : Reading → List ℕ → NumberAt
 refusal_by (Refused r) s = r
 refusal_by (Fields l) s = refusal_at (first_refusal (polynomials_in s) (numbers_in s)) l.coefficients.field
 
-unfoldable pub refusal_in : List ℕ → Refusal
+unfoldable pub refusal_in : List ℕ → NumberAt
 refusal_in s = refusal_by (reading_of s) s
 
 -- ---- the fields
 
+-- what a record gives besides its first net: the refusal, with number 0 where there is none, and where the record's
+-- fields stand
+pub record Opened : Type 0 where
+  pub refusal : NumberAt
+  pub layout : Layout
+
 -- A record opened with a refusal, of number 0 where there is none. 'for an absent field or a refused record it is the empty part at the record's end': beside a
 -- refusal there are no fields, whichever its number is.
-abbrev pub opened_with : Refusal → List ℕ → Opened
+abbrev pub opened_with : NumberAt → List ℕ → Opened
 opened_with r s = record { refusal = r; layout = unless_refused r.number (layout_read s) (no_fields s) }
 
 -- the layout of any bytes
@@ -101,7 +104,7 @@ point_in s = point_of (bytes_of (opened_layout s).point s)
 -- ---- all of it
 
 -- too few places for a net are 11, before the record is looked at
-abbrev pub refusal_over : List ℕ → List ℤ → Refusal
+abbrev pub refusal_over : List ℕ → List ℤ → NumberAt
 refusal_over s lent = cond (enough_places lent) (refusal_in s) (record { number = 11; offset = 0 })
 
 unfoldable pub opened_in : List ℕ → List ℤ → Opened
@@ -117,3 +120,8 @@ places_in s lent = unless_refused (opened_in s lent).refusal.number (put_net (fi
 pub record FirstMade (l : Layout) (s : List ℕ) (lent : List ℤ) (answered : ℕ) (left : List ℤ) : Type 0 where
   pub number : answered ≡ first_refusal (polynomials_at l s) (numbers_at l s)
   pub places : left ≡ unless_refused answered (put_net (first_net (polynomials_at l s) (numbers_at l s)) lent) lent
+
+-- ---- what the code answers, in the words above: beside a refusal there are no fields
+abbrev pub opened_told : List ℕ → Result Layout RefusedAt → Opened
+opened_told s (Ok l) = record { refusal = record { number = 0; offset = 0 }; layout = l }
+opened_told s (Err r) = record { refusal = number_at r; layout = no_fields s }

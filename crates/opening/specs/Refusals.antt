@@ -1,10 +1,9 @@
 -- The causes 1 to 7 of a record's refusal (docs/SPECIFICATION.md, 'Refusals'), each both ways.
 use Rattle.std.specs.Prelude.{ℕ, suc, ◌≡◌, false, ◌↔◌, List}
 use Rattle.machine.specs.Nets.{net_in_range}
-use Rattle.records.specs.Reading.{reading_of}
+use Rattle.records.specs.Reading.{Fields, reading_of}
 use Rattle.records.specs.Causes.{Caused}
 use Rattle.records.specs.declared.Layout.{Layout}
-use Rattle.records.specs.declared.Reading.TheVariants.{Fields}
 use Rattle.opening.specs.Opening.{first_net_from, refusal_in}
 
 -- the first cause, with its number and offset

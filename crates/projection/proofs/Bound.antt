@@ -296,11 +296,6 @@ accurate-found point projected = by (is_four_zeros point)
     by true = without-length-accurate projected at (accurate-projections projected)
     by false = accurate-projections projected
 
--- what equals the projection of a found point has its bound
-pub found-accurate : (point projected : Four) {at : Projection} → at ≡ found_projection point projected
-    → (at ≡ found_projection point projected) × AccuratePoint projected at
-found-accurate point projected is = (is, subst (AccuratePoint projected) (sym is) (accurate-found point projected))
-
 -- ---- bit patterns
 
 pub accurate-bits : (x w : ℤ) (v : Float) → Accurate x w v → AccurateBits x w (to_bits binary64 v)

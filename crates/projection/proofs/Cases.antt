@@ -6,7 +6,7 @@ use mathlib.Core.List.{[], ◌∷◌, map}
 use lib.IntN.{ℤ}
 use lib.Ieee.{binary64, to_bits}
 use Rattle.projection.specs.declared.Projection.{Projection}
-use Rattle.projection.specs.Projection.{all_in_range, is_zero, all_zero, quotient_of, coords_of, direction_of, projection_by, projection_of, refusal, coordinates, coordinate_bits, direction_numbers, DirectionReduced, Projected, four}
+use Rattle.projection.specs.Projection.{all_in_range, is_zero, all_zero, quotient_of, coords_of, direction_of, projection_by, projection_of, refusal, coordinates, coordinate_bits, direction_numbers, DirectionReduced, Projected, Four, projection_of_four}
 use Rattle.projection.specs.Accuracy.{AccuratePoint}
 use Rattle.projection.proofs.Bound.{accurate-projections}
 use Rattle.projection.proofs.Directions.{reduced}
@@ -48,11 +48,11 @@ module _ (x y z w : ℤ) where
       let c = all_zero x y z in
       (number a b c, finite a b c, ap (map (to_bits binary64)) (finite a b c), reduced-numbers a b c, direction-reduced a b c refl)
 
-  -- what equals the definition's answer tells the same
-  pub projected : {p : Projection} → p ≡ projection_of x y z w
-      → (p ≡ projection_of x y z w) × Projected x y z w p × AccuratePoint (four x y z w) p
-  projected is = (
-    is,
-    subst (Projected x y z w) (sym is) told,
-    subst (AccuratePoint (four x y z w)) (sym is) (accurate-projections (four x y z w)),
-  )
+-- what equals the definition's answer tells the same
+pub projected : (p : Four) (r : Projection) → r ≡ projection_of_four p
+    → (r ≡ projection_of_four p) × Projected p.x p.y p.z p.w r × AccuratePoint p r
+projected p r is = (
+  is,
+  subst (Projected p.x p.y p.z p.w) (sym is) (told p.x p.y p.z p.w),
+  subst (AccuratePoint p) (sym is) (accurate-projections p),
+)

@@ -3,7 +3,7 @@
 use mathlib.Core.Path.{◌≡◌, refl, sym, ap, subst, ◌∙◌}
 use mathlib.Core.Bool.{Bool, true, false, not, ◌&&◌, cond}
 use mathlib.Core.List.{[], ◌∷◌, map}
-use Prim.Native.Nat.{ℕ, zero, suc, ◌*◌, ◌/◌, ◌<◌, ◌∣◌}
+use Prim.Native.Nat.{ℕ, zero, suc, ◌*◌, ◌/◌, ◌≤◌, ◌<◌, ◌∣◌}
 use native.Mathlib.Nat as NatL
 use native.Mathlib.Omega.{arith}
 use borrow.Author.Tests.{eq-eqb, ne_eqb}
@@ -13,8 +13,8 @@ use lib.ListN.{get_or}
 use lib.Signed.{quot_z}
 use Rattle.projection.specs.Gcd.{gcd}
 use Rattle.projection.specs.declared.ReducedVector.{ReducedVector}
-use Rattle.projection.specs.Projection.{is_zero, all_zero, is_negative, is_positive, first_nonzero, negated_if, gcd_of, direction_of, Reduced, OneReduction}
-use Rattle.projection.proofs.Gcd.{gcd-divides, gcd-positive, gcd-reduced, gcd-times}
+use Rattle.projection.specs.Projection.{limit, is_zero, all_zero, is_negative, is_positive, first_nonzero, negated_if, gcd_of, direction_of, Reduced, OneReduction}
+use Rattle.projection.proofs.Gcd.{gcd-divides, gcd-positive, gcd-reduced, gcd-times, gcd-up-to}
 use Rattle.integers.proofs.All.{clash}
 use Rattle.integers.proofs.Laws.{*ℤ-negr, nat_abs-*}
 use Rattle.integers.proofs.Ring.{cancel}
@@ -33,6 +33,10 @@ pub divisor-positive : (x y z : ℤ) → all_zero x y z ≡ false → 0 < gcd_of
 divisor-positive x y z h =
     gcd-positive (nat_abs x ∷ nat_abs y ∷ nat_abs z ∷ [])
     (λ e. clash (zeros x y z (NatL.eq-zero_of_zero-dvd e.0) (NatL.eq-zero_of_zero-dvd e.1.0) (NatL.eq-zero_of_zero-dvd e.1.1.0)) h)
+
+-- it is no larger than the numbers
+pub divisor-small : (x y z : ℤ) → nat_abs x ≤ limit → nat_abs y ≤ limit → nat_abs z ≤ limit → gcd_of x y z ≤ limit
+divisor-small x y z p q r = gcd-up-to limit (nat_abs x ∷ nat_abs y ∷ nat_abs z ∷ []) (p, (q, (r, tt)))
 
 -- ---- products
 

@@ -5,6 +5,7 @@ use Rattle.std.specs.Float.{fin, binary64}
 use Rattle.std.specs.Float.Ieee.{of_int, div, to_bits}
 use Rattle.integers.specs.Test.{within}
 use Rattle.projection.specs.Gcd.{gcd}
+use Rattle.projection.specs.declared.Four as declared
 use Rattle.projection.specs.declared.Coords.{Coords}
 use Rattle.projection.specs.declared.ReducedVector.{ReducedVector}
 use Rattle.projection.specs.declared.Projection.{Projection}
@@ -117,11 +118,8 @@ projection_of x y z w = projection_by (all_in_range x y z w) (is_zero w) (all_ze
 -- ---- four numbers together, and what is projected where they are zeros
 
 -- x, y, z and w of a point
-pub record Four : Type 0 where
-  pub x : ℤ
-  pub y : ℤ
-  pub z : ℤ
-  pub w : ℤ
+abbrev pub Four : Type 0
+Four = declared.Four
 
 abbrev pub four : ℤ → ℤ → ℤ → ℤ → Four
 four x y z w = record { x = x; y = y; z = z; w = w }

@@ -5,7 +5,7 @@
 // of the range.
 #![tactic(auto)]
 
-ghost use Rattle.std.specs.Prelude.{◌≡◌, false, [], ◌∷◌, ◌≤◌, pos, nat_abs};
+ghost use Rattle.std.specs.Prelude.{◌≡◌, ◌≤◌, false, [], ◌∷◌, pos, nat_abs};
 ghost use Rattle.std.specs.Float.{binary64};
 ghost use Rattle.std.specs.Float.Ieee.{to_bits};
 ghost use Rattle.projection.specs.Gcd.{gcd};
@@ -22,15 +22,14 @@ ghost use Rattle.projection.specs.Projection.{
   negated_if,
   gcd_of,
   direction_of,
-  projection_of,
+  projection_of_four,
   Projected,
-  four,
   is_four_zeros,
   without_length,
   found_projection,
 };
 
-use integers::{is_within, magnitude};
+use integers::is_within;
 
 // The largest absolute value of a component in range, 2 to the 48th.
 const LIMIT: u64 = 281474976710656;
@@ -38,8 +37,17 @@ const LIMIT: u64 = 281474976710656;
 // What stands for every NaN: an exponent of ones, then a fraction that begins with its only one.
 const NAN_BITS: u64 = 0x7ff8000000000000;
 
+// The four numbers of a point.
+#[derive(Clone, Copy, Debug, PartialEq, Eq)]
+pub struct Four {
+    pub x: i64,
+    pub y: i64,
+    pub z: i64,
+    pub w: i64,
+}
+
 // A finite point.
-#[derive(Drop)]
+#[derive(Clone, Copy, Debug, PartialEq)]
 pub struct Coords {
     pub x: f64,
     pub y: f64,
@@ -48,7 +56,7 @@ pub struct Coords {
 
 // A vector of whole numbers, reduced: its direction x, y, z, of greatest common divisor 1 and with the
 // first nonzero one positive, and its length, the positive divisor that was taken out.
-#[derive(Drop)]
+#[derive(Clone, Copy, Debug, PartialEq, Eq)]
 pub struct ReducedVector {
     pub x: i64,
     pub y: i64,
@@ -56,8 +64,9 @@ pub struct ReducedVector {
     pub length: i64,
 }
 
-// What a point is projected to.
-#[derive(Drop)]
+// What a point is projected to: an enum of these cases (docs/DECISIONS.md, 'Forms'). `projection_of` and the
+// theorems speak of all four as one value, so out of range is one of them and no error beside them.
+#[derive(Clone, Copy, Debug, PartialEq)]
 pub enum Projection {
     // The weight is not 0.
     Finite(Coords),
@@ -78,56 +87,11 @@ pub fn in_range(v: i64) -> bool
     is_within(v, LIMIT)
 }
 
-// All four are.
-fn all_in_range(x: i64, y: i64, z: i64, w: i64) -> bool
-    ensures { result ≡ all_in_range x y z w }
-{
-    if !in_range(x) {
-        return false;
-    }
-    if !in_range(y) {
-        return false;
-    }
-    if !in_range(z) {
-        return false;
-    }
-    in_range(w)
-}
-
 // Whether three numbers are all 0.
 pub fn all_zero(x: i64, y: i64, z: i64) -> bool
     ensures { result ≡ all_zero x y z }
 {
-    if x != 0 {
-        return false;
-    }
-    if y != 0 {
-        return false;
-    }
-    z == 0
-}
-
-// Whether four numbers are all 0.
-pub fn four_zeros(x: i64, y: i64, z: i64, w: i64) -> bool
-    ensures { result ≡ is_four_zeros (four x y z w) }
-{
-    if !all_zero(x, y, z) {
-        return false;
-    }
-    w == 0
-}
-
-// Whether the first nonzero one of three numbers is negative.
-fn leads_negative(x: i64, y: i64, z: i64) -> bool
-    ensures { result ≡ is_negative (first_nonzero x y z) }
-{
-    if x != 0 {
-        return x < 0;
-    }
-    if y != 0 {
-        return y < 0;
-    }
-    z < 0
+    x == 0 && y == 0 && z == 0
 }
 
 // ---- the finite case
@@ -142,18 +106,6 @@ fn quotient(v: i64, w: i64) -> f64
         return 0.0;
     }
     v as f64 / w as f64
-}
-
-// The weight divides each of the three.
-fn finite_point(x: i64, y: i64, z: i64, w: i64) -> Coords
-    requires { (nat_abs x ≤ limit) × (nat_abs y ≤ limit) × (nat_abs z ≤ limit) × (nat_abs w ≤ limit) }
-    ensures { result ≡ coords_of x y z w }
-{
-    Coords {
-        x: quotient(x, w),
-        y: quotient(y, w),
-        z: quotient(z, w),
-    }
 }
 
 // ---- the direction
@@ -183,50 +135,97 @@ fn negated_if(negative: bool, v: i64) -> i64
     v
 }
 
-// The greatest common divisor of x, y and z: that of the last two stands for both.
-fn divisor(x: i64, y: i64, z: i64) -> i64
-    requires { (nat_abs x ≤ limit) × (nat_abs y ≤ limit) × (nat_abs z ≤ limit) }
-    ensures { result ≡ pos (gcd_of x y z) }
-{
-    let last_two = gcd_of_two(magnitude(y), magnitude(z));
-    gcd_of_two(magnitude(x), last_two) as i64
-}
+// ---- the four numbers
 
-// The vector (x, y, z) reduced. One of the three is not 0, so the divisor is not 0, and nothing is left
-// over. The sign that makes the first nonzero one positive goes into the number that divides, not into
-// the length.
-fn direction(x: i64, y: i64, z: i64) -> ReducedVector
-    requires { (nat_abs x ≤ limit) × (nat_abs y ≤ limit) × (nat_abs z ≤ limit) × (all_zero x y z ≡ false) }
-    ensures { result ≡ direction_of x y z }
-{
-    let length = divisor(x, y, z);
-    let negative = leads_negative(x, y, z);
-    let signed = negated_if(negative, length);
-    ReducedVector {
-        x: x / signed,
-        y: y / signed,
-        z: z / signed,
-        length,
+impl Four {
+    // Whether each of the four is in range.
+    pub fn is_in_range(self) -> bool
+        ensures { result ≡ all_in_range self.x self.y self.z self.w }
+    {
+        in_range(self.x) && in_range(self.y) && in_range(self.z) && in_range(self.w)
+    }
+
+    // Whether the four are all 0.
+    pub fn is_zeros(self) -> bool
+        ensures { result ≡ is_four_zeros self }
+    {
+        all_zero(self.x, self.y, self.z) && self.w == 0
+    }
+
+    // The finite point: the weight divides each of the three.
+    #[tactic(auto, unfolding(crate::specs::Projection::coords_of))]
+    fn coords(self) -> Coords
+        requires { (nat_abs self.x ≤ limit) × (nat_abs self.y ≤ limit) × (nat_abs self.z ≤ limit)
+            × (nat_abs self.w ≤ limit) }
+        ensures { result ≡ coords_of self.x self.y self.z self.w }
+    {
+        Coords {
+            x: quotient(self.x, self.w),
+            y: quotient(self.y, self.w),
+            z: quotient(self.z, self.w),
+        }
+    }
+
+    // Whether the first nonzero one of x, y and z is negative.
+    fn leads_negative(self) -> bool
+        ensures { result ≡ is_negative (first_nonzero self.x self.y self.z) }
+    {
+        if self.x != 0 {
+            return self.x < 0;
+        }
+        if self.y != 0 {
+            return self.y < 0;
+        }
+        self.z < 0
+    }
+
+    // The greatest common divisor of x, y and z: that of the last two stands for both.
+    fn divisor(self) -> i64
+        requires { (nat_abs self.x ≤ limit) × (nat_abs self.y ≤ limit) × (nat_abs self.z ≤ limit) }
+        ensures { result ≡ pos (gcd_of self.x self.y self.z) }
+    {
+        let last_two = gcd_of_two(self.y.unsigned_abs(), self.z.unsigned_abs());
+        gcd_of_two(self.x.unsigned_abs(), last_two) as i64
+    }
+
+    // The vector (x, y, z) reduced. One of the three is not 0, so the divisor is not 0, and nothing is left
+    // over. The sign that makes the first nonzero one positive goes into the number that divides, not into
+    // the length.
+    fn direction(self) -> ReducedVector
+        requires { (nat_abs self.x ≤ limit) × (nat_abs self.y ≤ limit) × (nat_abs self.z ≤ limit)
+            × (all_zero self.x self.y self.z ≡ false) }
+        ensures { result ≡ direction_of self.x self.y self.z }
+    {
+        let length = self.divisor();
+        let negative = self.leads_negative();
+        let signed = negated_if(negative, length);
+        ReducedVector {
+            x: self.x / signed,
+            y: self.y / signed,
+            z: self.z / signed,
+            length,
+        }
     }
 }
 
 // ---- the projection
 
 // The tests stand in the specification's order: the range, the weight, the other components.
-pub fn project(x: i64, y: i64, z: i64, w: i64) -> Projection
-    ensures { (result ≡ projection_of x y z w) × Projected x y z w result × AccuratePoint (four x y z w) result }
+pub fn project(point: Four) -> Projection
+    ensures answer { result ≡ projection_of_four point }
+    ensures told { Projected point.x point.y point.z point.w result }
+    ensures accurate { AccuratePoint point result }
 {
-    if !all_in_range(x, y, z, w) {
+    if !point.is_in_range() {
         return Projection::OutOfRange;
     }
-    let weighted = w != 0;
-    if weighted {
-        return Projection::Finite(finite_point(x, y, z, w));
+    if point.w != 0 {
+        return Projection::Finite(point.coords());
     }
-    if all_zero(x, y, z) {
+    if all_zero(point.x, point.y, point.z) {
         return Projection::Nowhere;
     }
-    Projection::Direction(direction(x, y, z))
+    Projection::Direction(point.direction())
 }
 
 // ---- what is left at a common zero
@@ -236,48 +235,33 @@ fn without_length(projection: Projection) -> Projection
     ensures { result ≡ without_length projection }
 {
     match projection {
-        Projection::Finite(p) => Projection::Finite(p),
-        Projection::Direction(d) => Projection::Direction(ReducedVector {
-            x: d.x,
-            y: d.y,
-            z: d.z,
-            length: 1,
-        }),
-        Projection::Nowhere => Projection::Nowhere,
-        Projection::OutOfRange => Projection::OutOfRange,
+        Projection::Direction(d) => Projection::Direction(ReducedVector { length: 1, ..d }),
+        other => other,
     }
 }
 
-// The projection of a found point x, y, z, w, of which px, py, pz and pw are the numbers projected: the same
-// four or, where these are zeros, what is left there.
-pub fn project_found(
-    x: i64,
-    y: i64,
-    z: i64,
-    w: i64,
-    px: i64,
-    py: i64,
-    pz: i64,
-    pw: i64,
-) -> Projection
-    ensures answer { result ≡ found_projection (four x y z w) (four px py pz pw) }
-    ensures accurate { AccuratePoint (four px py pz pw) result }
+// The projection of a found point by the numbers projected: the same four or, where these are zeros, what is
+// left there.
+#[tactic(auto, unfolding(crate::specs::Projection::found_projection))]
+pub fn project_found(found: Four, projected: Four) -> Projection
+    ensures answer { result ≡ found_projection found projected }
+    ensures accurate { AccuratePoint projected result }
 {
-    let projection = project(px, py, pz, pw);
-    if !four_zeros(x, y, z, w) {
-        return projection;
+    let projection = project(projected);
+    if found.is_zeros() {
+        without_length(projection)
+    } else {
+        projection
     }
-    without_length(projection)
 }
 
 // ---- bit patterns
 
-// The bit pattern of a float. `to_bits` is defined only off a NaN, and a NaN is the one float that
-// differs from itself.
+// The bit pattern of a float. `to_bits` is defined only off a NaN.
 pub fn bits(x: f64) -> u64
     ensures { result ≡ to_bits binary64 x }
 {
-    if x != x {
+    if x.is_nan() {
         return NAN_BITS;
     }
     f64::to_bits(x)

@@ -10,6 +10,7 @@ use borrow.Author.Tests.{eqb-true}
 use lib.ListN.{length, get_or, take, drop, length-drop}
 use lib.Seq.{length-take-le}
 use lib.Dec.{eqb, ltb}
+use Rattle.std.specs.Prelude.{Some, None}
 use Rattle.integers.specs.Test.{within, all}
 use Rattle.integers.proofs.All.{clash, and_parts}
 use Rattle.kinds.specs.Kinds.{known}
@@ -17,7 +18,8 @@ use Rattle.kinds.specs.Frames.{frames_allowed}
 use Rattle.machine.proofs.Refusals.{none-failed}
 use Rattle.decoding.specs.Numbers.{frame_numbers, coefficients_of}
 use Rattle.decoding.proofs.Numbers.{coefficients-of-value}
-use Rattle.records.specs.Table.{tag_of, tags_in, required, head_groups, head_length, head_allowed, frame_length, coefficient_count, coefficients_length, point_length, moves_length_allowed, polynomials_of, field_row}
+use Rattle.kinds.specs.Heads.{head_groups}
+use Rattle.records.specs.Table.{tag_of, tags_in, required, head_length, head_allowed, frame_length, coefficient_count, coefficients_length, point_length, moves_length_allowed, polynomials_of, field_row}
 use Rattle.machine.specs.Refusals.{◌else◌, first_failed, numbered}
 use Rattle.records.specs.Reading.{bytes_left, length_at, bytes_at, head_of, tag_among, is_tag, standing, missing_number, end_extent, extent_at, extent_in, extent_among, no_fields, bytes_of, Inside, stay, read_standing, read_slot, read_end, layout_of_extents, concluded, reading_of}
 use Rattle.records.specs.Causes.{Sound}
@@ -27,9 +29,8 @@ use Rattle.records.specs.declared.Slot.{Slot}
 use Rattle.records.specs.declared.Slot.TheVariants.{KindSlot, FrameSlot, CoefficientsSlot, MovesSlot, PointSlot}
 use Rattle.records.specs.declared.Tag.{Tag}
 use Rattle.records.specs.declared.Tag.TheVariants.{Kind, Coefficients}
-use Rattle.records.specs.declared.Standing.TheVariants.{Field, Nothing}
-use Rattle.records.specs.declared.Progress.{Progress}
-use Rattle.records.specs.declared.Reading.TheVariants.{Fields, Refused}
+use Rattle.records.specs.Reading.{Progress}
+use Rattle.records.specs.Reading.{Fields, Refused}
 use Rattle.records.proofs.Slots.{long-enough, stands-there, field-passes, missing-refused, Stepped, stepped, all-steps}
 use Rattle.records.proofs.Slots.Stepped.{took, fell, lacked, skipped}
 
@@ -45,7 +46,7 @@ record Filled (tag : Tag) (s : List ℕ) (e : Extent) : Type 0 where
 
 -- what a slot has after a step that was not refused, from an offset on
 data Went (slot : Slot) (s : List ℕ) (at : ℕ) (e : Extent) : Type 0 where
-  filled : {tag : Tag} → standing slot s at ≡ Field tag → e.field ≡ at → Filled tag s e → Went slot s at e
+  filled : {tag : Tag} → standing slot s at ≡ Some tag → e.field ≡ at → Filled tag s e → Went slot s at e
   empty : required slot ≡ false → e ≡ end_extent s → Went slot s at e
 
 went : {slot : Slot} {s : List ℕ} {at : ℕ} {x : Progress} → Stepped slot s at x → x.number ≡ 0 → Went slot s at x.extent
@@ -64,14 +65,14 @@ inside (filled h f t) = t.room
 inside {s = s} (empty r h) = subst (Inside s) (sym h) (omega arith)
 
 -- a field that stands in a slot is the slot's own, as yet the only one
-only : {tag t : Tag} (byte : ℕ) → tag_among (t ∷ []) byte ≡ Field tag → tag ≡ t
+only : {tag t : Tag} (byte : ℕ) → tag_among (t ∷ []) byte ≡ Some tag → tag ≡ t
 only {tag} {t} byte e = by (eqb byte (field_row t).byte) e
   where
-    by : (b : Bool) → cond b (Field t) Nothing ≡ Field tag → tag ≡ t
+    by : (b : Bool) → cond b (Some t) None ≡ Some tag → tag ≡ t
     by true k = cc
     by false k = absurd (clash (ap is_tag k) refl)
 
-own : (slot : Slot) (s : List ℕ) (at : ℕ) {tag : Tag} {e : Extent} → standing slot s at ≡ Field tag → Filled tag s e → Filled (tag_of slot) s e
+own : (slot : Slot) (s : List ℕ) (at : ℕ) {tag : Tag} {e : Extent} → standing slot s at ≡ Some tag → Filled tag s e → Filled (tag_of slot) s e
 own slot s at {e = e} h t = subst (λ (u : Tag). Filled u s e) (only (get_or s at 0) (sym (long-enough slot s at (stands-there slot s at h)) ∙ h)) t
 
 must : {slot : Slot} {s : List ℕ} {at : ℕ} {e : Extent} → required slot ≡ true → Went slot s at e → (e.field ≡ at) × Filled (tag_of slot) s e

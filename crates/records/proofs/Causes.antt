@@ -9,6 +9,7 @@ use native.Mathlib.Omega.{arith}
 use borrow.Author.Tests.{eqb-true, eqb-false, ltb-true, ltb-false, lt-ltb, le-ltb, ne_eqb}
 use lib.ListN.{length, get_or}
 use lib.Dec.{eqb, ltb}
+use Rattle.std.specs.Prelude.{Option, Some, None}
 use Rattle.records.specs.Table.{slots, tags_in, required, field_row}
 use Rattle.integers.proofs.All.{clash}
 use Rattle.machine.specs.Refusals.{first_failed}
@@ -22,12 +23,10 @@ use Rattle.records.specs.declared.Layout.{Layout}
 use Rattle.records.specs.declared.Slot.{Slot}
 use Rattle.records.specs.declared.Slot.TheVariants.{KindSlot, FrameSlot, CoefficientsSlot, MovesSlot, PointSlot}
 use Rattle.records.specs.declared.Tag.{Tag}
-use Rattle.records.specs.declared.Standing.{Standing}
-use Rattle.records.specs.declared.Standing.TheVariants.{Field, Nothing}
-use Rattle.records.specs.declared.Refusal.{Refusal}
-use Rattle.records.specs.declared.Progress.{Progress}
-use Rattle.records.specs.declared.Reading.{Reading}
-use Rattle.records.specs.declared.Reading.TheVariants.{Fields, Refused}
+use Rattle.records.specs.Reading.{NumberAt}
+use Rattle.records.specs.Reading.{Progress}
+use Rattle.records.specs.Reading.{Reading}
+use Rattle.records.specs.Reading.{Fields, Refused}
 use Rattle.records.proofs.Slots.{too_short, long-enough, stands-there, wrong-length, cut_short, by_value, Judged, judged, field-passes, goes-past, stops, at-end, one-or-two, other_tag, missing-refused, passed_on, Stepped, takes, misses, stepped}
 use Rattle.records.proofs.Slots.Stepped.{took, fell, lacked, skipped}
 
@@ -89,12 +88,12 @@ or-false : (a b : Bool) → a || b ≡ false → (a ≡ false) × (b ≡ false)
 or-false true b e = absurd (clash refl e)
 or-false false b e = (refl, e)
 
-not-tag : (x : Standing) → is_tag x ≡ false → x ≡ Nothing
-not-tag (Field tag) e = absurd (clash refl e)
-not-tag Nothing e = refl
+not-tag : (x : (Option Tag)) → is_tag x ≡ false → x ≡ None
+not-tag (Some tag) e = absurd (clash refl e)
+not-tag None e = refl
 
 -- no tag that may come, by the byte, stands here, and the record has not ended or a slot must still be filled
-module _ (s : List ℕ) (at byte : ℕ) (none : (slot : Slot) → is_tag (tag_among (tags_in slot) byte) ≡ false → standing slot s at ≡ Nothing) where
+module _ (s : List ℕ) (at byte : ℕ) (none : (slot : Slot) → is_tag (tag_among (tags_in slot) byte) ≡ false → standing slot s at ≡ None) where
   abbrev Stuck : List Slot → Type 0
   Stuck rest =
       (e : Extent) (es : List Extent) → may_come rest byte ≡ false → (0 < bytes_left s at) ⊎ (any_required rest ≡ true)
@@ -203,7 +202,7 @@ module _ {s : List ℕ} {tag : Tag} {at : ℕ} (c : Comes s tag at) where
 
 -- what a reading tells: a record that is not refused is read to its end, and a refused one has a cause
 abbrev Outcome : List ℕ → Reading → Type 0
-Outcome s (Fields l) = TableVerdict s 0 (l.kind ∷ l.degree ∷ l.second ∷ [])
+Outcome s (Fields l) = TableVerdict s 0 (l.said.kind ∷ l.said.degree ∷ l.said.second ∷ [])
 Outcome s (Refused r) = Caused s r.number r.offset
 
 at_rest : {s : List ℕ} {at : ℕ} (e : Extent) (es : List Extent) → Begins s [] at → Outcome s (onward [] s (go at e) es)
@@ -240,7 +239,7 @@ unfolding reading_of
 outcome-of s = outcome {s = s} slots 0 (end_extent s) [] first
 
 -- Where a reading is refused, its cause is there.
-pub refused-caused : (s : List ℕ) (r : Refusal) → reading_of s ≡ Refused r → Caused s r.number r.offset
+pub refused-caused : (s : List ℕ) (r : NumberAt) → reading_of s ≡ Refused r → Caused s r.number r.offset
 refused-caused s r e = subst (Outcome s) e (outcome-of s)
 
 -- So number and values of every reading are what the table tells of the bytes.

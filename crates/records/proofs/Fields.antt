@@ -9,6 +9,7 @@ use native.Mathlib.Omega.{arith}
 use borrow.Author.Tests.{eqb-true, eq-eqb, ltb-false}
 use lib.ListN.{length, get_or}
 use lib.Dec.{eqb, ltb}
+use Rattle.std.specs.Prelude.{Some, None}
 use Rattle.integers.proofs.All.{clash}
 use Rattle.decoding.proofs.Numbers.{two_bytes}
 use Rattle.records.specs.Table.{slots, tag_of, tags_in, field_row}
@@ -41,9 +42,8 @@ use Rattle.records.specs.declared.Slot.TheVariants.{
   MovesSlot,
   PointSlot,
 }
-use Rattle.records.specs.declared.Standing.TheVariants.{Field, Nothing}
-use Rattle.records.specs.declared.Progress.{Progress}
-use Rattle.records.specs.declared.Reading.TheVariants.{Fields}
+use Rattle.records.specs.Reading.{Progress}
+use Rattle.records.specs.Reading.{Fields}
 use Rattle.records.proofs.Slots.{long-enough, stands-there, missing-refused, Stepped, stepped}
 use Rattle.records.proofs.Slots.Stepped.{took, fell, lacked, skipped}
 use Rattle.records.proofs.Accepted.{
@@ -165,7 +165,7 @@ own-byte : (slot : Slot) (n : ℕ) → is_tag (tag_among (tags_in slot) n) ≡ t
 own-byte slot n e = by (eqb n (field_row (tag_of slot)).byte) refl e
   where
     by : (b : Bool) → eqb n (field_row (tag_of slot)).byte ≡ b
-        → is_tag (cond b (Field (tag_of slot)) Nothing) ≡ true → n ≡ (field_row (tag_of slot)).byte
+        → is_tag (cond b (Some (tag_of slot)) None) ≡ true → n ≡ (field_row (tag_of slot)).byte
     by true k e = eqb-true n (field_row (tag_of slot)).byte k
     by false k e = absurd (clash e refl)
 

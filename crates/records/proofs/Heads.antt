@@ -9,9 +9,10 @@ use lib.Seq.{take-nil}
 use lib.Dec.{eqb}
 use Rattle.kinds.specs.Kinds.{group, groups_of, dimension_of, later_dimension, known}
 use Rattle.kinds.proofs.Limits.{groups-of, later-none, later-one}
-use Rattle.records.specs.Table.{head_in, head_groups, head_length, head_allowed}
+use Rattle.kinds.specs.Heads.{head_groups}
+use Rattle.records.specs.Table.{head_in, head_length, head_allowed}
 use Rattle.records.specs.Reading.{length_at, head_of}
-use Rattle.records.specs.declared.Head.{Head}
+use Rattle.kinds.specs.declared.Head.{Head}
 
 -- nothing is left where the value would begin
 pub head-short : (s : List ℕ) → length s < 3 → head_in (drop 3 s) ≡ head_of s

@@ -10,6 +10,7 @@ use borrow.Author.Tests.{eqb-true, leb-true, leb-false, ltb-true, ltb-false}
 use lib.Dec.{eqb, leb, ltb}
 use lib.ListN.{length, get_or, take, drop, length-take, length-drop, get_or-eq_default}
 use lib.Seq.{length-take-le, take_all, get_or-take, get_or-drop}
+use Rattle.std.specs.Prelude.{Some, None}
 use Rattle.integers.specs.Test.{within, all}
 use Rattle.integers.proofs.All.{clash, and_parts}
 use Rattle.polar.specs.Order.{monomials}
@@ -29,11 +30,11 @@ use Rattle.machine.specs.Refusals.{◌else◌, first_failed}
 use Rattle.machine.proofs.Refusals.{none-failed}
 use Rattle.decoding.specs.Numbers.{unsigned_of, frame_numbers, coefficients_of}
 use Rattle.decoding.proofs.Numbers.{take-drop-take}
+use Rattle.kinds.specs.Heads.{head_groups}
 use Rattle.records.specs.Table.{
   slots,
   tags_in,
   required,
-  head_groups,
   head_in,
   head_length,
   head_allowed,
@@ -75,7 +76,7 @@ use Rattle.records.specs.Longest.{
   NearRefusal,
   RefusedNear,
 }
-use Rattle.records.specs.declared.Head.{Head}
+use Rattle.kinds.specs.declared.Head.{Head}
 use Rattle.records.specs.declared.Slot.{Slot}
 use Rattle.records.specs.declared.Slot.TheVariants.{
   KindSlot,
@@ -86,9 +87,8 @@ use Rattle.records.specs.declared.Slot.TheVariants.{
 }
 use Rattle.records.specs.declared.Tag.{Tag}
 use Rattle.records.specs.declared.Tag.TheVariants.{Kind, Frame, Coefficients, Moves, Point}
-use Rattle.records.specs.declared.Standing.TheVariants.{Field, Nothing}
-use Rattle.records.specs.declared.Reading.{Reading}
-use Rattle.records.specs.declared.Reading.TheVariants.{Fields, Refused}
+use Rattle.records.specs.Reading.{Reading}
+use Rattle.records.specs.Reading.{Fields, Refused}
 use Rattle.records.proofs.Slots.{long-enough, stands-there, by_value, field-passes}
 use Rattle.records.proofs.Causes.{caused-refused, refused-caused, table-verdict}
 
@@ -120,13 +120,13 @@ abbrev most_among : List Tag → List Group → ℕ
 most_among [] gs = 0
 most_among (tag ∷ more) gs = max (most_of tag gs) (most_among more gs)
 
-among-most : (tags : List Tag) {tag : Tag} (byte : ℕ) (gs : List Group) → tag_among tags byte ≡ Field tag
+among-most : (tags : List Tag) {tag : Tag} (byte : ℕ) (gs : List Group) → tag_among tags byte ≡ Some tag
     → most_of tag gs ≤ most_among tags gs
 among-most [] byte gs e = absurd (clash (ap is_tag e) refl)
 among-most (t ∷ more) {tag} byte gs e = by (eqb byte (field_row t).byte) e (λ k. among-most more byte gs k)
   where
-    by : (b : Bool) → cond b (Field t) (tag_among more byte) ≡ Field tag
-        → (tag_among more byte ≡ Field tag → most_of tag gs ≤ most_among more gs)
+    by : (b : Bool) → cond b (Some t) (tag_among more byte) ≡ Some tag
+        → (tag_among more byte ≡ Some tag → most_of tag gs ≤ most_among more gs)
         → most_of tag gs ≤ max (most_of t gs) (most_among more gs)
     by true k later =
         let is : t ≡ tag = cc in
@@ -134,7 +134,7 @@ among-most (t ∷ more) {tag} byte gs e = by (eqb byte (field_row t).byte) e (λ
     by false k later = let most = later k in omega arith
 
 -- a field that stands in a slot and has an allowed length
-slot-most : (slot : Slot) (s : List ℕ) (at : ℕ) {tag : Tag} → standing slot s at ≡ Field tag
+slot-most : (slot : Slot) (s : List ℕ) (at : ℕ) {tag : Tag} → standing slot s at ≡ Some tag
     → (field_row tag).length_allowed (head_of s) (length_at s at) ≡ true
     → length_at s at ≤ most_among (tags_in slot) (head_groups (head_of s))
 slot-most slot s at {tag} h e =
@@ -175,11 +175,11 @@ data Ahead (s : List ℕ) (rest : List Slot) (at : ℕ) : Type 0 where
   some : at + most_in rest (head_groups (head_of s)) ≤ longest_record → Ahead s rest at
 
 -- the tag that stands in the first slot is that of field 1
-first-tag : (s : List ℕ) {tag : Tag} → standing KindSlot s 0 ≡ Field tag → tag ≡ Kind
+first-tag : (s : List ℕ) {tag : Tag} → standing KindSlot s 0 ≡ Some tag → tag ≡ Kind
 first-tag s {tag} h =
     by (eqb (get_or s 0 0) 1) (sym (long-enough KindSlot s 0 (stands-there KindSlot s 0 h)) ∙ h)
   where
-    by : (b : Bool) → cond b (Field Kind) Nothing ≡ Field tag → tag ≡ Kind
+    by : (b : Bool) → cond b (Some Kind) None ≡ Some tag → tag ≡ Kind
     by true k = cc
     by false k = absurd (clash (ap is_tag k) refl)
 

@@ -8,22 +8,21 @@ use native.Mathlib.Omega.{arith}
 use borrow.Author.Tests.{le-leb, lt-leb, eq-eqb, ne_eqb, leb-true, leb-false, eqb-true, eqb-false}
 use lib.ListN.{get_or}
 use lib.Dec.{eqb, leb}
+use Rattle.std.specs.Prelude.{Option, Some, None}
 use Rattle.records.specs.Table.{tags_in, required, field_row}
 use Rattle.integers.proofs.All.{clash}
 use Rattle.machine.specs.Refusals.{◌else◌, first_failed}
 use Rattle.records.specs.Reading.{bytes_left, length_at, bytes_at, head_of, field_number, tag_among, is_tag, standing, missing_number, past, stay, read_standing, read_slot, read_end, concluded, reading_of}
-use Rattle.records.specs.declared.Head.{Head}
+use Rattle.kinds.specs.declared.Head.{Head}
 use Rattle.records.specs.declared.Slot.{Slot}
 use Rattle.records.specs.declared.Slot.TheVariants.{KindSlot, FrameSlot, CoefficientsSlot, MovesSlot, PointSlot}
 use Rattle.records.specs.declared.Tag.{Tag}
-use Rattle.records.specs.declared.Standing.{Standing}
-use Rattle.records.specs.declared.Standing.TheVariants.{Field, Nothing}
-use Rattle.records.specs.declared.Progress.{Progress}
+use Rattle.records.specs.Reading.{Progress}
 
 -- ---- what stands in a slot
 
 module _ (slot : Slot) (s : List ℕ) (at : ℕ) where
-  pub too_short : bytes_left s at < 3 → standing slot s at ≡ Nothing
+  pub too_short : bytes_left s at < 3 → standing slot s at ≡ None
   unfolding standing
   too_short h = rw (lt-leb 3 (bytes_left s at) h) refl
 
@@ -32,11 +31,11 @@ module _ (slot : Slot) (s : List ℕ) (at : ℕ) where
   long-enough h = rw (le-leb 3 (bytes_left s at) h) refl
 
   -- three bytes are left where a field stands
-  pub stands-there : {tag : Tag} → standing slot s at ≡ Field tag → 3 ≤ bytes_left s at
+  pub stands-there : {tag : Tag} → standing slot s at ≡ Some tag → 3 ≤ bytes_left s at
   unfolding standing
   stands-there {tag} e = by-case (leb 3 (bytes_left s at)) refl e
     where
-      by-case : (t : Bool) → leb 3 (bytes_left s at) ≡ t → cond t (tag_among (tags_in slot) (get_or s at 0)) Nothing ≡ Field tag → 3 ≤ bytes_left s at
+      by-case : (t : Bool) → leb 3 (bytes_left s at) ≡ t → cond t (tag_among (tags_in slot) (get_or s at 0)) None ≡ Some tag → 3 ≤ bytes_left s at
       by-case true h k = leb-true 3 (bytes_left s at) h
       by-case false h k = absurd (clash (ap is_tag k) refl)
 
@@ -88,11 +87,11 @@ module _ (tag : Tag) (h : Head) (s : List ℕ) (at : ℕ) where
 
   -- a field is taken or refused
   module _ (slot : Slot) where
-    pub goes-past : field_number tag h s at ≡ 0 → read_standing (Field tag) slot h s at ≡ past s at
+    pub goes-past : field_number tag h s at ≡ 0 → read_standing (Some tag) slot h s at ≡ past s at
     unfolding read_standing
     goes-past e = rw (eq-eqb (field_number tag h s at) 0 e) refl
 
-    pub stops : (field_number tag h s at ≡ 0 → ⊥) → read_standing (Field tag) slot h s at ≡ stay (field_number tag h s at) s at
+    pub stops : (field_number tag h s at ≡ 0 → ⊥) → read_standing (Some tag) slot h s at ≡ stay (field_number tag h s at) s at
     unfolding read_standing
     stops e = rw (ne_eqb (field_number tag h s at) 0 e) refl
 
@@ -129,17 +128,17 @@ module _ (slot : Slot) (h : Head) (s : List ℕ) (before : Progress) where
 
 -- what the step from an offset can be
 pub data Stepped (slot : Slot) (s : List ℕ) (at : ℕ) (x : Progress) : Type 0 where
-  took : {tag : Tag} → standing slot s at ≡ Field tag → field_number tag (head_of s) s at ≡ 0 → x ≡ past s at → Stepped slot s at x
-  fell : {tag : Tag} → standing slot s at ≡ Field tag → (field_number tag (head_of s) s at ≡ 0 → ⊥) → x ≡ stay (field_number tag (head_of s) s at) s at
+  took : {tag : Tag} → standing slot s at ≡ Some tag → field_number tag (head_of s) s at ≡ 0 → x ≡ past s at → Stepped slot s at x
+  fell : {tag : Tag} → standing slot s at ≡ Some tag → (field_number tag (head_of s) s at ≡ 0 → ⊥) → x ≡ stay (field_number tag (head_of s) s at) s at
       → Stepped slot s at x
-  lacked : standing slot s at ≡ Nothing → required slot ≡ true → x ≡ stay (missing_number true s at) s at → Stepped slot s at x
-  skipped : standing slot s at ≡ Nothing → required slot ≡ false → x ≡ stay 0 s at → Stepped slot s at x
+  lacked : standing slot s at ≡ None → required slot ≡ true → x ≡ stay (missing_number true s at) s at → Stepped slot s at x
+  skipped : standing slot s at ≡ None → required slot ≡ false → x ≡ stay 0 s at → Stepped slot s at x
 
 module _ (slot : Slot) (s : List ℕ) (before : Progress) (e : before.number ≡ 0) where
-  pub takes : {tag : Tag} → standing slot s before.at ≡ Field tag → read_slot slot (head_of s) s before ≡ read_standing (Field tag) slot (head_of s) s before.at
+  pub takes : {tag : Tag} → standing slot s before.at ≡ Some tag → read_slot slot (head_of s) s before ≡ read_standing (Some tag) slot (head_of s) s before.at
   takes h = arrives slot (head_of s) s before e ∙ ap (λ x. read_standing x slot (head_of s) s before.at) h
 
-  pub misses : {due : Bool} → standing slot s before.at ≡ Nothing → required slot ≡ due → read_slot slot (head_of s) s before ≡ stay (missing_number due s before.at) s before.at
+  pub misses : {due : Bool} → standing slot s before.at ≡ None → required slot ≡ due → read_slot slot (head_of s) s before ≡ stay (missing_number due s before.at) s before.at
   unfolding read_standing
   misses h q =
       arrives slot (head_of s) s before e
@@ -149,20 +148,20 @@ module _ (slot : Slot) (s : List ℕ) (before : Progress) (e : before.number ≡
   pub stepped : Stepped slot s before.at (read_slot slot (head_of s) s before)
   stepped = by (standing slot s before.at) refl
     where
-      by_number : {tag : Tag} (t : Bool) → eqb (field_number tag (head_of s) s before.at) 0 ≡ t → standing slot s before.at ≡ Field tag
+      by_number : {tag : Tag} (t : Bool) → eqb (field_number tag (head_of s) s before.at) 0 ≡ t → standing slot s before.at ≡ Some tag
           → Stepped slot s before.at (read_slot slot (head_of s) s before)
       by_number {tag} true k h =
           let none = eqb-true (field_number tag (head_of s) s before.at) 0 k in took h none (takes h ∙ goes-past tag (head_of s) s before.at slot none)
       by_number {tag} false k h =
           let some = eqb-false (field_number tag (head_of s) s before.at) 0 k in fell h some (takes h ∙ stops tag (head_of s) s before.at slot some)
 
-      by-need : (t : Bool) → required slot ≡ t → standing slot s before.at ≡ Nothing → Stepped slot s before.at (read_slot slot (head_of s) s before)
+      by-need : (t : Bool) → required slot ≡ t → standing slot s before.at ≡ None → Stepped slot s before.at (read_slot slot (head_of s) s before)
       by-need true q h = lacked h q (misses h q)
       by-need false q h = skipped h q (misses h q)
 
-      by : (x : Standing) → standing slot s before.at ≡ x → Stepped slot s before.at (read_slot slot (head_of s) s before)
-      by (Field tag) h = by_number (eqb (field_number tag (head_of s) s before.at) 0) refl h
-      by Nothing h = by-need (required slot) refl h
+      by : (x : (Option Tag)) → standing slot s before.at ≡ x → Stepped slot s before.at (read_slot slot (head_of s) s before)
+      by (Some tag) h = by_number (eqb (field_number tag (head_of s) s before.at) 0) refl h
+      by None h = by-need (required slot) refl h
 
 -- ---- five slots and the end, step by step
 

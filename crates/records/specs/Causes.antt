@@ -1,7 +1,7 @@
 -- The table of refusals (docs/SPECIFICATION.md, 'Refusals'), rows 1 to 6, as propositions about any bytes:
 -- where a field begins, and what is wrong there. `EachCause` says both ways what they have to do with the
 -- reading; proofs/Causes.antt proves it.
-use Rattle.std.specs.Prelude.{ℕ, suc, ◌+◌, ◌≤◌, ◌<◌, ◌≡◌, ◌⊎◌, ◌↔◌, Bool, true, false, not, ◌&&◌, ◌||◌, List, [], ◌∷◌, length, get_or, drop}
+use Rattle.std.specs.Prelude.{ℕ, suc, ◌+◌, ◌≤◌, ◌<◌, ◌≡◌, ◌⊎◌, ◌↔◌, Bool, true, false, not, ◌&&◌, ◌||◌, List, [], ◌∷◌, length, get_or, drop, Some, None}
 use Rattle.integers.specs.Test.{within, all}
 use Rattle.polar.specs.Groups.{Group}
 use Rattle.kinds.specs.Kinds.{groups_of, known}
@@ -12,22 +12,21 @@ use Rattle.records.specs.Table.{slots, tags_in, required, head_length, frame_len
 use Rattle.records.specs.Reading.{bytes_left, length_at, bytes_at, head_of, field_number, tag_among, is_tag, standing, extent_in, bytes_of, Inside, reading_of}
 use Rattle.records.specs.declared.Slot.{Slot}
 use Rattle.records.specs.declared.Tag.{Tag}
-use Rattle.records.specs.declared.Standing.TheVariants.{Field, Nothing}
 use Rattle.records.specs.declared.Layout.{Layout}
-use Rattle.records.specs.declared.Reading.TheVariants.{Fields, Refused}
+use Rattle.records.specs.Reading.{Fields, Refused}
 
 -- A field may begin at the offset: the fields before it are as they should be, and these slots have not had
 -- their turn yet.
 pub data Begins (s : List ℕ) : List Slot → ℕ → Type 0 where
   first : Begins s slots 0
-  after : {slot : Slot} {rest : List Slot} {tag : Tag} {at : ℕ} → Begins s (slot ∷ rest) at → standing slot s at ≡ Field tag
+  after : {slot : Slot} {rest : List Slot} {tag : Tag} {at : ℕ} → Begins s (slot ∷ rest) at → standing slot s at ≡ Some tag
       → field_number tag (head_of s) s at ≡ 0 → Begins s rest (at + 3 + length_at s at)
-  without : {slot : Slot} {rest : List Slot} {at : ℕ} → Begins s (slot ∷ rest) at → standing slot s at ≡ Nothing → required slot ≡ false
+  without : {slot : Slot} {rest : List Slot} {at : ℕ} → Begins s (slot ∷ rest) at → standing slot s at ≡ None → required slot ≡ false
       → Begins s rest at
 
 -- a field with a tag that may come next begins at the offset
 pub data Comes (s : List ℕ) : Tag → ℕ → Type 0 where
-  comes : {slot : Slot} {rest : List Slot} {tag : Tag} {at : ℕ} → Begins s (slot ∷ rest) at → standing slot s at ≡ Field tag → Comes s tag at
+  comes : {slot : Slot} {rest : List Slot} {tag : Tag} {at : ℕ} → Begins s (slot ∷ rest) at → standing slot s at ≡ Some tag → Comes s tag at
 
 -- The byte is a tag that may come next: one of the slots' that are left, with no slot before it that must be
 -- filled. Any other byte is no tag, has had its turn, or comes too early.
@@ -87,19 +86,19 @@ pub record EachCause (s : List ℕ) : Type 0 where
 
 -- its groups of vertices
 abbrev pub layout_groups : Layout → List Group
-layout_groups l = groups_of l.kind l.degree l.second
+layout_groups l = groups_of l.said.kind l.said.degree l.said.second
 
 -- What holds of a record that the reader does not refuse: fields 1, 2 and 3 are there, with the lengths and
 -- values that the table allows; 4 and 5 have such a length or are absent; every value lies within the record;
 -- and the coefficients are those of the part that begins with field 3's value.
 pub record Sound (s : List ℕ) (l : Layout) : Type 0 where
-  pub degrees : known l.kind l.degree l.second ≡ true
+  pub degrees : known l.said.kind l.said.degree l.said.second ≡ true
   pub head_long : l.head.length ≡ head_length (layout_groups l)
   pub frame_long : l.frame.length ≡ frame_length (layout_groups l)
   pub frame_good : frames_allowed (layout_groups l) (frame_numbers (bytes_of l.frame s)) ≡ true
   pub coefficients_field : l.coefficients.start ≡ l.coefficients.field + 3
   pub coefficients_long : l.coefficients.length ≡ coefficients_length (layout_groups l)
-  pub coefficients_good : all (within 1048576) (polynomials_of l.kind l.degree l.second (drop l.coefficients.start s)).coefficients ≡ true
+  pub coefficients_good : all (within 1048576) (polynomials_of l.said.kind l.said.degree l.said.second (drop l.coefficients.start s)).coefficients ≡ true
   pub moves_long : moves_length_allowed l.moves.length ≡ true
   pub point_long : (l.point.length ≡ 0) ⊎ (l.point.length ≡ point_length (layout_groups l))
   pub within : (slot : Slot) → Inside s (extent_in slot l)

@@ -3,8 +3,8 @@
 use Rattle.std.specs.Prelude.{ℕ, ◌+◌, ◌≤◌, ◌≡◌, List, [], ◌∷◌, ◌++◌, length, take, replicate}
 use Rattle.records.specs.Reading.{reading_of, reading_number}
 use Rattle.records.specs.declared.Layout.{Layout}
-use Rattle.records.specs.declared.Refusal.{Refusal}
-use Rattle.records.specs.declared.Reading.TheVariants.{Fields, Refused}
+use Rattle.records.specs.Reading.{NumberAt}
+use Rattle.records.specs.Reading.{Fields, Refused}
 
 -- the most bytes of a record that the reader does not refuse, and so of an accepted one
 abbrev pub longest_record : ℕ
@@ -33,10 +33,10 @@ abbrev pub ReadByFirstBytes : Type 0
 ReadByFirstBytes = (n : ℕ) → longest_record + 3 ≤ n → (s : List ℕ) → reading_of (take n s) ≡ reading_of s
 
 -- a refusal of the reader: a number from 1 to 6, at an offset where a field may begin or the record may end
-pub record NearRefusal (r : Refusal) : Type 0 where
+pub record NearRefusal (r : NumberAt) : Type 0 where
   pub some : 1 ≤ r.number
   pub few : r.number ≤ 6
   pub near : r.offset ≤ longest_record
 
 abbrev pub RefusedNear : Type 0
-RefusedNear = (s : List ℕ) (r : Refusal) → reading_of s ≡ Refused r → NearRefusal r
+RefusedNear = (s : List ℕ) (r : NumberAt) → reading_of s ≡ Refused r → NearRefusal r

@@ -2,21 +2,36 @@
 -- fields, or the number and the offset of the first cause of refusal, 1 to 6. A record that has a layout may
 -- still be refused 7, by its first net. The reader goes from slot to slot; `at` is the offset where it
 -- stands.
-use Rattle.std.specs.Prelude.{ℕ, ◌+◌, ◌-◌, ◌≤◌, Bool, true, false, ◌||◌, not, cond, List, [], ◌∷◌, ◌++◌, length, get_or, take, drop, eqb, leb, ltb}
+use Rattle.std.specs.Prelude.{ℕ, Option, None, Some, Result, Ok, Err, ◌+◌, ◌-◌, ◌≤◌, Bool, true, false, ◌||◌, not, cond, List, [], ◌∷◌, ◌++◌, length, get_or, take, drop, eqb, leb, ltb}
 use Rattle.machine.specs.Refusals.{Test, ◌else◌, first_failed}
 use Rattle.decoding.specs.Numbers.{unsigned_of}
 use Rattle.records.specs.Table.{slots, tags_in, required, head_in, field_row}
-use Rattle.records.specs.declared.Head.{Head}
+use Rattle.machine.specs.Numbers.{number_of}
+use Rattle.kinds.specs.declared.Head.{Head}
 use Rattle.records.specs.declared.Slot.{Slot}
 use Rattle.records.specs.declared.Slot.TheVariants.{KindSlot, FrameSlot, CoefficientsSlot, MovesSlot, PointSlot}
 use Rattle.records.specs.declared.Tag.{Tag}
-use Rattle.records.specs.declared.Standing.{Standing}
-use Rattle.records.specs.declared.Standing.TheVariants.{Field, Nothing}
 use Rattle.records.specs.declared.Extent.{Extent}
 use Rattle.records.specs.declared.Layout.{Layout}
-use Rattle.records.specs.declared.Progress.{Progress}
-use Rattle.records.specs.declared.Reading.{Reading}
-use Rattle.records.specs.declared.Reading.TheVariants.{Fields, Refused}
+use Rattle.records.specs.declared.RefusedAt.{RefusedAt}
+use Rattle.records.specs.declared.Passed.{Passed}
+
+-- a number of the table and an offset
+pub record NumberAt : Type 0 where
+  pub number : ℕ
+  pub offset : ℕ
+
+-- what reading gives: the layout, or the refusal
+pub data Reading : Type 0 where
+  Fields : Layout → Reading
+  Refused : NumberAt → Reading
+
+-- how far the reader has come: the offset where it stands, and where what stood in the last slot is. A number that
+-- is not 0 is a refusal's, and the offset then is the refusal's too.
+pub record Progress : Type 0 where
+  pub number : ℕ
+  pub at : ℕ
+  pub extent : Extent
 
 -- ---- one field: its tag in 1 byte, its length in 2, and then its value
 
@@ -55,13 +70,13 @@ field_number tag h s at = first_failed (field_tests tag h s at)
 -- ---- one slot
 
 -- the field among these that has the tag byte
-abbrev pub tag_among : List Tag → ℕ → Standing
-tag_among [] byte = Nothing
-tag_among (tag ∷ more) byte = cond (eqb byte (field_row tag).byte) (Field tag) (tag_among more byte)
+abbrev pub tag_among : List Tag → ℕ → Option Tag
+tag_among [] byte = None
+tag_among (tag ∷ more) byte = cond (eqb byte (field_row tag).byte) (Some tag) (tag_among more byte)
 
 -- what stands in a slot: tag and length are all there, and the tag is one of the slot's
-unfoldable pub standing : Slot → List ℕ → ℕ → Standing
-standing slot s at = cond (leb 3 (bytes_left s at)) (tag_among (tags_in slot) (get_or s at 0)) Nothing
+unfoldable pub standing : Slot → List ℕ → ℕ → Option Tag
+standing slot s at = cond (leb 3 (bytes_left s at)) (tag_among (tags_in slot) (get_or s at 0)) None
 
 -- The tests where the reader stands at no tag that may come next: none fails unless a field is due. At the
 -- end of the record the offset is the record's length.
@@ -95,10 +110,10 @@ stay number s at = record { number = number; at = at; extent = end_extent s }
 
 -- a field of the slot is taken, or refused; where there is none, a slot that must be filled is refused and
 -- another one is left empty
-unfoldable pub read_standing : Standing → Slot → Head → List ℕ → ℕ → Progress
+unfoldable pub read_standing : Option Tag → Slot → Head → List ℕ → ℕ → Progress
 unfolding field_number length_at extent_at
-read_standing (Field tag) slot h s at = let n = field_number tag h s at in cond (eqb n 0) (past s at) (stay n s at)
-read_standing Nothing slot h s at = stay (missing_number (required slot) s at) s at
+read_standing (Some tag) slot h s at = let n = field_number tag h s at in cond (eqb n 0) (past s at) (stay n s at)
+read_standing None slot h s at = stay (missing_number (required slot) s at) s at
 
 -- the reader comes to a slot; a refusal is passed on
 unfoldable pub read_slot : Slot → Head → List ℕ → Progress → Progress
@@ -115,7 +130,7 @@ read_end s last = cond (eqb last.number 0) (stay (missing_number (ltb 0 (bytes_l
 abbrev pub layout_of_extents : List ℕ → List Extent → Layout
 layout_of_extents s es =
     let e : ℕ → Extent = λ k. get_or es k (end_extent s) in
-    record { kind = (head_of s).kind; degree = (head_of s).degree; second = (head_of s).second; head = e 0; frame = e 1; coefficients = e 2; moves = e 3; point = e 4 }
+    record { said = head_of s; head = e 0; frame = e 1; coefficients = e 2; moves = e 3; point = e 4 }
 
 -- the reading by how far the reader has come after all slots
 unfoldable pub concluded : List ℕ → Progress → List Extent → Reading
@@ -133,7 +148,23 @@ reading_of s = onward slots s (stay 0 s 0) []
 
 -- a layout of no kind, in which every field is absent: a refused record has no other
 abbrev pub no_fields : List ℕ → Layout
-no_fields s = let e = end_extent s in record { kind = 0; degree = 0; second = 0; head = e; frame = e; coefficients = e; moves = e; point = e }
+no_fields s = let e = end_extent s in record { said = record { kind = 0; degree = 0; second = 0 }; head = e; frame = e; coefficients = e; moves = e; point = e }
+
+-- ---- what the code answers, in the words above
+
+-- of one slot: past a field, or at the same offset, or refused
+abbrev pub progress_told : List ℕ → Result Passed RefusedAt → Progress
+progress_told s (Ok p) = record { number = 0; at = p.next; extent = p.extent }
+progress_told s (Err r) = record { number = number_of r.refusal; at = r.offset; extent = end_extent s }
+
+-- of a refusal: its number, and the offset
+abbrev pub number_at : RefusedAt → NumberAt
+number_at r = record { number = number_of r.refusal; offset = r.offset }
+
+-- of all bytes
+abbrev pub reading_told : Result Layout RefusedAt → Reading
+reading_told (Ok l) = Fields l
+reading_told (Err r) = Refused (number_at r)
 
 -- ---- number and values of each case
 
@@ -144,7 +175,7 @@ reading_number (Refused r) = r.number
 
 -- the values: kind and degrees with a layout; what is returned with a refusal's number, the offset
 abbrev pub reading_values : Reading → List ℕ
-reading_values (Fields l) = l.kind ∷ l.degree ∷ l.second ∷ []
+reading_values (Fields l) = l.said.kind ∷ l.said.degree ∷ l.said.second ∷ []
 reading_values (Refused r) = r.offset ∷ []
 
 -- ---- a field's value: where it stands, and its bytes
@@ -158,9 +189,9 @@ extent_in MovesSlot l = l.moves
 extent_in PointSlot l = l.point
 
 -- the same by the tag byte; a number that is no tag is an absent field
-abbrev pub is_tag : Standing → Bool
-is_tag (Field tag) = true
-is_tag Nothing = false
+abbrev pub is_tag : Option Tag → Bool
+is_tag (Some tag) = true
+is_tag None = false
 
 abbrev pub extent_among : List Slot → List ℕ → Layout → ℕ → Extent
 extent_among [] s l n = end_extent s

@@ -6,8 +6,8 @@ use Rattle.std.specs.Prelude.{ℕ, ◌+◌, List, [], ◌∷◌, ◌++◌, map, 
 use Rattle.integers.specs.Instances.{Instance, ◌is◌}
 use Rattle.records.specs.Reading.{reading_of}
 use Rattle.records.specs.declared.Extent.{Extent}
-use Rattle.records.specs.declared.Reading.{Reading}
-use Rattle.records.specs.declared.Reading.TheVariants.{Fields, Refused}
+use Rattle.records.specs.Reading.{Reading}
+use Rattle.records.specs.Reading.{Fields, Refused}
 
 -- ---- how the table is written
 
@@ -18,7 +18,7 @@ place e = e.field ∷ e.start ∷ e.length ∷ []
 -- a reading in numbers: 0, kind and degrees and the place of each field; or number and offset of the refusal
 abbrev reading_row : Reading → List ℕ
 reading_row (Fields l) =
-    0 ∷ l.kind ∷ l.degree ∷ l.second
+    0 ∷ l.said.kind ∷ l.said.degree ∷ l.said.second
     ∷ (place l.head ++ place l.frame ++ place l.coefficients ++ place l.moves ++ place l.point)
 reading_row (Refused r) = r.number ∷ r.offset ∷ []
 

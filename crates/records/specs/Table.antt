@@ -8,7 +8,8 @@ use Rattle.kinds.specs.Frames.{vertex_count, frame_count, frames_allowed}
 use Rattle.machine.specs.Refusals.{Test, ◌else◌}
 use Rattle.machine.specs.Comparison.{Polynomials}
 use Rattle.decoding.specs.Numbers.{frame_numbers, coefficients_of}
-use Rattle.records.specs.declared.Head.{Head}
+use Rattle.kinds.specs.Heads.{head_groups}
+use Rattle.kinds.specs.declared.Head.{Head}
 use Rattle.records.specs.declared.Slot.{Slot}
 use Rattle.records.specs.declared.Slot.TheVariants.{KindSlot, FrameSlot, CoefficientsSlot, MovesSlot, PointSlot}
 use Rattle.records.specs.declared.Tag.{Tag}
@@ -44,10 +45,6 @@ required PointSlot = false
 -- what its value says: the kind, a degree and another, which is 0 where it is not there
 abbrev pub head_in : List ℕ → Head
 head_in value = record { kind = get_or value 0 0; degree = get_or value 1 0; second = get_or value 2 0 }
-
--- the groups of vertices
-abbrev pub head_groups : Head → List Group
-head_groups h = groups_of h.kind h.degree h.second
 
 -- 1 byte for the kind, and 1 for the degree of each group
 abbrev pub head_length : List Group → ℕ

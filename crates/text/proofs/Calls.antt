@@ -95,11 +95,12 @@ module _ (net : Net) (value : List ℕ) where
   unfolding answers
   point-none h = ap (λ n. joined point_line (answers step_of net (cond (eqb n 0) [] (call.Point (weights_of value) ∷ [])))) h
 
-  pub point-one : (length value ≡ 0 → ⊥) → joined point_line (answers step_of net (point_of value)) ≡ point_line (step_of net (call.Point (weights_of value))).answer
+  pub point-one : {w : Weights} → (length value ≡ 0 → ⊥) → w ≡ weights_of value → joined point_line (answers step_of net (point_of value)) ≡ point_line (step_of net (call.Point w)).answer
   unfolding answers
-  point-one h =
+  point-one h is =
       ap (λ b. joined point_line (answers step_of net (cond b [] (call.Point (weights_of value) ∷ [])))) (ne_eqb (length value) 0 h)
       ∙ append-nil (point_line (step_of net (call.Point (weights_of value))).answer)
+      ∙ ap (λ w. point_line (step_of net (call.Point w)).answer) (sym is)
 
 -- the point as the code finds it, in eight places
 module _ (lent : List ℤ) (stands : Stands lent) (w : Weights) (found : List ℤ) (roomy : room (call.Point w) found ≡ true) {k : ℕ} (is : k ≡ call_number (call.Point w) lent found) where

@@ -11,6 +11,7 @@ use lib.IntN.{ℤ}
 use lib.ListN.{length, get_or}
 use Rattle.polar.specs.Groups.{Group}
 use Rattle.kinds.specs.Kinds.{later_groups, later_dimension, known}
+use Rattle.kinds.specs.declared.Head.{Head}
 use Rattle.kinds.specs.Scales.{scale_of}
 use Rattle.kinds.proofs.Limits.{groups-of, by_kind}
 use Rattle.text.specs.Words.{decimal, signed_decimal, line}
@@ -67,14 +68,15 @@ later-degrees kind second more =
     refl refl refl refl (λ k. refl) kind
 
 -- n being the scale
-pub head-line : (kind degree second n : ℕ) → known kind degree second ≡ true → n ≡ scale_of kind degree second
-    → head_line kind degree second ≡ kind_word kind ++ ((32 ∷ decimal degree) ++ (later_text (later_dimension kind) second ++ ((32 ∷ decimal n) ++ (10 ∷ []))))
+pub head-line : (h : Head) {n : ℕ} → known h.kind h.degree h.second ≡ true → n ≡ scale_of h.kind h.degree h.second
+    → head_line h.kind h.degree h.second ≡ kind_word h.kind ++ ((32 ∷ decimal h.degree) ++ (later_text (later_dimension h.kind) h.second ++ ((32 ∷ decimal n) ++ (10 ∷ []))))
 unfolding head_line
-head-line kind degree second n right e =
-    ap (λ gs. line (kind_word kind ∷ (map (λ (g : Group). decimal g.degree) gs ++ (decimal (scale_of kind degree second) ∷ [])))) (groups-of kind degree second right)
-    ∙ line_first (kind_word kind) (decimal degree ∷ (map (λ (g : Group). decimal g.degree) (later_groups kind second) ++ (decimal (scale_of kind degree second) ∷ [])))
-    ∙ ap (λ l. kind_word kind ++ ((32 ∷ decimal degree) ++ l)) (later-degrees kind second (decimal (scale_of kind degree second) ∷ []))
-    ∙ ap (λ k. kind_word kind ++ ((32 ∷ decimal degree) ++ (later_text (later_dimension kind) second ++ ((32 ∷ decimal k) ++ (10 ∷ []))))) (sym e)
+head-line h right e =
+    let scale = scale_of h.kind h.degree h.second in
+    ap (λ gs. line (kind_word h.kind ∷ (map (λ (g : Group). decimal g.degree) gs ++ (decimal scale ∷ [])))) (groups-of h.kind h.degree h.second right)
+    ∙ line_first (kind_word h.kind) (decimal h.degree ∷ (map (λ (g : Group). decimal g.degree) (later_groups h.kind h.second) ++ (decimal scale ∷ [])))
+    ∙ ap (λ l. kind_word h.kind ++ ((32 ∷ decimal h.degree) ++ l)) (later-degrees h.kind h.second (decimal scale ∷ []))
+    ∙ ap (λ k. kind_word h.kind ++ ((32 ∷ decimal h.degree) ++ (later_text (later_dimension h.kind) h.second ++ ((32 ∷ decimal k) ++ (10 ∷ []))))) (sym e)
 
 -- ---- a number of the group after the first
 

@@ -10,16 +10,13 @@ use lib.ListN.{length, take}
 use lib.Seq.{take_all}
 use Rattle.machine.specs.Refusals.{◌else◌, first_failed}
 use Rattle.machine.specs.Nets.{net_in_range}
-use Rattle.records.specs.Reading.{reading_of}
+use Rattle.records.specs.Reading.{NumberAt, Reading, Fields, Refused, reading_of}
 use Rattle.records.specs.Longest.{longest_record}
-use Rattle.records.specs.declared.Refusal.{Refusal}
 use Rattle.records.specs.declared.Slot.TheVariants.{CoefficientsSlot}
-use Rattle.records.specs.declared.Reading.{Reading}
-use Rattle.records.specs.declared.Reading.TheVariants.{Fields, Refused}
 use Rattle.records.proofs.Accepted.{accepted-sound}
 use Rattle.records.proofs.Longest.{no-longer-record, read-by-first-bytes, refused-near}
-use Rattle.opening.specs.Opening.{first_net_from, refusal_at, refusal_by, refusal_in}
 use Rattle.opening.proofs.Records.{refusal_is, judged-before}
+use Rattle.opening.specs.Opening.{first_net_from, refusal_at, refusal_by, refusal_in}
 use Rattle.text.specs.Text.{refused_line, text_by, text_of}
 use Rattle.text.specs.Longest.{longest_text, NoLongerText, TextByFirstBytes}
 use Rattle.text.proofs.Room.{refused-room}
@@ -27,7 +24,7 @@ use Rattle.text.proofs.Whole.{text-room}
 
 -- ---- a refused record
 
-refusal-read : (s : List ℕ) (r : Refusal) → reading_of s ≡ Refused r → refusal_in s ≡ r
+refusal-read : (s : List ℕ) (r : NumberAt) → reading_of s ≡ Refused r → refusal_in s ≡ r
 unfolding refusal_in
 refusal-read s r is = ap (λ x. refusal_by x s) is
 
@@ -36,13 +33,13 @@ by_number : (s : List ℕ) (n : ℕ) → 1 ≤ n → text_by n s ≡ refused_lin
 by_number s zero h = absurd (omega arith)
 by_number s (suc k) h = refl
 
-refused-is : (s : List ℕ) (r : Refusal) → refusal_in s ≡ r → 1 ≤ r.number
+refused-is : (s : List ℕ) (r : NumberAt) → refusal_in s ≡ r → 1 ≤ r.number
     → text_of s ≡ refused_line r.number r.offset
 unfolding text_of
 refused-is s r is some =
-    ap (λ (x : Refusal). text_by x.number s) is
+    ap (λ (x : NumberAt). text_by x.number s) is
     ∙ by_number s r.number some
-    ∙ ap (λ (x : Refusal). refused_line r.number x.offset) is
+    ∙ ap (λ (x : NumberAt). refused_line r.number x.offset) is
 
 -- ---- room
 
@@ -71,8 +68,8 @@ no-longer-text s = by (reading_of s) refl
     by (Refused r) is =
         let near = refused-near s r is in
         let all = refusal-read s r is in
-        near-room s (subst (λ (x : Refusal). x.number < 256) (sym all) (omega (arith, near.few)))
-        (subst (λ (x : Refusal). x.offset ≤ longest_record) (sym all) near.near)
+        near-room s (subst (λ (x : NumberAt). x.number < 256) (sym all) (omega (arith, near.few)))
+        (subst (λ (x : NumberAt). x.offset ≤ longest_record) (sym all) near.near)
     by (Fields l) is =
         let sound = accepted-sound s l is in
         let inside = sound.within CoefficientsSlot in
@@ -80,8 +77,8 @@ no-longer-text s = by (reading_of s) refl
         let near : l.coefficients.field ≤ longest_record = omega (arith, sound.coefficients_field) in
         let net = net-refusal (net_in_range (first_net_from s)) l.coefficients.field near in
         let all = refusal_is s l is ∙ ap (λ k. refusal_at k l.coefficients.field) (judged-before s l is) in
-        near-room s (subst (λ (x : Refusal). x.number < 256) (sym all) net.0)
-        (subst (λ (x : Refusal). x.offset ≤ longest_record) (sym all) net.1)
+        near-room s (subst (λ (x : NumberAt). x.number < 256) (sym all) net.0)
+        (subst (λ (x : NumberAt). x.offset ≤ longest_record) (sym all) net.1)
 
 -- ---- the first bytes
 

@@ -1,10 +1,11 @@
 -- The net's lines in the order of the loops: the entries are, for each count of the first group, those of the groups after it (`count-lines`), the counts of the first group are
 -- its rows one after the other, and each loop writes the front of what is left.
 use Prim.Native.Nat.{ℕ, zero, suc, ◌+◌, ◌*◌, ◌-◌, ◌≤◌, ◌<◌}
+use native.Mathlib.Nat.{mul-one, mul_assoc, mul_comm}
 use native.Mathlib.Omega.{arith}
 use mathlib.Core.Path.{◌≡◌, refl, sym, ap, ap₂, ◌∙◌}
 use mathlib.Core.Bool.{true}
-use mathlib.Core.List.{List, [], ◌∷◌, ◌++◌, map, append_assoc}
+use mathlib.Core.List.{List, [], ◌∷◌, ◌++◌, map, append_assoc, append-nil}
 use lib.IntN.{ℤ}
 use lib.ListN.{length, take, drop, length-drop, length-map, take-append-drop}
 use lib.Seq.{drop-drop, take-append-le, drop-append-le, length-take-le}
@@ -12,12 +13,14 @@ use Rattle.integers.specs.Sum.{upto}
 use Rattle.integers.proofs.Sums.{length-upto}
 use Rattle.polar.specs.Order.{joined, counts}
 use Rattle.polar.specs.Groups.{pairs, counts_over}
+use Rattle.polar.proofs.Order.{joined-append}
 use Rattle.entries.specs.Entries.{number_count}
+use Rattle.entries.proofs.ListedOver.{length_pairs}
 use Rattle.kinds.specs.Kinds.{group, groups_of, dimension_of, later_groups, later_dimension, known}
 use Rattle.kinds.proofs.Limits.{limits, groups-of, by_kind}
 use Rattle.kinds.proofs.Counts.{known-size}
 use Rattle.text.specs.Text.{entry_line, entry_lines}
-use Rattle.text.specs.Parts.{TwoOrThree, counts_at, last_of, lines_under}
+use Rattle.text.specs.Parts.{TwoOrThree, counts_at, last_of, row_of, lines_under}
 use Rattle.text.proofs.InParts.{later_at}
 
 -- ---- the numbers from k on
@@ -120,9 +123,6 @@ later-long kind q h =
 
 -- ---- the rows of the first group
 
-abbrev row_of : ℕ → ℕ → ℕ → List (List ℕ)
-row_of n m h = map (λ k. counts_at n (m - h) (h - k) k) (upto (suc (last_of n h)))
-
 -- two or three vertices
 counts-rows : (n m : ℕ) → 1 ≤ n → n ≤ 2 → counts n m ≡ joined (row_of n m) (upto (suc m))
 unfolding counts
@@ -139,71 +139,55 @@ counts-few (suc zero) i j k low high = (omega arith, omega arith)
 counts-few (suc (suc zero)) i j k low high = (omega arith, omega arith)
 counts-few (suc (suc (suc n))) i j k low high = absurd (omega (arith, high))
 
--- the largest k, by the dimension
-pub last-low : (n h : ℕ) → n < 2 → 0 ≡ last_of n h
-last-low zero h b = refl
-last-low (suc zero) h b = refl
-last-low (suc (suc n)) h b = absurd (omega (arith, b))
+-- how many there are in a row
+pub row-low : (n h : ℕ) → n < 2 → 1 ≡ suc (last_of n h)
+row-low zero h b = refl
+row-low (suc zero) h b = refl
+row-low (suc (suc n)) h b = absurd (omega (arith, b))
 
-pub last-high : (n h : ℕ) → 2 ≤ n → h ≡ last_of n h
-last-high zero h b = absurd (omega (arith, b))
-last-high (suc zero) h b = absurd (omega (arith, b))
-last-high (suc (suc n)) h b = refl
+pub row-high : (n h : ℕ) → 2 ≤ n → suc h ≡ suc (last_of n h)
+row-high zero h b = absurd (omega (arith, b))
+row-high (suc zero) h b = absurd (omega (arith, b))
+row-high (suc (suc n)) h b = refl
 
 pub last-most : (n h : ℕ) → last_of n h ≤ h
 last-most zero h = omega arith
 last-most (suc zero) h = omega arith
 last-most (suc (suc n)) h = omega arith
 
--- ---- what is left of the counts of the first group
+pub length-row : (n m h : ℕ) → length (row_of n m h) ≡ suc (last_of n h)
+length-row n m h = length-map (upto (suc (last_of n h))) (λ k. counts_at n (m - h) (h - k) k) ∙ length-upto (suc (last_of n h))
 
--- those of row h from k on, and those of r rows from there on
-abbrev row_left : ℕ → ℕ → ℕ → ℕ → List (List ℕ)
-row_left n m h k = map (λ k. counts_at n (m - h) (h - k) k) (from k (suc (last_of n h) - k))
+module _ (n m h : ℕ) where
+  -- the counts of row h from k on
+  abbrev pub row_left : ℕ → List (List ℕ)
+  row_left k = map (λ k. counts_at n (m - h) (h - k) k) (from k (suc (last_of n h) - k))
 
-abbrev pub counts_left : ℕ → ℕ → ℕ → ℕ → ℕ → List (List ℕ)
-counts_left n m zero h k = []
-counts_left n m (suc r) h k = row_left n m h k ++ counts_left n m r (suc h) 0
+  pub row_whole : row_of n m h ≡ row_left 0
+  row_whole =
+      let all : suc (last_of n h) ≡ suc (last_of n h) - 0 = omega arith in
+      ap (map (λ k. counts_at n (m - h) (h - k) k)) (upto_from (suc (last_of n h)) ∙ ap (from 0) all)
 
--- what comes after k of row h
-abbrev pub after_count : ℕ → ℕ → ℕ → ℕ → List (List ℕ)
-after_count n m h k = row_left n m h (k + 1) ++ counts_left n m (suc m - (h + 1)) (h + 1) 0
+  pub row_next : (k : ℕ) → k < suc (last_of n h) → row_left k ≡ counts_at n (m - h) (h - k) k ∷ row_left (k + 1)
+  row_next k b = ap (map (λ k. counts_at n (m - h) (h - k) k)) (from_next k (suc (last_of n h)) b)
 
-module _ (n m : ℕ) where
-  rows_left : (r h : ℕ) → joined (row_of n m) (from h r) ≡ counts_left n m r h 0
-  rows_left zero h = refl
-  rows_left (suc r) h =
-      let last = last_of n h in
-      let all : suc last ≡ suc last - 0 = omega arith in
-      ap₂ (λ ks es. map (λ k. counts_at n (m - h) (h - k) k) ks ++ es) (upto_from (suc last) ∙ ap (from 0) all) (rows_left r (suc h))
+  pub row_none : (k : ℕ) → suc (last_of n h) ≤ k → row_left k ≡ []
+  row_none k b = ap (map (λ k. counts_at n (m - h) (h - k) k)) (from-none k (suc (last_of n h)) b)
 
-  pub left-whole : 1 ≤ n → n ≤ 2 → counts n m ≡ counts_left n m (suc m - 0) 0 0
-  left-whole low high =
-      let all : suc m ≡ suc m - 0 = omega arith in
-      counts-rows n m low high ∙ ap (joined (row_of n m)) (upto_from (suc m) ∙ ap (from 0) all) ∙ rows_left (suc m - 0) 0
+-- the counts of the rows from h on
+abbrev pub rows_left : ℕ → ℕ → ℕ → List (List ℕ)
+rows_left n m h = joined (row_of n m) (from h (suc m - h))
 
-  pub left_over : (h k : ℕ) → m < h → counts_left n m (suc m - h) h k ≡ []
-  left_over h k b = let none : suc m - h ≡ 0 = omega (arith, b) in ap (λ r. counts_left n m r h k) none
+pub rows_next : (n m h : ℕ) → h < suc m → rows_left n m h ≡ row_of n m h ++ rows_left n m (h + 1)
+rows_next n m h b = ap (joined (row_of n m)) (from_next h (suc m) b)
 
-  module _ (h k : ℕ) (row : h ≤ m) where
-    first-row : (j : ℕ) → counts_left n m (suc m - h) h j ≡ row_left n m h j ++ counts_left n m (suc m - (h + 1)) (h + 1) 0
-    first-row j =
-        let more : suc m - h ≡ suc (suc m - (h + 1)) = omega (arith, row) in
-        let next : suc h ≡ h + 1 = omega arith in
-        ap (λ r. counts_left n m r h j) more ∙ ap (λ i. row_left n m h j ++ counts_left n m (suc m - (h + 1)) i 0) next
+pub rows_none : (n m h : ℕ) → suc m ≤ h → rows_left n m h ≡ []
+rows_none n m h b = ap (joined (row_of n m)) (from-none h (suc m) b)
 
-    pub count_next : k ≤ last_of n h → counts_left n m (suc m - h) h k ≡ counts_at n (m - h) (h - k) k ∷ after_count n m h k
-    count_next b =
-        first-row k
-        ∙ ap (λ ks. map (λ k. counts_at n (m - h) (h - k) k) ks ++ counts_left n m (suc m - (h + 1)) (h + 1) 0) (from_next k (suc (last_of n h)) (omega (arith, b)))
-
-    -- after it comes the next of the same row, or the first of the next row where this one is over
-    pub same_row : after_count n m h k ≡ counts_left n m (suc m - h) h (k + 1)
-    same_row = sym (first-row (k + 1))
-
-    pub next_row : last_of n h < k + 1 → after_count n m h k ≡ counts_left n m (suc m - (h + 1)) (h + 1) 0
-    next_row b =
-        ap (λ ks. map (λ k. counts_at n (m - h) (h - k) k) ks ++ counts_left n m (suc m - (h + 1)) (h + 1) 0) (from-none (k + 1) (suc (last_of n h)) (omega (arith, b)))
+rows_whole : (n m : ℕ) → 1 ≤ n → n ≤ 2 → counts n m ≡ rows_left n m 0
+rows_whole n m low high =
+    let all : suc m ≡ suc m - 0 = omega arith in
+    counts-rows n m low high ∙ ap (joined (row_of n m)) (upto_from (suc m) ∙ ap (from 0) all)
 
 -- ---- what is left of the net
 
@@ -211,26 +195,36 @@ module _ (n m : ℕ) where
 abbrev pub entries_under : List (List ℕ) → ℕ → ℕ → List (List (List ℕ))
 entries_under es kind q = pairs es (counts_over (later_groups kind q))
 
-pub entries-whole : (kind p q : ℕ) → known kind p q ≡ true → counts_over (groups_of kind p q) ≡ entries_under (counts_left (dimension_of kind) p (suc p - 0) 0 0) kind q
+pub entries-whole : (kind p q : ℕ) → known kind p q ≡ true → counts_over (groups_of kind p q) ≡ entries_under (rows_left (dimension_of kind) p 0) kind q
 unfolding counts_over
 entries-whole kind p q right =
     let l = limits kind p q right in
-    ap counts_over (groups-of kind p q right) ∙ ap (λ es. entries_under es kind q) (left-whole (dimension_of kind) p l.dimension-low l.dimension-few)
+    ap counts_over (groups-of kind p q right) ∙ ap (λ es. entries_under es kind q) (rows_whole (dimension_of kind) p l.dimension-low l.dimension-few)
 
 -- for each count of the first group the numbers of the groups after it
-pub entries-long : (kind p q : ℕ) → known kind p q ≡ true → number_count (later_groups kind q) * length (counts_left (dimension_of kind) p (suc p - 0) 0 0) ≡ number_count (groups_of kind p q)
+pub entries-long : (kind p q : ℕ) → known kind p q ≡ true → number_count (later_groups kind q) * length (rows_left (dimension_of kind) p 0) ≡ number_count (groups_of kind p q)
 entries-long kind p q right =
     let l = limits kind p q right in
-    ap (λ es. number_count (later_groups kind q) * length es) (sym (left-whole (dimension_of kind) p l.dimension-low l.dimension-few)) ∙ sym (known-size kind p q right)
+    ap (λ es. number_count (later_groups kind q) * length es) (sym (rows_whole (dimension_of kind) p l.dimension-low l.dimension-few)) ∙ sym (known-size kind p q right)
+
+swapped : (a b : ℕ) → 4 * a * b ≡ 4 * (b * a)
+swapped a b = mul_assoc 4 a b ∙ ap (λ k. 4 * k) (mul_comm a b)
+
+-- some counts have the next r numbers, and the others those after them
+pub rows-lines : (some more : List (List ℕ)) (kind q : ℕ) (xs : List ℤ) (p r : ℕ) → r ≡ number_count (later_groups kind q) * length some → p + r ≤ length xs
+    → entry_lines (entries_under (some ++ more) kind q) (drop p xs) ≡ entry_lines (entries_under some kind q) (take r (drop p xs)) ++ entry_lines (entries_under more kind q) (drop (p + r) xs)
+rows-lines some more kind q xs p r wide room =
+    let later = counts_over (later_groups kind q) in
+    let long : length (take r (drop p xs)) ≡ 4 * length (pairs some later)
+    = length-take-le r (drop p xs) (simp length-drop (omega arith)) ∙ wide ∙ swapped (length later) (length some) ∙ ap (λ k. 4 * k) (sym (length_pairs [] later some)) in
+    ap₂ entry_lines (joined-append (λ x. map (λ ys. x ∷ ys) later) some more) (sym (take-append-drop r (drop p xs)))
+    ∙ lines-append (pairs some later) (pairs more later) (take r (drop p xs)) (drop r (drop p xs)) long
+    ∙ ap (λ l. entry_lines (pairs some later) (take r (drop p xs)) ++ entry_lines (pairs more later) l) (drop-drop r p xs)
 
 -- the first of the counts has the next w numbers
 pub count-lines : (e : List ℕ) (more : List (List ℕ)) (kind q : ℕ) (xs : List ℤ) (p w : ℕ) → w ≡ number_count (later_groups kind q) → p + w ≤ length xs
     → entry_lines (entries_under (e ∷ more) kind q) (drop p xs) ≡ lines_under e (later_groups kind q) (take w (drop p xs)) ++ entry_lines (entries_under more kind q) (drop (p + w) xs)
 count-lines e more kind q xs p w wide room =
     let later = counts_over (later_groups kind q) in
-    let under = map (λ es. e ∷ es) later in
-    let long : length (take w (drop p xs)) ≡ 4 * length under
-    = length-take-le w (drop p xs) (simp length-drop (omega arith)) ∙ wide ∙ ap (λ k. 4 * k) (sym (length-map later (λ es. e ∷ es))) in
-    ap (entry_lines (under ++ pairs more later)) (sym (take-append-drop w (drop p xs)))
-    ∙ lines-append under (pairs more later) (take w (drop p xs)) (drop w (drop p xs)) long
-    ∙ ap (λ l. lines_under e (later_groups kind q) (take w (drop p xs)) ++ entry_lines (pairs more later) l) (drop-drop w p xs)
+    rows-lines (e ∷ []) more kind q xs p w (wide ∙ sym (mul-one (number_count (later_groups kind q)))) room
+    ∙ ap (λ ess. entry_lines ess (take w (drop p xs)) ++ entry_lines (entries_under more kind q) (drop (p + w) xs)) (append-nil (map (λ es. e ∷ es) later))

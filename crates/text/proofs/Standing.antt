@@ -1,26 +1,28 @@
 -- A net that stands in lent places: it has a known kind and its right number of entries, a call on it is a step of the net machine, and the net that the call leaves
 -- stands there after it. Every net that is put into the places is read back from them (`read_back` of the crate machine).
-use Prim.Native.Nat.{ℕ, zero, suc, ◌+◌, ◌-◌, ◌≤◌, ◌<◌}
+use Prim.Native.Nat.{ℕ, zero, suc, ◌+◌, ◌-◌, ◌≤◌}
 use native.Mathlib.Omega.{arith}
 use mathlib.Core.Path.{◌≡◌, refl, sym, ap, ap₂, ◌∙◌}
 use mathlib.Core.Bool.{true}
 use mathlib.Core.List.{List, [], ◌∷◌, ◌++◌, map}
-use lib.IntN.{ℤ, pos}
-use lib.ListN.{length, get_or, take, drop, length-drop}
+use lib.IntN.{ℤ}
+use lib.ListN.{length, take, drop, length-drop}
 use lib.Seq.{length-take-le}
 use borrow.Author.Tests.{le-leb}
 use Rattle.polar.specs.Groups.{counts_over}
 use Rattle.entries.specs.Entries.{number_count}
 use Rattle.kinds.specs.Kinds.{groups_of, known}
 use Rattle.kinds.specs.Frames.{frame_count, numbers_of}
-use Rattle.kinds.proofs.Limits.{limits}
 use Rattle.kinds.proofs.Counts.{entries_fit, frame-few}
 use Rattle.kinds.proofs.Frames.{numbers-back}
 use Rattle.machine.specs.Refusals.{◌else◌, first_failed, all_pass}
 use Rattle.machine.specs.Calls.{own_tests}
 use Rattle.machine.specs.Steps.{refusal_number, found_at, step_by, after}
 use Rattle.machine.specs.Nets.{Net, net_groups, handed_tests, net_tests, accepted, step_of}
-use Rattle.machine.specs.Lent.{byte_of, net_at, put_net, enough_places, unless_refused, room, call_number, call_places}
+use Rattle.kinds.specs.Heads.{head_groups}
+use Rattle.kinds.specs.declared.Head.{Head}
+use Rattle.machine.specs.Lent.{head_at}
+use Rattle.machine.specs.Lent.{net_at, put_net, enough_places, unless_refused, room, call_number, call_places}
 use Rattle.machine.specs.declared.Call.{Call}
 use Rattle.machine.specs.declared.Call.TheVariants as call
 use Rattle.machine.proofs.Refusals.{none-failed, row-passes}
@@ -44,67 +46,51 @@ module _ (lent : List ℤ) (stands : Stands lent) where
   unfolding handed_tests
   right = row-passes (handed_tests (net_at lent)) passed 0
 
-  -- what stands first are its kind and degrees, as bytes
-  head-below : (byte_of (get_or lent 0 (pos 0)) < 255) × (byte_of (get_or lent 1 (pos 0)) < 255) × (byte_of (get_or lent 2 (pos 0)) < 255)
-  unfolding net_at
-  head-below = let l = limits (net_at lent).kind (net_at lent).degree (net_at lent).second right in (omega arith, omega arith, omega arith)
-
-  pub kind-there : (0 < length lent) × (byte_of (get_or lent 0 (pos 0)) < 255)
-  kind-there = (let l = stands.long in omega (arith, l), head-below.0)
-
-  pub degree-there : (1 < length lent) × (byte_of (get_or lent 1 (pos 0)) < 255)
-  degree-there = (let l = stands.long in omega (arith, l), head-below.1)
-
-  pub second-there : (2 < length lent) × (byte_of (get_or lent 2 (pos 0)) < 255)
-  second-there = (let l = stands.long in omega (arith, l), head-below.2)
-
   pub sound : Sound (net_at lent)
   sound = stood-sound lent enough right
 
-  -- the frame's numbers are r, which stand behind the head
-  module _ {k r : ℕ} (kind : k ≡ byte_of (get_or lent 0 (pos 0))) (count : (p q : ℕ) → r ≡ frame_count (groups_of k p q)) where
-    pub frame-there : frame_line (net_at lent) ≡ word "frame" ++ numbers_text (take (3 + r - 3) (drop 3 lent))
+  -- kind and degrees as they are read
+  module _ {h : Head} (is : h ≡ head_at lent) where
+    pub known-there : known h.kind h.degree h.second ≡ true
+    unfolding net_at
+    known-there = (λ i. known (is i).kind (is i).degree (is i).second) ∙ right
+
+    pub head-there : net_head (net_at lent) ≡ head_line h.kind h.degree h.second
+    unfolding net_at
+    head-there = sym (λ i. head_line (is i).kind (is i).degree (is i).second)
+
+    -- the frame's numbers are r, which stand behind the head
+    pub frame-there : {r : ℕ} → ((p q : ℕ) → r ≡ frame_count (groups_of h.kind p q)) → frame_line (net_at lent) ≡ word "frame" ++ numbers_text (take (3 + r - 3) (drop 3 lent))
     unfolding frame_line net_at
-    frame-there =
-        let d = byte_of (get_or lent 1 (pos 0)) in
-        let e = byte_of (get_or lent 2 (pos 0)) in
+    frame-there {r} count =
+        let there = head_at lent in
         let cut : r ≡ 3 + r - 3 = omega arith in
         let l = stands.long in
-        let room = frame-few (byte_of (get_or lent 0 (pos 0))) d e in
+        let room = frame-few there.kind there.degree there.second in
         line_first (word "frame") (map signed_decimal (numbers_of (net_at lent).frames))
         ∙ ap (λ numbers. word "frame" ++ numbers_text numbers)
-        (numbers-back (groups_of (byte_of (get_or lent 0 (pos 0))) d e) (drop 3 lent) (simp length-drop (omega arith))
-        ∙ ap (λ n. take n (drop 3 lent)) (sym (count d e ∙ ap (λ j. frame_count (groups_of j d e)) kind) ∙ cut))
-
-  -- kind and degrees as they are read
-  module _ {k d e : ℕ} (kind : k ≡ byte_of (get_or lent 0 (pos 0))) (degree : d ≡ byte_of (get_or lent 1 (pos 0))) (second : e ≡ byte_of (get_or lent 2 (pos 0))) where
-    pub known-there : known k d e ≡ true
-    unfolding net_at
-    known-there = (λ i. known (kind i) (degree i) (second i)) ∙ right
-
-    pub head-there : net_head (net_at lent) ≡ head_line k d e
-    unfolding net_at
-    head-there = sym (λ i. head_line (kind i) (degree i) (second i))
+        (numbers-back (head_groups there) (drop 3 lent) (simp length-drop (omega arith))
+        ∙ ap (λ n. take n (drop 3 lent)) (sym (count there.degree there.second ∙ ap (λ x. frame_count (groups_of x.kind there.degree there.second)) is) ∙ cut))
 
     -- the entries are r numbers, which stand behind the head
-    module _ {r : ℕ} (count : r ≡ number_count (groups_of k d e)) where
+    module _ {r : ℕ} (count : r ≡ number_count (head_groups h)) where
       pub entries-few : r ≤ 180
-      entries-few = let fit = entries_fit k d e known-there in omega (arith, count, fit)
+      entries-few = let fit = entries_fit h.kind h.degree h.second known-there in omega (arith, count, fit)
 
-      pub entries-long : length (take (12 + r - 12) (drop 12 lent)) ≡ number_count (groups_of k d e)
+      pub entries-long : length (take (12 + r - 12) (drop 12 lent)) ≡ number_count (head_groups h)
       entries-long =
           let few = entries-few in
           let l = stands.long in
           let cut : 12 + r - 12 ≡ r = omega arith in
           length-take-le (12 + r - 12) (drop 12 lent) (simp length-drop (omega arith)) ∙ cut ∙ count
 
-      pub lines-there : net_lines (net_at lent) ≡ frame_line (net_at lent) ++ entry_lines (counts_over (groups_of k d e)) (take (12 + r - 12) (drop 12 lent))
+      pub lines-there : net_lines (net_at lent) ≡ frame_line (net_at lent) ++ entry_lines (counts_over (head_groups h)) (take (12 + r - 12) (drop 12 lent))
       unfolding net_lines net_at
       lines-there =
           let cut : r ≡ 12 + r - 12 = omega arith in
           ap (λ l. frame_line (net_at lent) ++ l)
-          (sym (λ i. entry_lines (counts_over (groups_of (kind i) (degree i) (second i))) (take (number_count (groups_of (kind i) (degree i) (second i))) (drop 12 lent)))
-          ∙ ap (λ n. entry_lines (counts_over (groups_of k d e)) (take n (drop 12 lent))) (sym count ∙ cut))
+          (sym (ap (λ x. entry_lines (counts_over (head_groups x)) (take (number_count (head_groups x)) (drop 12 lent))) is)
+          ∙ ap (λ n. entry_lines (counts_over (head_groups h)) (take n (drop 12 lent))) (sym count ∙ cut))
 
 -- ---- the number of a step
 

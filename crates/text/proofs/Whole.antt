@@ -4,6 +4,7 @@ use native.Mathlib.Omega.{arith}
 use mathlib.Core.Path.{◌≡◌, refl, sym, ap, ap₂, ◌∙◌, subst}
 use mathlib.Core.Bool.{Bool, true, false, cond}
 use mathlib.Core.List.{List, [], ◌∷◌, ◌++◌}
+use Rattle.std.specs.Prelude.{Ok, Err}
 use lib.Dec.{eqb, leb}
 use lib.IntN.{ℤ}
 use lib.ListN.{length, take, drop, length-take, length-append, length-map}
@@ -27,19 +28,16 @@ use Rattle.machine.proofs.Demand3.{along, start-reached}
 use Rattle.machine.proofs.Lent.{read_back, put-long}
 use Rattle.machine.proofs.Carried.{reached-sound}
 use Rattle.decoding.specs.Moves.{weights_of, call_at}
-use Rattle.records.specs.Reading.{bytes_of, reading_of, no_fields}
-use Rattle.records.specs.declared.Reading.{Reading}
-use Rattle.records.specs.declared.Reading.TheVariants as reading
+use Rattle.records.specs.Reading.{Reading, Fields, Refused, bytes_of, reading_of, no_fields}
 use Rattle.records.proofs.Accepted.{accepted-sound}
-use Rattle.opening.specs.Opening.{reading_layout, layout_read, polynomials_in, numbers_in, frames_from, first_net_from, opened_with, opened_layout, moves_of, moves_in, point_of, point_in, refusal_in, opened_in, places_in}
-use Rattle.opening.specs.declared.Opened.{Opened}
 use Rattle.opening.proofs.Records.{accepted-numbers, opened-wide}
+use Rattle.opening.specs.Opening.{Opened, reading_layout, layout_read, polynomials_in, numbers_in, frames_from, first_net_from, opened_with, opened_layout, moves_of, moves_in, point_of, point_in, refusal_in, opened_in, places_in}
 use Rattle.text.specs.Words.{over, Wrote}
 use Rattle.text.specs.Text.{refused_line, head_line, move_lines, net_lines, point_line, accepted_text, text_by, text_of, fits, written_of, buffer_of}
 use Rattle.text.specs.Longest.{longest_text}
 use Rattle.text.specs.Parts.{Stands, net_text}
 use Rattle.text.specs.Told.{BufferVerdict, written, refused, Told}
-use Rattle.text.specs.declared.Written.TheVariants.{Bytes, Refused}
+use Rattle.machine.specs.declared.Refusal.TheVariants as refusal
 use Rattle.text.proofs.Room.{accepted-room}
 
 -- ---- the two machines give the same text
@@ -63,9 +61,9 @@ unfolding opened_layout layout_read
 moves-short s = by (refusal_in s).number (reading_of s) refl
   where
     by : (k : ℕ) (r : Reading) → reading_of s ≡ r → (unless_refused k (reading_layout r s) (no_fields s)).moves.length ≤ 256
-    by zero (reading.Fields l) e =
+    by zero (Fields l) e =
         leb-true l.moves.length 256 (and_parts (eqb (l.moves.length % 8) 0) (leb l.moves.length 256) (accepted-sound s l e).moves_long).1
-    by zero (reading.Refused r) e = omega arith
+    by zero (Refused r) e = omega arith
     by (suc k) r e = omega arith
 
 moves-few : (s : List ℕ) → length (moves_in s) ≤ 32
@@ -172,17 +170,17 @@ made-front {old} {text} {new} {r} w =
     )
 
 -- a buffer that is shorter than the text
-pub written-short : (text out : List ℕ) (n : ℕ) → n ≡ length text → length out < n → (Refused 11 ≡ written_of text out) × (Told text out out (Refused 11) × (out ≡ buffer_of text out))
+pub written-short : (text out : List ℕ) (n : ℕ) → n ≡ length text → length out < n → (Err refusal.Short ≡ written_of text out) × (Told text out out (Err refusal.Short) × (out ≡ buffer_of text out))
 unfolding written_of buffer_of
 written-short text out n long short =
     let no : fits text out ≡ false = lt-leb (length text) (length out) (omega (arith, long, short)) in (
-      sym (ap (λ b. cond b (Bytes (length text)) (Refused 11)) no),
+      sym (ap (λ b. cond b (Ok (length text)) (Err refusal.Short)) no),
       (record { verdict = refused (omega (arith, long, short)); within = (omega arith, refl) }, sym (ap (λ b. cond b (text ++ drop (length text) out) out) no)),
     )
 
 -- a buffer that is not
 pub written-whole : (text out part new : List ℕ) (n r : ℕ) → n ≡ length text → n ≤ length out → part ≡ text → Wrote out 0 part new r
-    → (Bytes n ≡ written_of text out) × (Told text out new (Bytes n) × (new ≡ buffer_of text out))
+    → (Ok n ≡ written_of text out) × (Told text out new (Ok n) × (new ≡ buffer_of text out))
 unfolding written_of buffer_of over
 written-whole text out part new n r long room same w =
     let yes : fits text out ≡ true = le-leb (length text) (length out) (omega (arith, long, room)) in
@@ -190,7 +188,7 @@ written-whole text out part new n r long room same w =
     let front = made-front w in
     let n-is : n ≡ r = long ∙ sym (ap length same) ∙ sym front.0 in
     let within : n ≤ length new = subst (λ k. k ≤ length new) (sym n-is) front.2 in (
-      ap Bytes long ∙ sym (ap (λ b. cond b (Bytes (length text)) (Refused 11)) yes),
+      ap Ok long ∙ sym (ap (λ b. cond b (Ok (length text)) (Err refusal.Short)) yes),
       (
         record { verdict = subst (BufferVerdict text out 0) (sym long) (written (omega (arith, long, room))); within = (within, sym (length-take-le n new within)) },
         w.buffer ∙ ap (λ t. t ++ drop (0 + length t) out) same ∙ ap (λ k. text ++ drop k out) all ∙ sym (ap (λ b. cond b (text ++ drop (length text) out) out) yes),

@@ -1,8 +1,11 @@
 -- What the private functions promise: parts of lines, the names of a net's entries, a net in lent places that takes calls, and the text as the net machine
 -- answers it. No public contract cites this.
-use Rattle.std.specs.Prelude.{ℕ, zero, suc, ◌≤◌, ◌≡◌, List, [], ◌∷◌, ◌++◌, map, ℤ, length, take}
+use Rattle.std.specs.Prelude.{ℕ, zero, suc, ◌-◌, ◌≤◌, ◌≡◌, List, [], ◌∷◌, ◌++◌, map, ℤ, length, take}
 use Rattle.polar.specs.Order.{joined}
-use Rattle.polar.specs.Groups.{Group, counts_over}
+use Rattle.integers.specs.Sum.{upto}
+use Rattle.polar.specs.Groups.{Group, pairs, counts_over}
+use Rattle.kinds.specs.Kinds.{dimension_of, later_groups}
+use Rattle.kinds.specs.declared.Head.{Head}
 use Rattle.machine.specs.Refusals.{first_failed}
 use Rattle.machine.specs.Steps.{refusal_number, after, answers}
 use Rattle.machine.specs.Nets.{Net, handed_tests, step_of}
@@ -66,6 +69,14 @@ last_of (suc (suc n)) h = h
 -- the lines of the entries with the counts e of the first group, in the order of the groups after it
 abbrev pub lines_under : List ℕ → List Group → List ℤ → List ℕ
 lines_under e later numbers = entry_lines (map (λ es. e ∷ es) (counts_over later)) numbers
+
+-- the counts of the first group in row h, k rising
+abbrev pub row_of : ℕ → ℕ → ℕ → List (List ℕ)
+row_of n m h = map (λ k. counts_at n (m - h) (h - k) k) (upto (suc (last_of n h)))
+
+-- the lines of its entries
+abbrev pub row_lines : Head → ℕ → List ℤ → List ℕ
+row_lines head h numbers = entry_lines (pairs (row_of (dimension_of head.kind) head.degree h) (counts_over (later_groups head.kind head.second))) numbers
 
 -- ---- a net in lent places
 

@@ -1,5 +1,5 @@
 -- The text of netprint (docs/RECORDS.md, 'The text of netprint'), line by line, from what the comparison machine answers and from the net over the frames that it reaches.
-use Rattle.std.specs.Prelude.{ℕ, zero, suc, Bool, cond, List, [], ◌∷◌, ◌++◌, map, eqb, leb, ℤ, Float, length, take, drop}
+use Rattle.std.specs.Prelude.{ℕ, Result, Ok, Err, zero, suc, Bool, cond, List, [], ◌∷◌, ◌++◌, map, eqb, leb, ℤ, Float, length, take, drop}
 use Prim.Native.Char.{code}
 use Prim.Native.String.{String, [] as none, ◌∷◌ as ◌then◌}
 use Rattle.std.specs.Float.{binary64}
@@ -15,11 +15,12 @@ use Rattle.kinds.specs.Scales.{scale_of}
 use Rattle.machine.specs.Steps.{Answer, Taken, Found, Refused as NotTaken, refusal_number, after, answers}
 use Rattle.machine.specs.Nets.{Net, net_groups}
 use Rattle.machine.specs.Comparison.{Polynomials, machine_step, net_over}
+use Rattle.machine.specs.Numbers.{number_of}
 use Rattle.machine.specs.declared.Call.{Call}
+use Rattle.machine.specs.declared.Refusal.{Refusal}
+use Rattle.machine.specs.declared.Refusal.TheVariants as why
 use Rattle.opening.specs.Opening.{polynomials_in, frames_from, moves_in, point_in, refusal_in}
 use Rattle.text.specs.Words.{decimal, signed_decimal, hex_bits, line}
-use Rattle.text.specs.declared.Written.{Written}
-use Rattle.text.specs.declared.Written.TheVariants.{Bytes, Refused}
 
 -- a word's bytes, from its letters
 abbrev pub word : String → List ℕ
@@ -125,19 +126,19 @@ text_of s = text_by (refusal_in s).number s
 abbrev pub fits : List ℕ → List ℕ → Bool
 fits text out = leb (length text) (length out)
 
--- how many bytes are written, or 11
-unfoldable pub written_of : List ℕ → List ℕ → Written
-written_of text out = cond (fits text out) (Bytes (length text)) (Refused 11)
+-- how many bytes are written, or the refusal
+unfoldable pub written_of : List ℕ → List ℕ → Result ℕ Refusal
+written_of text out = cond (fits text out) (Ok (length text)) (Err why.Short)
 
 -- the whole buffer: the text, and behind it what was there; or all of what was there
 unfoldable pub buffer_of : List ℕ → List ℕ → List ℕ
 buffer_of text out = cond (fits text out) (text ++ drop (length text) out) out
 
 -- number and values of each answer: the table's number, and how many bytes of a buffer hold the text
-abbrev pub written_number : Written → ℕ
-written_number (Bytes n) = 0
-written_number (Refused k) = k
+abbrev pub written_number : Result ℕ Refusal → ℕ
+written_number (Ok n) = 0
+written_number (Err r) = number_of r
 
-abbrev pub written_bytes : Written → ℕ
-written_bytes (Bytes n) = n
-written_bytes (Refused k) = 0
+abbrev pub written_bytes : Result ℕ Refusal → ℕ
+written_bytes (Ok n) = n
+written_bytes (Err r) = 0

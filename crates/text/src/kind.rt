@@ -7,7 +7,7 @@ ghost use Rattle.text.specs.Text.{kind_word, head_line};
 ghost use Rattle.text.specs.Parts.{later_text};
 
 use crate::words::{put, put_labelled};
-use kinds::{later_dimension, scale};
+use kinds::{Head, later_dimension};
 
 // The word of a kind.
 pub(crate) fn put_word(out: &mut [u8], at: usize, kind: u8) -> usize
@@ -33,14 +33,15 @@ pub(crate) fn put_later(out: &mut [u8], at: usize, kind: u8, n: usize) -> usize
 }
 
 // The first line: the kind's word, the degree of each group and the scale.
-pub(crate) fn write_head(out: &mut [u8], at: usize, kind: u8, degree: u8, second: u8) -> usize
-    requires { (known kind degree second ≡ true) × Room out.old at (head_line kind degree second) }
-    ensures { Wrote out.old at (head_line kind degree second) out.new result }
+pub(crate) fn write_head(out: &mut [u8], at: usize, head: Head) -> usize
+    requires known { known head.kind head.degree head.second ≡ true }
+    requires room { Room out.old at (head_line head.kind head.degree head.second) }
+    ensures { Wrote out.old at (head_line head.kind head.degree head.second) out.new result }
 {
-    let scale = scale(kind, degree, second);
-    let after_word = put_word(out, at, kind);
-    let after_degree = put_labelled(out, after_word, b" ", degree as u64);
-    let after_second = put_later(out, after_degree, kind, second as usize);
+    let scale = head.scale();
+    let after_word = put_word(out, at, head.kind);
+    let after_degree = put_labelled(out, after_word, b" ", head.degree as u64);
+    let after_second = put_later(out, after_degree, head.kind, head.second as usize);
     let after_scale = put_labelled(out, after_second, b" ", scale);
     put(out, after_scale, b"\n")
 }

@@ -9,6 +9,7 @@ mod words;
 
 ghost use Rattle.std.specs.Prelude.{◌≡◌, ◌≤◌, length};
 ghost use Rattle.machine.specs.Lent.{net_at};
+ghost use Rattle.machine.specs.Numbers.{number_of};
 ghost use Rattle.opening.specs.Opening.{moves_of, point_of};
 ghost use Rattle.text.specs.Longest.{longest_text};
 ghost use Rattle.text.specs.Words.{Wrote};
@@ -19,34 +20,27 @@ ghost use Rattle.text.specs.Text.{refused_line, text_of, written_of, buffer_of};
 use crate::moves::{write_moves, write_point};
 use crate::net::{write_first, write_net};
 use crate::words::{put, put_pair};
+use machine::Refusal;
 use nets::NET;
 use opening::open;
-use records::{Refusal, value};
+use records::{RefusedAt, value};
 
 // No text has more bytes.
 const LONGEST: usize = 4183;
 
-// What writing a text answers.
-#[derive(Clone, Copy)]
-pub enum Written {
-    // How many bytes the text has.
-    Bytes(usize),
-    // The number of the table: 11, as the buffer is shorter than the text.
-    Refused(u8),
-}
-
 // Makes the one line of a refused record.
-fn write_refusal(out: &mut [u8], refusal: Refusal) -> usize
+fn write_refusal(out: &mut [u8], refused: RefusedAt) -> usize
     requires { longest_text ≤ length out.old }
-    ensures { Wrote out.old 0 (refused_line refusal.number refusal.offset) out.new result }
+    ensures { Wrote out.old 0 (refused_line (number_of refused.refusal) refused.offset) out.new result }
 {
+    let number = u8::from(refused.refusal);
     put_pair(
         out,
         0,
         b"refused ",
-        refusal.number as u64,
+        number as u64,
         b" at ",
-        refusal.offset as u64,
+        refused.offset as u64,
     )
 }
 
@@ -68,19 +62,19 @@ fn make_text(out: &mut [u8], input: &[u8]) -> usize
     ensures { Wrote out.old 0 (text_of input.now) out.new result }
 {
     let mut net = [0i64; NET];
-    let opened = open(input, &mut net);
-    let refusal = opened.refusal;
-    if refusal.number != 0 {
-        return write_refusal(out, refusal);
+    match open(input, &mut net) {
+        Ok(layout) => {
+            let moves = value(input, layout.moves);
+            let point = value(input, layout.point);
+            write_accepted(out, &mut net, moves, point)
+        }
+        Err(refused) => write_refusal(out, refused),
     }
-    let moves = value(input, opened.layout.moves);
-    let point = value(input, opened.layout.point);
-    write_accepted(out, &mut net, moves, point)
 }
 
 // Writes the text of a record into a buffer that may be too short for it: the text is made beside it
 // first, and put there where it fits.
-fn write_where_it_fits(input: &[u8], out: &mut [u8]) -> Written
+fn write_where_it_fits(input: &[u8], out: &mut [u8]) -> Result<usize, Refusal>
     ensures answer { result ≡ written_of (text_of input.now) out.old }
     ensures told { Told (text_of input.now) out.old out.new result }
     ensures buffer { out.new ≡ buffer_of (text_of input.now) out.old }
@@ -88,15 +82,15 @@ fn write_where_it_fits(input: &[u8], out: &mut [u8]) -> Written
     let mut text = [0u8; LONGEST];
     let n = make_text(&mut text, input);
     if out.len() < n {
-        return Written::Refused(11);
+        return Err(Refusal::Short);
     }
     put(out, 0, &text[..n]);
-    Written::Bytes(n)
+    Ok(n)
 }
 
 // Writes the text of a record. A buffer that is too short is not touched; behind the text the buffer
 // is as it was. Where the longest text fits, it is made in the buffer itself.
-pub fn write_text(input: &[u8], out: &mut [u8]) -> Written
+pub fn write_text(input: &[u8], out: &mut [u8]) -> Result<usize, Refusal>
     ensures answer { result ≡ written_of (text_of input.now) out.old }
     ensures told { Told (text_of input.now) out.old out.new result }
     ensures buffer { out.new ≡ buffer_of (text_of input.now) out.old }
@@ -104,5 +98,5 @@ pub fn write_text(input: &[u8], out: &mut [u8]) -> Written
     if out.len() < LONGEST {
         return write_where_it_fits(input, out);
     }
-    Written::Bytes(make_text(out, input))
+    Ok(make_text(out, input))
 }

@@ -1,28 +1,33 @@
 // The lines of the text that hold no net: a refused move, and a point. Each is a word or two with numbers.
+ghost use Rattle.machine.specs.Numbers.{number_of, answered};
 ghost use Rattle.text.specs.Words.{Room, Wrote};
 ghost use Rattle.text.specs.Text.{move_line, point_refused_line, projection_line};
 
-use crate::words::{put, put_bits, put_line, put_pair};
+use crate::words::{put, put_bits, put_labelled, put_line, put_pair};
+use machine::Refusal;
 use projection::{Coords, Projection, ReducedVector};
 
-// Move k, by the number of its refusal; a move that is taken has no line.
-pub(crate) fn write_move(out: &mut [u8], at: usize, k: usize, number: u8) -> usize
-    requires { Room out.old at (move_line k number) }
-    ensures { Wrote out.old at (move_line k number) out.new result }
+// Move k, by its answer; a move that is taken has no line.
+pub(crate) fn write_move(out: &mut [u8], at: usize, k: usize, answer: Result<(), Refusal>) -> usize
+    requires { Room out.old at (move_line k (answered answer)) }
+    ensures { Wrote out.old at (move_line k (answered answer)) out.new result }
 {
-    if number == 0 {
+    let Err(refusal) = answer else {
         return at;
-    }
+    };
+    let number = u8::from(refusal);
     put_pair(out, at, b"move ", k as u64, b" refused ", number as u64)
 }
 
 // ---- a point
 
-pub(crate) fn write_point_refused(out: &mut [u8], at: usize, number: u8) -> usize
-    requires { Room out.old at (point_refused_line number) }
-    ensures { Wrote out.old at (point_refused_line number) out.new result }
+pub(crate) fn write_point_refused(out: &mut [u8], at: usize, refusal: Refusal) -> usize
+    requires { Room out.old at (point_refused_line (number_of refusal)) }
+    ensures { Wrote out.old at (point_refused_line (number_of refusal)) out.new result }
 {
-    put_line(out, at, b"point refused", &[number as i64])
+    let number = u8::from(refusal);
+    let after_number = put_labelled(out, at, b"point refused ", number as u64);
+    put(out, after_number, b"\n")
 }
 
 pub(crate) fn write_finite(out: &mut [u8], at: usize, p: Coords) -> usize
@@ -51,6 +56,6 @@ pub(crate) fn write_projection(out: &mut [u8], at: usize, p: Projection) -> usiz
         Projection::Finite(coords) => write_finite(out, at, coords),
         Projection::Direction(direction) => write_direction(out, at, direction),
         Projection::Nowhere => put(out, at, b"nowhere\n"),
-        Projection::OutOfRange => write_point_refused(out, at, 10),
+        Projection::OutOfRange => write_point_refused(out, at, Refusal::Range),
     }
 }

@@ -1,6 +1,7 @@
 // The moves and the point of a record: made in their order, with the lines that they leave. The net stands
 // in lent places, and a move changes it there.
 ghost use Rattle.std.specs.Prelude.{◌+◌, ◌≤◌, length};
+ghost use Rattle.machine.specs.Numbers.{answered};
 ghost use Rattle.decoding.specs.Moves.{call_at};
 ghost use Rattle.opening.specs.Opening.{moves_of};
 ghost use Rattle.text.specs.Words.{Room, Wrote};
@@ -8,14 +9,14 @@ ghost use Rattle.text.specs.Parts.{Stands, Made, Answered, moves_text, point_tex
 
 use crate::lines::{write_move, write_point_refused, write_projection};
 use decoding::{Move, move_at, point_weights};
-use nets::{find_point, take_move};
-use projection::project_found;
+use machine::Refusal;
+use nets::{find_point, project_point, take_move};
 
-// Makes move k of a record's value, the moves being counted from 0, and answers the number of its refusal, 0
-// where it is taken. A move that is no proper one is passed over; any other is judged as it is made.
-pub(crate) fn make_move(net: &mut [i64], value: &[u8], k: usize) -> u8
+// Makes move k of a record's value, the moves being counted from 0. A move that is no proper one is refused
+// unmade; any other is judged as it is made.
+pub(crate) fn make_move(net: &mut [i64], value: &[u8], k: usize) -> Result<(), Refusal>
     requires { Stands net.old × (k + 1 ≤ length value.now) }
-    ensures { Answered (call_at value.now k) net.old net.new result }
+    ensures { Answered (call_at value.now k) net.old net.new (answered result) }
 {
     let Move::Proper {
         operation,
@@ -23,7 +24,7 @@ pub(crate) fn make_move(net: &mut [i64], value: &[u8], k: usize) -> u8
         weights,
     } = move_at(value, k)
     else {
-        return 8;
+        return Err(Refusal::Argument);
     };
     take_move(net, operation, vertex, weights)
 }
@@ -36,11 +37,9 @@ pub(crate) fn write_moves(out: &mut [u8], at: usize, net: &mut [i64], value: &[u
 {
     let count = value.len() / 8;
     let mut next = at;
-    let mut k = 0;
-    while k < count {
-        let number = make_move(&mut *net, value, k);
-        k += 1;
-        next = write_move(&mut *out, next, k, number);
+    for k in 0..count {
+        let answer = make_move(&mut *net, value, k);
+        next = write_move(&mut *out, next, k + 1, answer);
     }
     next
 }
@@ -50,19 +49,12 @@ pub(crate) fn write_point(out: &mut [u8], at: usize, net: &[i64], value: &[u8]) 
     requires { Stands net.now × Room out.old at (point_text net.now value.now) }
     ensures { Wrote out.old at (point_text net.now value.now) out.new result }
 {
-    if value.len() == 0 {
+    if value.is_empty() {
         return at;
     }
     let mut found = [0i64; 8];
-    let number = find_point(net, point_weights(value), &mut found);
-    if number != 0 {
-        return write_point_refused(out, at, number);
+    if let Err(refusal) = find_point(net, point_weights(value), &mut found) {
+        return write_point_refused(out, at, refusal);
     }
-    write_projection(
-        out,
-        at,
-        project_found(
-            found[0], found[1], found[2], found[3], found[4], found[5], found[6], found[7],
-        ),
-    )
+    write_projection(out, at, project_point(&found))
 }

@@ -2,11 +2,12 @@
 // entries go by the counts of the first group and, where these are the same, by those of the group after it, if there
 // is one. In row h of the first group the vertices after its first are taken h times together, and k of them are the
 // third.
-ghost use Rattle.std.specs.Prelude.{◌≡◌, true, ◌<◌, pos, length, get_or};
+ghost use Rattle.std.specs.Prelude.{◌≡◌, true, suc, ◌*◌, ◌<◌, ◌≤◌, length};
 ghost use Rattle.polar.specs.Groups.{counts_over};
 ghost use Rattle.entries.specs.Entries.{number_count};
-ghost use Rattle.kinds.specs.Kinds.{groups_of, later_groups, later_dimension, known};
-ghost use Rattle.machine.specs.Lent.{byte_of, net_at};
+ghost use Rattle.kinds.specs.Kinds.{dimension_of, later_groups, later_dimension, known};
+ghost use Rattle.kinds.specs.Heads.{head_groups};
+ghost use Rattle.machine.specs.Lent.{net_at};
 ghost use Rattle.text.specs.Words.{Room, Wrote};
 ghost use Rattle.text.specs.Text.{entry_lines, frame_line, net_lines};
 ghost use Rattle.text.specs.Parts.{
@@ -15,14 +16,15 @@ ghost use Rattle.text.specs.Parts.{
   entry_text,
   lines_under,
   last_of,
+  row_lines,
   Stands,
   net_head,
 };
 
 use crate::kind::{put_later, write_head};
 use crate::words::{put_decimal, put_labelled, put_line};
-use kinds::{dimension_of, frame_count, later_count, number_count};
-use nets::{ENTRIES, FRAME};
+use kinds::{Head, dimension_of, frame_count};
+use nets::{ENTRIES, FRAME, head_at};
 
 // The indices of a group by the counts of its vertices: of two vertices the copies of the second, of three
 // those of all.
@@ -61,83 +63,80 @@ pub(crate) fn write_under(
     out: &mut [u8],
     at: usize,
     counts: &[usize],
-    kind: u8,
-    second: usize,
+    head: Head,
     numbers: &[i64],
 ) -> usize
     requires counts { TwoOrThree counts.now }
-    requires second { later_dimension kind ≡ 0 → second ≡ 0 }
-    requires numbers { length numbers.now ≡ number_count (later_groups kind second) }
-    requires room { Room out.old at (lines_under counts.now (later_groups kind second) numbers.now) }
-    ensures { Wrote out.old at (lines_under counts.now (later_groups kind second) numbers.now) out.new result }
+    requires second { later_dimension head.kind ≡ 0 → head.second ≡ 0 }
+    requires numbers { length numbers.now ≡ number_count (later_groups head.kind head.second) }
+    requires room { Room out.old at (lines_under counts.now (later_groups head.kind head.second) numbers.now) }
+    ensures { Wrote out.old at (lines_under counts.now (later_groups head.kind head.second) numbers.now) out.new result }
 {
+    let count = head.second as usize + 1;
     let mut next = at;
-    let mut l = 0;
-    while l <= second {
+    for l in 0..count {
         let p = 4 * l;
-        next = write_entry(&mut *out, next, counts, kind, l, &numbers[p..p + 4]);
-        l += 1;
+        next = write_entry(&mut *out, next, counts, head.kind, l, &numbers[p..p + 4]);
     }
     next
 }
 
-// The largest k of row h; two vertices leave no third.
-pub(crate) fn last_of(dimension: usize, h: usize) -> usize
-    ensures { result ≡ last_of dimension h }
+// How many entries row h of the first group has; two vertices leave no third, and so one entry.
+pub(crate) fn row_length(dimension: usize, h: usize) -> usize
+    requires { h < 256 }
+    ensures { result ≡ suc (last_of dimension h) }
 {
     if dimension < 2 {
-        return 0;
+        return 1;
     }
-    h
+    h + 1
 }
 
-// All entries: the next are those with k of row h, whose numbers begin at p.
-pub(crate) fn write_entries(
-    out: &mut [u8],
-    at: usize,
-    kind: u8,
-    degree: u8,
-    second: u8,
-    numbers: &[i64],
-) -> usize
-    requires kind { known kind degree second ≡ true }
-    requires numbers { length numbers.now ≡ number_count (groups_of kind degree second) }
-    requires room { Room out.old at (entry_lines (counts_over (groups_of kind degree second)) numbers.now) }
-    ensures { Wrote out.old at (entry_lines (counts_over (groups_of kind degree second)) numbers.now) out.new result }
+// The entries of row h: k rises.
+pub(crate) fn write_row(out: &mut [u8], at: usize, head: Head, h: usize, numbers: &[i64]) -> usize
+    requires known { known head.kind head.degree head.second ≡ true }
+    requires row { h ≤ head.degree }
+    requires numbers { length numbers.now ≡ number_count (later_groups head.kind head.second) * suc (last_of (dimension_of head.kind) h) }
+    requires room { Room out.old at (row_lines head h numbers.now) }
+    ensures { Wrote out.old at (row_lines head h numbers.now) out.new result }
 {
-    let dimension = dimension_of(kind);
-    let m = degree as usize;
-    let width = later_count(kind, second);
+    let dimension = dimension_of(head.kind);
+    let width = head.later_count();
+    let count = row_length(dimension, h);
+    let first = head.degree as usize - h;
     let mut next = at;
-    let mut p = 0;
-    let mut h = 0;
-    let mut k = 0;
-    while h <= m {
-        let counts = [m - h, h - k, k];
+    for k in 0..count {
+        let counts = [first, h - k, k];
+        let p = k * width;
         next = write_under(
             &mut *out,
             next,
             &counts[..dimension + 1],
-            kind,
-            second as usize,
+            head,
             &numbers[p..p + width],
         );
-        p += width;
-        k += 1;
-        if k > last_of(dimension, h) {
-            h += 1;
-            k = 0;
-        }
     }
     next
 }
 
-// A number of the head, the kind or a degree, which is a byte.
-pub(crate) fn head_byte(net: &[i64], i: usize) -> u8
-    requires { (i < length net.now) × (byte_of (get_or net.now i (pos 0)) < 255) }
-    ensures { result ≡ byte_of (get_or net.now i (pos 0)) }
+// All entries, row after row: the numbers of row h begin at p.
+pub(crate) fn write_entries(out: &mut [u8], at: usize, head: Head, numbers: &[i64]) -> usize
+    requires known { known head.kind head.degree head.second ≡ true }
+    requires numbers { length numbers.now ≡ number_count (head_groups head) }
+    requires room { Room out.old at (entry_lines (counts_over (head_groups head)) numbers.now) }
+    ensures { Wrote out.old at (entry_lines (counts_over (head_groups head)) numbers.now) out.new result }
 {
-    net[i] as u8
+    let dimension = dimension_of(head.kind);
+    let width = head.later_count();
+    let rows = head.degree as usize + 1;
+    let mut next = at;
+    let mut p = 0;
+    for h in 0..rows {
+        let end = p + width * row_length(dimension, h);
+        next = write_row(&mut *out, next, head, h, &numbers[p..end]);
+        p = end;
+    }
+    next
 }
 
 // The first line of the net that stands in the places.
@@ -145,13 +144,7 @@ pub(crate) fn write_first(out: &mut [u8], at: usize, net: &[i64]) -> usize
     requires { Stands net.now × Room out.old at (net_head (net_at net.now)) }
     ensures { Wrote out.old at (net_head (net_at net.now)) out.new result }
 {
-    write_head(
-        out,
-        at,
-        head_byte(net, 0),
-        head_byte(net, 1),
-        head_byte(net, 2),
-    )
+    write_head(out, at, head_at(net))
 }
 
 // The line of its frame.
@@ -159,7 +152,7 @@ pub(crate) fn write_frame(out: &mut [u8], at: usize, net: &[i64]) -> usize
     requires { Stands net.now × Room out.old at (frame_line (net_at net.now)) }
     ensures { Wrote out.old at (frame_line (net_at net.now)) out.new result }
 {
-    let end = FRAME + frame_count(head_byte(net, 0));
+    let end = FRAME + frame_count(head_at(net).kind);
     put_line(out, at, b"frame", &net[FRAME..end])
 }
 
@@ -169,9 +162,7 @@ pub(crate) fn write_net(out: &mut [u8], at: usize, net: &[i64]) -> usize
     ensures { Wrote out.old at (net_lines (net_at net.now)) out.new result }
 {
     let after_frame = write_frame(&mut *out, at, net);
-    let kind = head_byte(net, 0);
-    let degree = head_byte(net, 1);
-    let second = head_byte(net, 2);
-    let end = ENTRIES + number_count(kind, degree, second);
-    write_entries(out, after_frame, kind, degree, second, &net[ENTRIES..end])
+    let head = head_at(net);
+    let end = ENTRIES + head.number_count();
+    write_entries(out, after_frame, head, &net[ENTRIES..end])
 }

@@ -12,17 +12,14 @@ use projection::bits;
 
 // ---- words and numbers
 
-// A word, byte by byte.
+// A word.
 pub(crate) fn put(out: &mut [u8], at: usize, word: &[u8]) -> usize
     requires { Room out.old at word.now }
     ensures { Wrote out.old at word.now out.new result }
 {
-    let mut i = 0;
-    while i < word.len() {
-        out[at + i] = word[i];
-        i += 1;
-    }
-    at + i
+    let end = at + word.len();
+    out[at..end].copy_from_slice(word);
+    end
 }
 
 // A digit's code.
@@ -30,10 +27,10 @@ pub(crate) fn digit_of(d: u64) -> u8
     requires { d < 10 }
     ensures { result ≡ digit d }
 {
-    48 + d as u8
+    b'0' + d as u8
 }
 
-// How many digits a number has in base ten.
+// How many digits a number has in base ten. No index is counted: what is left of the number is divided.
 pub(crate) fn digit_count(n: u64) -> usize
     ensures { result ≡ length (decimal n) }
 {
@@ -46,8 +43,8 @@ pub(crate) fn digit_count(n: u64) -> usize
     count
 }
 
-// A number in base ten, straight into the buffer: from its last digit, whose place is known by their
-// count, to its first.
+// A number in base ten, straight into the buffer: from its last digit, whose place is known by their count,
+// to its first. What std prints of a number stands in a text of its own, and would then be copied.
 pub(crate) fn put_decimal(out: &mut [u8], at: usize, n: u64) -> usize
     requires { Room out.old at (decimal n) }
     ensures { Wrote out.old at (decimal n) out.new result }
@@ -121,11 +118,9 @@ pub(crate) fn put_line(out: &mut [u8], at: usize, word: &[u8], numbers: &[i64]) 
     ensures { Wrote out.old at (word.now ++ numbers_text numbers.now) out.new result }
 {
     let mut next = put(&mut *out, at, word);
-    let mut i = 0;
-    while i < numbers.len() {
+    for number in numbers {
         let after_space = put(&mut *out, next, b" ");
-        next = put_signed(&mut *out, after_space, numbers[i]);
-        i += 1;
+        next = put_signed(&mut *out, after_space, *number);
     }
     put(out, next, b"\n")
 }

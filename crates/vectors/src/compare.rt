@@ -2,19 +2,32 @@
 ghost use Rattle.io.specs.Counts.{IsPrefixLen};
 ghost use Rattle.vectors.specs.Compared.{FirstDifference, AllMarks};
 
-use text::{Written, write_text};
+use machine::Refusal;
+use std::fmt;
+use text::write_text;
 
 // The byte that fills a buffer before it is lent. No text has it: it is no
 // letter, digit, sign, space or line feed.
 const MARK: u8 = 0;
 
-#[derive(Drop)]
-pub(crate) enum Verdict {
-    Equal,
-    DiffersAt(usize),
+// What is wrong with a record's text.
+#[derive(Clone, Copy, Debug, PartialEq, Eq)]
+pub(crate) enum Difference {
+    At(usize),
     PastTheText,
     ShortBuffer,
     ExactBuffer,
+}
+
+impl fmt::Display for Difference {
+    fn fmt<W: fmt::Write>(&self, f: &mut fmt::Formatter<W>) -> fmt::Result {
+        match self {
+            Difference::At(place) => write!(f, "differs at {place}"),
+            Difference::PastTheText => write!(f, "writes past its text"),
+            Difference::ShortBuffer => write!(f, "is not refused in a short buffer"),
+            Difference::ExactBuffer => write!(f, "does not fill a buffer of its length"),
+        }
+    }
 }
 
 // The first place where two lists of bytes differ; where one begins with the other, the length of
@@ -22,46 +35,23 @@ pub(crate) enum Verdict {
 pub(crate) fn first_difference(a: &[u8], b: &[u8]) -> usize
     ensures { FirstDifference a.now b.now result }
 {
-    let mut i = 0;
-    while i < a.len() && i < b.len() {
+    let shorter = a.len().min(b.len());
+    for i in 0..shorter {
         if a[i] != b[i] {
             return i;
         }
-        i += 1;
     }
-    i
+    shorter
 }
 
 // Whether every byte is the mark.
 pub(crate) fn all_marks(s: &[u8]) -> bool
     ensures { AllMarks s.now result }
 {
-    let mut i = 0;
-    while i < s.len() {
-        if s[i] != MARK {
-            return false;
-        }
-        i += 1;
-    }
-    true
+    s.iter().all(|b| *b == MARK)
 }
 
-fn is_eleven(answer: Written) -> bool {
-    match answer {
-        Written::Bytes(_) => false,
-        Written::Refused(number) => number == 11,
-    }
-}
-
-// Whether the answer is that the text has n bytes.
-fn is_length(answer: Written, n: usize) -> bool {
-    match answer {
-        Written::Bytes(length) => length == n,
-        Written::Refused(_) => false,
-    }
-}
-
-// Whether a buffer one byte shorter than a text of n bytes is refused with 11 and left as it was.
+// Whether a buffer one byte shorter than a text of n bytes is refused for that and left as it was.
 // The buffer is the front of `out`, which has only marks. No text is empty.
 fn short_is_refused(record: &[u8], n: usize, out: &mut [u8]) -> bool {
     if n == 0 {
@@ -71,8 +61,7 @@ fn short_is_refused(record: &[u8], n: usize, out: &mut [u8]) -> bool {
     if out.len() < short {
         return false;
     }
-    let answer = write_text(record, &mut out[..short]);
-    is_eleven(answer) && all_marks(out)
+    write_text(record, &mut out[..short]) == Err(Refusal::Short) && all_marks(out)
 }
 
 // Whether a buffer of exactly the expected text's length is filled with it and answered with that length. The
@@ -82,36 +71,37 @@ fn exact_is_filled(record: &[u8], expected: &[u8], out: &mut [u8]) -> bool {
     if out.len() < n {
         return false;
     }
-    let answer = write_text(record, &mut out[..n]);
-    is_length(answer, n) && first_difference(out, expected) == n && all_marks(&out[n..])
+    write_text(record, &mut out[..n]) == Ok(n)
+        && first_difference(out, expected) == n
+        && all_marks(&out[n..])
 }
 
 // The first n bytes of a buffer against the expected text, and the bytes past them against the mark.
-fn judge_text(record: &[u8], out: &[u8], n: usize, expected: &[u8]) -> Verdict
+fn judge_text(record: &[u8], out: &[u8], n: usize, expected: &[u8]) -> Result<(), Difference>
     requires { IsPrefixLen n out.now }
 {
     let place = first_difference(&out[..n], expected);
     if place < n || place < expected.len() {
-        return Verdict::DiffersAt(place);
+        return Err(Difference::At(place));
     }
     if !all_marks(&out[n..]) {
-        return Verdict::PastTheText;
+        return Err(Difference::PastTheText);
     }
     let mut other = [0u8; 4183];
     if !short_is_refused(record, n, &mut other) {
-        return Verdict::ShortBuffer;
+        return Err(Difference::ShortBuffer);
     }
     if !exact_is_filled(record, expected, &mut other) {
-        return Verdict::ExactBuffer;
+        return Err(Difference::ExactBuffer);
     }
-    Verdict::Equal
+    Ok(())
 }
 
-// The record's text in a buffer of 4183 bytes, judged. The answer 11 counts as a text with no byte.
-pub(crate) fn judge(record: &[u8], expected: &[u8]) -> Verdict {
+// The record's text in a buffer of 4183 bytes, judged. A refusal counts as a text with no byte.
+pub(crate) fn judge(record: &[u8], expected: &[u8]) -> Result<(), Difference> {
     let mut out = [0u8; 4183];
     match write_text(record, &mut out) {
-        Written::Bytes(n) => judge_text(record, &out, n, expected),
-        Written::Refused(_) => Verdict::DiffersAt(0),
+        Ok(n) => judge_text(record, &out, n, expected),
+        Err(_) => Err(Difference::At(0)),
     }
 }

@@ -17,64 +17,34 @@
 mod compare;
 mod packed;
 
-use crate::compare::{Verdict, judge};
+use crate::compare::{Difference, judge};
 use crate::packed::{one_byte, part, two_bytes};
 use std::io::{Read, Write};
 
-// What came of one vector, or that there was none.
-#[derive(Drop)]
-enum Outcome {
-    Equal,
-    Different,
-    End,
-}
+// How many vectors are read at most. Nothing says that an input ends, and a proved loop must.
+const MOST: u64 = 65536;
 
 // Writes the bytes. A write that fails is not told: the output then lacks them.
 fn write_bytes<W: Write>(to: &mut W, bytes: &[u8]) {
     let _ = to.write_all(bytes);
 }
 
-// Writes the number's decimal digits.
-fn write_number<W: Write>(to: &mut W, number: u64) {
-    let _ = write!(to, "{number}");
+// Writes what stands after the label.
+fn write_verdict<W: Write>(to: &mut W, verdict: Result<(), Difference>) {
+    let _ = match verdict {
+        Ok(()) => write!(to, " equal\n"),
+        Err(difference) => write!(to, " {difference}\n"),
+    };
 }
 
-// Writes what stands after the label, and answers whether it is `equal`.
-fn write_verdict<W: Write>(to: &mut W, v: Verdict) -> bool {
-    match v {
-        Verdict::Equal => {
-            write_bytes(to, b" equal\n");
-            true
-        }
-        Verdict::DiffersAt(place) => {
-            write_bytes(to, b" differs at ");
-            write_number(to, place as u64);
-            write_bytes(to, b"\n");
-            false
-        }
-        Verdict::PastTheText => {
-            write_bytes(to, b" writes past its text\n");
-            false
-        }
-        Verdict::ShortBuffer => {
-            write_bytes(to, b" is not refused in a short buffer\n");
-            false
-        }
-        Verdict::ExactBuffer => {
-            write_bytes(to, b" does not fill a buffer of its length\n");
-            false
-        }
-    }
-}
-
-// Reads and judges one vector. No label has length 0, and a length that is not there reads as 0: so
-// a label of length 0 is the end.
-fn one_vector<R: Read, W: Write>(from: &mut R, to: &mut W) -> Outcome {
+// Reads and judges one vector, and answers what came of it; nothing where there is none. No label has
+// length 0, and a length that is not there reads as 0: so a label of length 0 is the end.
+fn one_vector<R: Read, W: Write>(from: &mut R, to: &mut W) -> Option<Result<(), Difference>> {
     let mut label = [0u8; 255];
     let letters = one_byte(from);
     let l = part(from, letters, &mut label);
     if l == 0 {
-        return Outcome::End;
+        return None;
     }
     let mut record = [0u8; 4096];
     let bytes = two_bytes(from);
@@ -82,38 +52,26 @@ fn one_vector<R: Read, W: Write>(from: &mut R, to: &mut W) -> Outcome {
     let mut expected = [0u8; 4183];
     let bytes = two_bytes(from);
     let e = part(from, bytes, &mut expected);
+    let verdict = judge(&record[..r], &expected[..e]);
     write_bytes(to, &label[..l]);
-    if write_verdict(to, judge(&record[..r], &expected[..e])) {
-        return Outcome::Equal;
-    }
-    Outcome::Different
+    write_verdict(to, verdict);
+    Some(verdict)
 }
 
 fn write_counts<W: Write>(to: &mut W, equal: u64, different: u64) {
-    write_number(to, equal);
-    write_bytes(to, b" equal, ");
-    write_number(to, different);
-    write_bytes(to, b" different\n");
+    let _ = write!(to, "{equal} equal, {different} different\n");
 }
 
-// Nothing says that an input ends, and a proved loop must. So the vectors are counted, and the loop
-// stops at 65536 of them.
 fn main(rt: HostRuntime) {
     let mut from = rt.stdin();
     let mut to = rt.stdout();
     let mut equal: u64 = 0;
     let mut different: u64 = 0;
-    while equal + different < 65536 {
+    for _ in 0..MOST {
         match one_vector(&mut from, &mut to) {
-            Outcome::Equal => {
-                equal += 1;
-            }
-            Outcome::Different => {
-                different += 1;
-            }
-            Outcome::End => {
-                break;
-            }
+            Some(Ok(())) => equal += 1,
+            Some(Err(_)) => different += 1,
+            None => break,
         }
     }
     write_counts(&mut to, equal, different);

@@ -4,14 +4,9 @@ ghost use Rattle.io.specs.Counts.{IsPrefixLen};
 
 use std::io::Read;
 
-fn wide(b: u8) -> usize
-    ensures { result < 256 }
-{
-    b as usize
-}
-
 // Reads until the buffer is full, the input ends or a read fails, and answers how many bytes it put to the
-// start of the buffer. Of an empty buffer it makes no call.
+// start of the buffer. Of an empty buffer it makes no call. Each read gives as many bytes as it likes, so
+// there is nothing that a `for` could count.
 fn read_full<R: Read>(from: &mut R, buf: &mut [u8]) -> usize
     ensures { IsPrefixLen result buf.new }
 {
@@ -31,7 +26,7 @@ pub(crate) fn one_byte<R: Read>(from: &mut R) -> usize
 {
     let mut bytes = [0u8; 1];
     read_full(from, &mut bytes);
-    wide(bytes[0])
+    usize::from(bytes[0])
 }
 
 // The number in the next two bytes, the high one first. Bytes past the end of the input count as 0.

@@ -1,20 +1,22 @@
--- `long_at` meets its contract: where the part has the bytes, the test of `signed` is that of two's complement in four bytes.
-use mathlib.Core.Path.{sym, ◌∙◌}
-use native.Mathlib.Omega.{arith}
-use Rattle.integers.proofs.Signed.{back_fits}
-use Rattle.decoding.proofs.Numbers.{number-there, number-lacking}
-use Rattle.decoding.specs.Numbers.{twos_complement}
+-- Where the part has the chunk, std reads the number that its item is; where it has not, the number is 0.
+use Rattle.std.proofs.Common.{sym, ap, ◌∙◌, get_or, [], arith}
+use Rattle.std.proofs.lemmas.Int.{to_z-of_z}
+use mir.Syntax.{w32, w64}
+use Rattle.decoding.proofs.Chunks.{chunk, four-read, read-there}
+use Rattle.decoding.proofs.Numbers.{number-lacking}
 use Rattle.decoding.proofs.long_at.Goals as goal
 
-pub returns-then-part-k : goal.returns-then-part-k
-returns-then-part-k c = let a = c.args in sym (number-lacking 4 a.part.now a.k c.if-part-k.true)
+pub returns-in-Some : goal.returns-in-Some
+returns-in-Some c =
+    let l = c.in-Some.ensures.lookup in
+    let is = l.3.1 [] ∙ ap (λ x. get_or x c.args.k []) c.as_chunks.ensures.front in
+    let got = chunk 4 c.args.part.now c.args.k (omega arith) is (omega (arith, l.3.0, c.as_chunks.ensures.front_len)) c.type_inv.part in
+    to_z-of_z w64 _ (record { sfits = c.from.type_inv })
+    ∙ c.from.ensures
+    ∙ to_z-of_z w32 _ (record { sfits = c.from_be_bytes.type_inv })
+    ∙ read-there got (c.from_be_bytes.ensures ∙ four-read _ got.long got.fits)
 
-pub returns : goal.returns
-unfolding twos_complement
-returns c =
-    let there = c.before.before in
-    let a = there.args in
-    let v = c.four_bytes.result in
-    back_fits (record { sfits = c.signed.type_inv })
-    ∙ c.signed.ensures
-    ∙ sym (number-there 4 a.part.now a.k v (omega arith) there.if-part-k.false c.four_bytes.ensures.value)
+pub returns-in-None : goal.returns-in-None
+returns-in-None c =
+    let l = c.in-None.ensures.lookup in
+    sym (number-lacking 4 c.args.part.now c.args.k (omega (arith, c.as_chunks.ensures.front_len)))

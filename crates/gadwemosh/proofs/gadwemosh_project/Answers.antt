@@ -1,16 +1,19 @@
--- `gadwemosh_project` meets its contract: the bound is that of what comes back of the projection.
+-- `gadwemosh_project` meets its contract: the bound is that of the projection, whose patterns come back.
 use borrow.Author.Rules.{rules}
-use mathlib.Core.Path.{◌≡◌, ap, ◌∙◌}
+use mathlib.Core.Path.{◌≡◌, sym, subst}
 use Rattle.projection.specs.Projection.{four, projection_of}
+use Rattle.projection.specs.Accuracy.{AccuratePoint}
+use Rattle.projection.proofs.Bound.{accurate-projections}
 use Rattle.gadwemosh.specs.Projections.{projection_returned}
-use Rattle.gadwemosh.proofs.Places.{patterns-projected, bound-of}
+use Rattle.gadwemosh.proofs.Places.{returned-accurate, bound-of}
 use Rattle.gadwemosh.proofs.gadwemosh_project.Goals as goal
 
 pub returns-clause-accurate : goal.returns-clause-accurate
 returns-clause-accurate c =
     let a = c.args in
-    let is : c.project-projection.result ≡ projection_of a.x a.y a.z a.w = search rules in
-    let back = ap (λ at. projection_returned at a.bits.now a.direction.now) is in
-    bound-of (four a.x a.y a.z a.w) (projection_returned (projection_of a.x a.y a.z a.w) a.bits.now a.direction.now) (patterns-projected (four a.x a.y a.z a.w) a.bits.now a.direction.now)
-    (c.return_projection.ensures.outcome ∙ ap (λ r. r.outcome) back)
-    (c.return_projection.ensures.patterns ∙ ap (λ r. r.bits) back)
+    let p = four a.x a.y a.z a.w in
+    let at = c.project-projection.result in
+    let is : at ≡ projection_of a.x a.y a.z a.w = search rules in
+    bound-of p (projection_returned at a.bits.now a.direction.now)
+    (returned-accurate p at a.bits.now a.direction.now (subst (AccuratePoint p) (sym is) (accurate-projections p)))
+    c.return_projection.ensures.outcome c.return_projection.ensures.patterns

@@ -1,23 +1,26 @@
--- A read takes what it gives of the bytes that are left. Where it gave some it did not answer 0.
-use Rattle.std.proofs.Common.{rules, ◌∙◌, ap}
-use Rattle.netprint.specs.Process.{gave_bytes}
-use Rattle.netprint.proofs.Known.{consumes-more, read-of}
+-- A read takes what it gives of the bytes that are left, and at its answer 0 none are left.
+use Rattle.std.proofs.Common.{rules, arith, ◌+◌, ◌≤◌, length, ◌∙◌}
+use Rattle.netprint.proofs.Known.{gave-some, moved-within, consumes-more, read-of}
 use Rattle.netprint.proofs.read_input.Goals as goal
 
-pub returns-then-done-input-clause-read : goal.returns-then-done-input-clause-read
-returns-then-done-input-clause-read g c some =
-    let on = c.read_on-got in
-    let taken = consumes-more _ _ _ c.loop-done.input on.new.input c.loop-done.done c.count-more.result on.result (search rules)
-    on.ensures.kept c.loop-done.invariant.3 on.ensures.bytes in
-    read-of _ _ _ on.new.input (search rules) taken
-    (λ z. absurd (c.if-more-eq0.false (c.count-more.ensures ∙ ap gave_bytes z)))
+pub returns-then-more-eq0-clause-read : goal.returns-then-more-eq0-clause-read
+returns-then-more-eq0-clause-read g c some =
+    let l = c.loop-last in
+    let on = c.read_on-last in
+    let more = c.unwrap_or-more.ensures ∙ gave-some on.result in
+    let within : l.done + c.unwrap_or-more.result ≤ length on.new.input = moved-within on.result more l.invariant.1 on.auto.input on.ensures.moved in
+    read-of _ _ _ on.new.input within
+    (consumes-more _ _ _ l.input on.new.input l.done c.unwrap_or-more.result on.result more on.ensures.kept l.invariant.3 on.ensures.bytes)
+    (λ z. on.ensures.end z (l.invariant.2 (omega (arith, some, l.invariant.0))))
 
-pub loop-done-preserved : goal.loop-done-preserved
-loop-done-preserved g c =
-    let on = c.read_on-got in (
+pub loop-last-preserved : goal.loop-last-preserved
+loop-last-preserved g c =
+    let l = c.loop-last in
+    let on = c.read_on-last in
+    let more = c.unwrap_or-more.ensures ∙ gave-some on.result in
+    let within : l.done + c.unwrap_or-more.result ≤ length on.new.input = moved-within on.result more l.invariant.1 on.auto.input on.ensures.moved in (
       search rules,
+      within,
       search rules,
-      search rules,
-      consumes-more _ _ _ c.loop-done.input on.new.input c.loop-done.done c.count-more.result on.result (search rules)
-          on.ensures.kept c.loop-done.invariant.3 on.ensures.bytes,
+      consumes-more _ _ _ l.input on.new.input l.done c.unwrap_or-more.result on.result more on.ensures.kept l.invariant.3 on.ensures.bytes,
     )

@@ -4,11 +4,11 @@ use Rattle.std.proofs.Common.{◌≡◌, ◌-◌, ◌<◌, ◌≤◌, length, ta
 use Rattle.std.specs.Io.KnownBytes.{Consumes}
 use Rattle.netprint.proofs.read_input.Given as goal
 
-abbrev pub invariant-loop-done : goal.invariant-loop-done
-invariant-loop-done g l =
+abbrev pub invariant-loop-last : goal.invariant-loop-last
+invariant-loop-last g l =
     (length l.input ≡ length l.initial.input) × (l.done ≤ length l.input)
     × (0 < length l.input → l.done < length l.input)
     × Consumes (g.R.Read.remaining l.initial.from) (g.R.Read.remaining l.from) (take l.done l.input)
 
-abbrev pub decreases-loop-done : goal.decreases-loop-done
-decreases-loop-done g l = length l.input - l.done
+abbrev pub decreases-loop-last : goal.decreases-loop-last
+decreases-loop-last g l = length l.input - l.done

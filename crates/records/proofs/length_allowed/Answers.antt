@@ -1,6 +1,7 @@
--- `length_allowed` meets its contract: each arm is the row of its field. Kind and degrees are bytes, so nothing wraps.
+-- `length_allowed` meets its contract: each arm is the row of its field. Kind and degrees are bytes, so
+-- nothing wraps.
 use Prim.Native.Nat.{◌<◌}
-use native.Mathlib.Omega.{arith}
+use Rattle.std.proofs.Common.{arith, rules}
 use Rattle.kinds.proofs.Counts.{count_low, frame-few, vertices-few}
 use Rattle.records.proofs.length_allowed.Goals as goal
 
@@ -10,8 +11,8 @@ overflow_mul-result c = let h = c.args.head in record { fits = omega (arith, fra
 pub overflow_mul-result-in-Coefficients : goal.overflow_mul-result-in-Coefficients
 overflow_mul-result-in-Coefficients c =
     let h = c.args.head in
-    let wide : h.degree < 256 = c.well_formed.1.0.1.1.1.0.1 in
-    let second : h.second < 256 = c.well_formed.1.0.1.1.1.1.0.1 in
+    let wide : h.degree < 256 = search rules in
+    let second : h.second < 256 = search rules in
     record { fits = omega (arith, count_low h.kind wide second, c.number_count.ensures.entries) }
 
 pub overflow_mul-result-in-Point : goal.overflow_mul-result-in-Point

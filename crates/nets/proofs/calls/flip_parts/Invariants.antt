@@ -1,5 +1,4 @@
 -- `flip_parts` meets its contract: after k turns the first k parts are flipped.
-use Prim.Native.Nat.{◌-◌, ◌≤◌}
 use mathlib.Core.Path.{◌≡◌}
 use Rattle.entries.specs.Rows.{size}
 use Rattle.nets.specs.Flips.{flipped_list}
@@ -7,7 +6,4 @@ use Rattle.nets.specs.Parts.{in_parts}
 use Rattle.nets.proofs.calls.flip_parts.Given as goal
 
 abbrev pub invariant-loop-k : goal.invariant-loop-k
-invariant-loop-k l = (l.k ≤ l.parts) × (l.entries ≡ in_parts (flipped_list 4 l.dimension l.degree l.vertex) (size 4 l.dimension l.degree) l.k l.initial.entries)
-
-abbrev pub decreases-loop-k : goal.decreases-loop-k
-decreases-loop-k l = l.parts - l.k
+invariant-loop-k l = l.entries ≡ in_parts (flipped_list 4 l.dimension l.degree l.vertex) (size 4 l.dimension l.degree) l.k l.initial.entries

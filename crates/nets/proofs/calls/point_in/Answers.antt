@@ -1,170 +1,145 @@
--- `point_in` meets its contract: the net's entries are copied into the room, the first group's levels are made there and then the second group's, and the last row begins with the
--- point's four numbers; the numbers projected are put behind them.
-use borrow.Author.Tests.{not-true, not-false}
+-- `point_in` meets its contract: the net's entries are copied into the room, the first group's levels are made there
+-- and then the second group's, and the last row begins with the point's four numbers; the numbers projected are put
+-- behind them.
+use borrow.Author.Rules.{rules}
 use Prim.Native.Nat.{ℕ, ◌*◌, ◌≤◌}
-use native.Mathlib.Nat.{le_trans, le-mul_of_pos_right}
+use native.Mathlib.Nat.{le-mul_of_pos_right}
 use native.Mathlib.Omega.{arith}
-use mathlib.Core.Path.{◌≡◌, sym, ap, ◌∙◌, subst}
-use mathlib.Core.Bool.{true}
-use mathlib.Core.List.{List}
-use lib.IntN.{ℤ}
-use lib.ListN.{length, take}
+use mathlib.Core.Path.{◌≡◌, refl, sym, ap, ◌∙◌}
+use mathlib.Core.Bool.{Bool, true, false}
+use mathlib.Core.List.{List, [], ◌∷◌}
+use lib.IntN.{ℤ, pos}
+use lib.ListN.{length, get_or, take, replicate}
+use Rattle.std.proofs.lemmas.List.{length-replicate}
+use Rattle.entries.specs.Entries.{number_count}
 use Rattle.entries.specs.Rows.{size}
 use Rattle.polar.specs.Groups.{counts_over}
-use Rattle.kinds.specs.Kinds.{dimension_of, later_groups}
-use Rattle.machine.specs.Calls.{weight_list}
-use Rattle.nets.specs.Rows.{level}
-use Rattle.nets.specs.Levels.{all_named_at}
-use Rattle.nets.specs.Calls.{LaterDescended}
-use Rattle.nets.proofs.Lists.{copied-front}
+use Rattle.kinds.specs.Kinds.{later_groups}
+use Rattle.kinds.specs.Heads.{head_groups}
+use Rattle.kinds.specs.declared.Head.{Head}
+use Rattle.machine.specs.Numbers.{answered, number_of}
+use Rattle.machine.specs.Refusals.{◌else◌, first_failed}
+use Rattle.machine.specs.declared.Call.TheVariants.{Point}
+use Rattle.machine.specs.declared.Refusal.{Refusal}
+use Rattle.machine.proofs.Numbers.{never_zero}
+use Rattle.machine.specs.declared.Weights.{Weights}
+use Rattle.nets.specs.Rows.{written}
+use Rattle.nets.specs.Calls.{InOrder}
+use Rattle.nets.proofs.Lists.{copied-front, length-written}
 use Rattle.nets.proofs.FirstMoves.{counts_some}
-use Rattle.nets.proofs.Made.{row_numbers, used, net-count, net-sized, net-long}
+use Rattle.nets.proofs.Made.{n, w, used, net-count, net-sized, net-long}
 use Rattle.nets.proofs.PointMade.{first-descends, first-refused, later-descends, point-refused, line-asked, point-taken}
 use Rattle.nets.proofs.calls.point_in.Goals as goal
-use Rattle.nets.proofs.calls.point_in.Lts as lts
-use Rattle.nets.proofs.calls.point_in.Tie as tie
-use Rattle.nets.proofs.calls.point_in.Reads as reads
 
-abbrev After-copy : Type 0
-After-copy = lts.After-copy tie.the-claims reads.Pre reads.Post
+-- ---- what a test of the size says
 
-abbrev After-cur-2-1 : Type 0
-After-cur-2-1 = lts.After-cur2 tie.the-claims reads.Pre reads.Post
+in-range : (b : Bool) → 0 ≡ first_failed (b else 10 ∷ []) → b ≡ true
+in-range true h = refl
+in-range false h = absurd (omega arith)
 
-abbrev After-descend_later : Type 0
-After-descend_later = lts.After-descend_later tie.the-claims reads.Pre reads.Post
+beyond : (b : Bool) (r : Refusal) → number_of r ≡ first_failed (b else 10 ∷ []) → (b ≡ false) × (number_of r ≡ 10)
+beyond true r h = absurd (never_zero r h)
+beyond false r h = (refl, h)
 
-abbrev Else-not-descend_first : Type 0
-Else-not-descend_first = lts.Else1 tie.the-claims reads.Pre reads.Post
+-- ---- the room as the levels find it
 
-abbrev Else-not-descend_later : Type 0
-Else-not-descend_later = lts.Else2 tie.the-claims reads.Pre reads.Post
+record Ready {head : Head} {weights : Weights} {places : List ℤ} (ordered : InOrder head places (Point weights)) (cur : List ℤ) : Type 0 where
+  pub long : size (w ordered) (n ordered) head.degree ≤ length cur
+  pub copied : take (size (w ordered) (n ordered) head.degree) cur ≡ used ordered
 
-abbrev Start : Type 0
-Start = lts.Start tie.the-claims reads.Pre reads.Post
+module _ {head : Head} {weights : Weights} {places : List ℤ} {count N : ℕ} (ordered : InOrder head places (Point weights))
+    (counted : count ≡ number_count (head_groups head)) (free : number_count (head_groups head) ≤ N) where
+  whole : count ≡ size (w ordered) (n ordered) head.degree
+  whole = counted ∙ net-count ordered
 
-module _ (s : Start) where
-  abbrev n : ℕ
-  n = dimension_of s.args.kind
+  -- there is room for the entries, and they are there
+  fits : (count ≤ length (replicate N (pos 0))) × (count ≤ length places)
+  fits = let long = net-long ordered in (rw (counted, length-replicate) free, omega (arith, whole))
 
-  abbrev w : ℕ
-  w = row_numbers s.args.kind s.args.second
-
-  abbrev ws : List ℤ
-  ws = weight_list s.args.weights
-
-  -- how many numbers are copied
-  count-is : s.args.count ≡ size w n s.args.degree
-  count-is = s.requires.counted ∙ net-count s.requires.ordered
-
-  -- there is room for them, and they are there
-  fits : (s.args.count ≤ length s.args.cur.now) × (s.args.count ≤ length s.args.entries.now)
-  fits = (s.requires.free, subst (λ k. k ≤ length s.args.entries.now) (sym count-is) (net-long s.requires.ordered))
-
-pub copy-requires : goal.copy-requires
-copy-requires c = fits c.before
-
--- the room as the levels find it
-module _ (c : After-copy) where
-  abbrev start : Start
-  start = c.before.before
-
-  abbrev room : List ℤ
-  room = c.copy.new.to
-
-  copied : take (size (w start) (n start) start.args.degree) room ≡ used start.requires.ordered
-  copied =
-      let a = start.args in
-      ap (λ k. take k room) (sym (count-is start))
-      ∙ ap (take a.count) c.copy.ensures
-      ∙ copied-front a.cur.now a.entries.now a.count (fits start).0 (fits start).1
-      ∙ ap (λ k. take k a.entries.now) (count-is start)
-
-  room-long : size (w start) (n start) start.args.degree ≤ length room
-  room-long = let is = count-is start in omega (arith, is, (fits start).0, c.copy.auto.to)
-
-pub descend_first-requires : goal.descend_first-requires
-descend_first-requires c = first-descends (start c.before.before).requires.ordered (room c.before.before) (room-long c.before.before) (copied c.before.before)
-
--- the room as the first group's levels left it
-abbrev first : After-cur-2-1 → After-copy
-first c = c.before.before.before.before
-
-pub returns-then-not-descend_first : goal.returns-then-not-descend_first
-returns-then-not-descend_first c =
-    let d = first c.before in
-    let s = start d in
-    first-refused s.requires.ordered (room d) (room-long d) (copied d) s.args.found.now (sym (not-true c.descend_first.result c.if-not-descend_first.true-raw) ∙ c.descend_first.ensures.named)
-
--- the first group's levels are in range
-passed : (c : Else-not-descend_first) → let d = first c.before in let s = start d in true ≡ all_named_at (w s) (n s) s.args.degree (ws s) (room d)
-passed c = sym (not-false c.descend_first.result c.if-not-descend_first.false-raw) ∙ c.descend_first.ensures.named
-
--- and leave their row
-left_is : (c : Else-not-descend_first) → let d = first c.before in let s = start d in c.descend_first.new.cur ≡ level (w s) (n s) s.args.degree (ws s) s.args.degree (room d)
-left_is c = c.descend_first.ensures.last (not-false c.descend_first.result c.if-not-descend_first.false-raw)
-
-pub descend_later-requires : goal.descend_later-requires
-descend_later-requires c =
-    let d = first c.before.before in
-    later-descends (start d).requires.ordered (room d) (room-long d) (copied d) (passed c.before) c.descend_first.new.cur (left_is c.before)
-
-later-descended : (c : After-descend_later)
-    → let d = first c.before.before.before in
-    let s = start d in
-    LaterDescended s.args.kind s.args.second s.args.weights (level (w s) (n s) s.args.degree (ws s) s.args.degree (room d)) c.descend_later.result c.descend_later.new.cur
-later-descended c =
-    let s = start (first c.before.before.before) in
-    subst (λ xs. LaterDescended s.args.kind s.args.second s.args.weights xs c.descend_later.result c.descend_later.new.cur) (left_is c.before.before) c.descend_later.ensures
-
-pub returns-then-not-descend_later : goal.returns-then-not-descend_later
-returns-then-not-descend_later c =
-    let d = first c.before.before.before.before.before in
-    let s = start d in
-    point-refused s.requires.ordered (room d) (room-long d) (copied d) (passed c.before.before.before.before) c.descend_later.result c.descend_later.new.cur (later-descended c.before.before) (not-true c.descend_later.result c.if-not-descend_later.true-raw) s.args.found.now
+  ready : {cur : List ℤ} → cur ≡ written (replicate N (pos 0)) 0 count (λ i. get_or places i (pos 0)) → Ready ordered cur
+  ready {cur} is =
+      record {
+        long = rw (is, length-written, ← whole) fits.0;
+        copied =
+            ap (λ k. take k cur) (sym whole) ∙ ap (take count) is ∙ copied-front (replicate N (pos 0)) places count fits.0 fits.1
+            ∙ ap (λ k. take k places) whole;
+      }
 
 -- there is at least one entry
-four-long : (s : Start) → 4 ≤ size (w s) (n s) s.args.degree
-four-long s =
-    let some : 1 ≤ 4 * length (counts_over (later_groups s.args.kind s.args.second)) = (net-sized s.requires.ordered).some in
-    let row = le-mul_of_pos_right (w s) (counts_some (n s) s.args.degree) in
+four-long : {head : Head} {places : List ℤ} {weights : Weights} (ordered : InOrder head places (Point weights))
+    → 4 ≤ size (w ordered) (n ordered) head.degree
+four-long {head} ordered =
+    let some : 1 ≤ 4 * length (counts_over (later_groups head.kind head.second)) = (net-sized ordered).some in
+    let row = le-mul_of_pos_right (w ordered) (counts_some (n ordered) head.degree) in
     omega arith
 
--- the second group's levels are in range too
-module _ (c : Else-not-descend_later) where
-  abbrev later : After-descend_later
-  later = c.before.before
+-- ---- the steps
 
-  abbrev early : Else-not-descend_first
-  early = later.before.before
+pub whole_as_slice-copy : goal.whole_as_slice-copy
+whole_as_slice-copy g c = omega arith
 
-  abbrev copy : After-copy
-  copy = first early.before
+pub copy-requires : goal.copy-requires
+copy-requires g c = fits c.requires.0 c.number_count.ensures.entries c.requires.2
 
-  -- no place of the room is lost
-  still-long : size (w (start copy)) (n (start copy)) (start copy).args.degree ≤ length later.descend_later.new.cur
-  still-long = let long = room-long copy in omega (arith, long, later.descend_later.auto.cur, early.descend_first.auto.cur)
+pub whole_as_slice-descend_first : goal.whole_as_slice-descend_first
+whole_as_slice-descend_first g c = omega arith
+
+pub descend_first-requires : goal.descend_first-requires
+descend_first-requires g c =
+    let r = ready c.requires.0 c.number_count.ensures.entries c.requires.2 c.copy.ensures in
+    first-descends c.requires.0 _ r.long r.copied
+
+pub returns-in_err-judge_size : goal.returns-in_err-judge_size
+returns-in_err-judge_size g c =
+    let r = ready c.requires.0 c.number_count.ensures.entries c.requires.2 c.copy.ensures in
+    let out = beyond c.descend_first.result c.in_err-judge_size.field-0.0 c.in_err-judge_size.ensures in
+    let same : answered c.from_residual.result ≡ number_of c.in_err-judge_size.field-0.0 = search rules in
+    rw (same ∙ out.1) (first-refused c.requires.0 _ r.long r.copied _ (sym out.0 ∙ c.descend_first.ensures.named))
+
+pub whole_as_slice-descend_later : goal.whole_as_slice-descend_later
+whole_as_slice-descend_later g c = omega arith
+
+pub descend_later-requires : goal.descend_later-requires
+descend_later-requires g c =
+    let r = ready c.requires.0 c.number_count.ensures.entries c.requires.2 c.copy.ensures in
+    let ok = in-range c.descend_first.result c.in_ok-judge_size.ensures in
+    later-descends c.requires.0 _ r.long r.copied (sym ok ∙ c.descend_first.ensures.named) _ (c.descend_first.ensures.last ok)
+
+pub returns-in_err-judge_size-2 : goal.returns-in_err-judge_size-2
+returns-in_err-judge_size-2 g c =
+    let r = ready c.requires.0 c.number_count.ensures.entries c.requires.2 c.copy.ensures in
+    let ok = in-range c.descend_first.result c.in_ok-judge_size.ensures in
+    let out = beyond c.descend_later.result c.in_err-judge_size-2.field-0.0 c.in_err-judge_size-2.ensures in
+    let same : answered c.from_residual-in_err-judge_size-2.result ≡ number_of c.in_err-judge_size-2.field-0.0 = search rules in
+    let left = rw (c.descend_first.ensures.last ok) at c.descend_later.ensures in
+    rw (same ∙ out.1)
+    (point-refused c.requires.0 _ r.long r.copied (sym ok ∙ c.descend_first.ensures.named) _ _ left out.0 _)
+
+pub shared_whole_as_slice-copy : goal.shared_whole_as_slice-copy
+shared_whole_as_slice-copy g c = omega arith
 
 pub copy-requires-2 : goal.copy-requires-2
-copy-requires-2 c =
-    let eight = (start (copy c.before)).requires.eight in
-    (omega arith, le_trans (four-long (start (copy c.before))) (still-long c.before))
+copy-requires-2 g c =
+    let r = ready c.requires.0 c.number_count.ensures.entries c.requires.2 c.copy.ensures in
+    let four = four-long c.requires.0 in
+    (omega arith, omega arith)
+
+pub whole_as_slice-put_projected : goal.whole_as_slice-put_projected
+whole_as_slice-put_projected g c = omega arith
 
 pub put_projected-requires : goal.put_projected-requires
-put_projected-requires c =
-    let d = copy c.before.before.before.before.before in
-    let s = start d in
-    let eight = s.requires.eight in
+put_projected-requires g c =
+    let r = ready c.requires.0 c.number_count.ensures.entries c.requires.2 c.copy.ensures in
+    let ok = in-range c.descend_first.result c.in_ok-judge_size.ensures in
     record {
-      line = line-asked s.requires.ordered (room d) (room-long d) (copied d) (passed (early c.before.before.before.before.before)) (later c.before.before.before.before.before).descend_later.new.cur (still-long c.before.before.before.before.before);
-      eight = omega (arith, eight, c.copy-2.auto.to);
+      line = line-asked c.requires.0 _ r.long r.copied (sym ok ∙ c.descend_first.ensures.named) _ (omega arith);
+      eight = omega arith;
     }
 
 pub returns : goal.returns
-returns c =
-    let f = later c.before.before.before.before.before.before.before.before in
-    let d = copy c.before.before.before.before.before.before.before.before in
-    let s = start d in
-    let eight = s.requires.eight in
-    point-taken s.requires.ordered (room d) (room-long d) (copied d) (passed (early c.before.before.before.before.before.before.before.before)) f.descend_later.result f.descend_later.new.cur (later-descended f) (not-false f.descend_later.result c.if-not-descend_later.false-raw)
-    s.args.found.now c.copy-2.new.to c.put_projected.new.found (omega arith) c.copy-2.ensures c.put_projected.ensures
+returns g c =
+    let r = ready c.requires.0 c.number_count.ensures.entries c.requires.2 c.copy.ensures in
+    let ok = in-range c.descend_first.result c.in_ok-judge_size.ensures in
+    let left = rw (c.descend_first.ensures.last ok) at c.descend_later.ensures in
+    point-taken c.requires.0 _ r.long r.copied (sym ok ∙ c.descend_first.ensures.named) _ _ left
+    (in-range c.descend_later.result c.in_ok-judge_size-2.ensures) _ _ _ (omega arith) c.copy-2.ensures c.put_projected.ensures

@@ -1,5 +1,4 @@
 -- `replace_parts` meets its contract: after k turns the vertex is replaced in the first k parts, whose named polar values are all in range.
-use Prim.Native.Nat.{◌-◌, ◌≤◌}
 use mathlib.Core.Path.{◌≡◌}
 use mathlib.Core.Bool.{true}
 use Rattle.integers.specs.Sum.{upto}
@@ -11,9 +10,7 @@ use Rattle.nets.specs.Parts.{part_at, replaced_parts}
 use Rattle.nets.proofs.calls.replace_parts.Given as goal
 
 abbrev pub invariant-loop-k : goal.invariant-loop-k
-invariant-loop-k l = (l.k ≤ l.parts)
-    × (l.entries ≡ replaced_parts l.degree (weight_list l.weights) l.vertex l.k l.initial.entries)
-    × (all (λ j. all_named_at 4 1 l.degree (weight_list l.weights) (part_at (size 4 1 l.degree) l.initial.entries j)) (upto l.k) ≡ true)
-
-abbrev pub decreases-loop-k : goal.decreases-loop-k
-decreases-loop-k l = l.parts - l.k
+invariant-loop-k l = record {
+  made : l.entries ≡ replaced_parts l.degree (weight_list l.weights) l.vertex l.k l.initial.entries;
+  named : all (λ j. all_named_at 4 1 l.degree (weight_list l.weights) (part_at (size 4 1 l.degree) l.initial.entries j)) (upto l.k) ≡ true;
+}

@@ -6,7 +6,6 @@ use Rattle.nets.proofs.coordinates.factorial_of.Goals as goal
 
 pub overflow_mul-product : goal.overflow_mul-product
 overflow_mul-product c =
-    let l = c.loop-i in
-    let next = factorial-next l.i l.product l.invariant.1 in
-    let small = factorial-up (l.i + 1) (omega (arith, l.invariant.0, c.loop-i-test.true)) in
+    let next = factorial-next c.loop-i.i c.loop-i.product c.loop-i.invariant in
+    let small = factorial-up (c.loop-i.i + 1) (omega (arith, c.loop-i-test.true)) in
     omega (arith, next, small)

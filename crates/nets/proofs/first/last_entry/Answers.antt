@@ -1,5 +1,5 @@
 -- `last_entry` meets its contract: after the steps the entry's value is at the front of `cur`.
-use Prim.Native.Nat.{◌-◌, ◌*◌, ◌≤◌, zero-le}
+use Prim.Native.Nat.{◌-◌, ◌*◌, zero-le}
 use native.Mathlib.Nat.{le_refl, le_trans}
 use native.Mathlib.Omega.{arith}
 use mathlib.Core.Path.{ap, ◌∙◌}
@@ -12,36 +12,25 @@ use Rattle.nets.proofs.Places.{degree-below, spread-most, place_inside}
 use Rattle.nets.proofs.Through.{level-front}
 use Rattle.nets.proofs.FirstRows.{copied-written}
 use Rattle.nets.proofs.first.last_entry.Goals as goal
-use Rattle.nets.proofs.first.last_entry.Lts as lts
-use Rattle.nets.proofs.first.last_entry.Tie as tie
-use Rattle.nets.proofs.first.last_entry.Reads as reads
-
-abbrev Start : Type 0
-Start = lts.Start tie.the-claims reads.Pre reads.Post
-
-third-most : (s : Start) → s.args.k ≤ s.args.i
-third-most s = le_trans s.requires.1 (spread-most s.args.dimension s.args.i s.requires.0.low s.requires.0.high)
 
 pub place-p-requires : goal.place-p-requires
 place-p-requires c =
     let few = degree-below c.args.width c.args.dimension c.args.i c.requires.0 in
-    (c.requires.0.low, c.requires.0.high, omega (arith, few), third-most c.before.before.before)
+    (c.requires.0.low, c.requires.0.high, omega (arith, few), le_trans c.requires.1 (spread-most c.args.dimension c.args.i c.requires.0.low c.requires.0.high))
 
 pub put_front-requires : goal.put_front-requires
 put_front-requires c =
-    let s = c.before.before.before.before.before in
-    let a = s.args in
+    let a = c.args in
     let y = c.blend_second in
-    let inside = place_inside a.dimension a.i a.i a.k s.requires.0.low s.requires.0.high (le_refl a.i) s.requires.1 a.width in
-    let first = place_inside a.dimension (a.i - a.k) 0 0 s.requires.0.low s.requires.0.high zero-le zero-le a.width in (
-      omega (arith, inside, s.requires.2, ap (λ p. a.width * p) c.place-p.ensures),
-      omega (arith, first, s.requires.3.long, y.auto.cur),
+    let inside = place_inside a.dimension a.i a.i a.k c.requires.0.low c.requires.0.high (le_refl a.i) c.requires.1 a.width in
+    let first = place_inside a.dimension (a.i - a.k) 0 0 c.requires.0.low c.requires.0.high zero-le zero-le a.width in (
+      omega (arith, inside, c.requires.2, ap (λ p. a.width * p) c.place-p.ensures),
+      omega (arith, first, c.requires.3.long, y.auto.cur),
     )
 
 pub returns : goal.returns
 returns c G holds =
-    let s = c.before.before.before.before.before.before.before in
-    let a = s.args in
+    let a = c.args in
     let left = a.i - a.k in
     let y = c.blend_second in
     c.put_front.ensures
@@ -49,4 +38,4 @@ returns c G holds =
     ∙ copied-written a.width (place_at a.dimension a.i a.k) a.out.now y.new.cur (λ j. G j (replicate left (vertex_of a.dimension a.frame.now 1)))
     (λ j b.
     ap (λ l. get_or l j (pos 0)) y.ensures
-    ∙ level-front a.width a.dimension left 1 a.frame.now a.cur.now s.requires.3.sized s.requires.0.low s.requires.3.long G holds j b)
+    ∙ level-front a.width a.dimension left 1 a.frame.now a.cur.now c.requires.3.sized c.requires.0.low c.requires.3.long G holds j b)

@@ -9,7 +9,6 @@ pub returns : goal.returns
 unfolding framed
 returns c =
     let base = c.coordinate_numbers in
-    let start = c.before.before.before.before.before.before.before.before.before.before.before.before.before in
-    let a = start.args in
+    let a = c.args in
     c.put_rows.ensures (row_polar 4 a.dimension a.degree a.part.now) (holds-polar 4 a.dimension a.degree a.part.now base.new.out base.ensures.0)
-    ∙ values_listed 4 a.dimension a.degree a.frame.now a.part.now (row_polar 4 a.dimension a.degree a.part.now) start.requires.0.limited.sized.some start.requires.1
+    ∙ values_listed 4 a.dimension a.degree a.frame.now a.part.now (row_polar 4 a.dimension a.degree a.part.now) c.requires.0.limited.sized.some c.requires.1

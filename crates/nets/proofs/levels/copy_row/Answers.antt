@@ -1,28 +1,25 @@
 -- `copy_row` meets its contract: after c turns the first c numbers of the row are copied.
-use borrow.Author.Rules.{rules}
 use Prim.Native.Nat.{◌+◌, ◌*◌, ◌-◌}
 use native.Mathlib.Omega.{arith}
 use mathlib.Core.Path.{◌≡◌, refl, ap, ◌∙◌}
 use lib.IntN.{pos}
-use lib.ListN.{get_or, length-set}
+use lib.ListN.{get_or}
 use Rattle.integers.proofs.Signed.{seen}
 use Rattle.nets.specs.Rows.{written}
-use Rattle.nets.proofs.Lists.{write-more}
 use Rattle.nets.proofs.Row.{element}
+use Rattle.nets.proofs.Lists.{write-more}
 use Rattle.nets.proofs.levels.copy_row.Goals as goal
 
 pub loop-c-init : goal.loop-c-init
 unfolding written
-loop-c-init c = (search rules, refl, refl)
+loop-c-init c = refl
 
 pub loop-c-preserved : goal.loop-c-preserved
 loop-c-preserved c =
-    let l = c.loop-c in
+    let xs = c.args.xs.now in
     let p = c.args.width * c.args.to in
     let q = c.args.width * c.args.from in
-    let place_is : q + l.c ≡ q + (p + l.c - p) = omega arith in (
-      search rules,
-      write-more c.args.out.now l.out p l.c (seen (get_or c.args.xs.now (q + l.c) (pos 0))) (λ i. get_or c.args.xs.now (q + (i - p)) (pos 0)) l.invariant.1
-          (element (get_or c.args.xs.now (q + l.c) (pos 0)) c.out-1.given ∙ ap (λ i. get_or c.args.xs.now i (pos 0)) place_is),
-      length-set l.out (p + l.c) _ ∙ l.invariant.2,
-    )
+    let i = c.loop-c.c in
+    let place_is : q + i ≡ q + (p + i - p) = omega arith in
+    write-more c.args.out.now c.loop-c.out p i (seen (get_or xs (q + i) (pos 0))) (λ j. get_or xs (q + (j - p)) (pos 0)) c.loop-c.invariant
+    (element (get_or xs (q + i) (pos 0)) (omega arith) ∙ ap (λ j. get_or xs j (pos 0)) place_is)

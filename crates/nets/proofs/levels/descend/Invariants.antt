@@ -1,11 +1,7 @@
 -- `descend` meets its contract: after h turns the numbers are those of level h, and all levels so far are in range.
-use Prim.Native.Nat.{◌-◌}
 use Rattle.machine.specs.Calls.{weight_list}
 use Rattle.nets.proofs.Descent.{At}
 use Rattle.nets.proofs.levels.descend.Given as goal
 
 abbrev pub invariant-loop-h : goal.invariant-loop-h
 invariant-loop-h l = At l.width l.dimension l.degree (weight_list l.weights) l.initial.cur l.cur l.h
-
-abbrev pub decreases-loop-h : goal.decreases-loop-h
-decreases-loop-h l = l.degree - l.h

@@ -1,27 +1,24 @@
--- `write_point_refused` meets its contract: the words, and the number, which is a byte and so is handed on as it is.
-use native.Mathlib.Omega.{arith}
+-- `write_point_refused` meets its contract: the words with the number, and the end of the line.
 use mathlib.Core.Path.{◌≡◌, sym, ap}
+use Prim.Native.Nat.{ℕ}
 use mathlib.Core.List.{[], ◌∷◌, ◌++◌}
-use lib.IntN.{pos}
-use Rattle.integers.proofs.Signed.{seen, back}
-use Rattle.text.specs.Words.{signed_decimal, line}
+use Rattle.text.specs.Words.{decimal, line}
 use Rattle.text.specs.Text.{word, point_refused_line}
-use Rattle.text.specs.Parts.{numbers_text}
+use Rattle.text.proofs.Over.{first-room, then-room, in_a_row}
 use Rattle.text.proofs.Then.{room_as, wrote_as}
 use Rattle.text.proofs.lines.write_point_refused.Goals as goal
-use Rattle.text.proofs.lines.write_point_refused.Lts as lts
-use Rattle.text.proofs.lines.write_point_refused.Tie as tie
-use Rattle.text.proofs.lines.write_point_refused.Reads as reads
 
-abbrev Start : Type 0
-Start = lts.Start tie.the-claims reads.Pre reads.Post
+text : {n number : ℕ} → n ≡ number → point_refused_line number ≡ (word "point refused " ++ decimal n) ++ (10 ∷ [])
+unfolding point_refused_line line
+text e = ap point_refused_line (sym e)
 
-text : (s : Start) → point_refused_line s.args.number ≡ word "point refused" ++ numbers_text (seen (pos s.args.number) ∷ [])
-unfolding point_refused_line line signed_decimal
-text s = let small = s.ranges.number.fits in sym (ap (λ v. word "point refused" ++ numbers_text (v ∷ [])) (back (pos s.args.number) (omega (arith, small))))
+pub put_labelled-after_number-requires : goal.put_labelled-after_number-requires
+put_labelled-after_number-requires c = first-room _ (room_as (text c.from-number.ensures) c.requires)
 
-pub put_line-requires : goal.put_line-requires
-put_line-requires c = let s = c.before.before.before.before.before in room_as (text s) c.requires
+pub put-requires : goal.put-requires
+put-requires c = then-room c.put_labelled-after_number.ensures (room_as (text c.from-number.ensures) c.requires)
 
 pub returns : goal.returns
-returns c = wrote_as (sym (text c.before.before.before.before.before.before.before.before.before)) c.put_line.ensures
+returns c =
+    let e = text c.from-number.ensures in
+    wrote_as (sym e) (in_a_row c.put_labelled-after_number.ensures c.put.ensures (room_as e c.requires))

@@ -1,5 +1,4 @@
 -- `write_moves` meets its contract: before move k, the lines and the net that the rest of the moves leave are those that all of them leave.
-use Prim.Native.Nat.{◌-◌}
 use mathlib.Core.Path.{◌≡◌}
 use Rattle.machine.specs.Steps.{after}
 use Rattle.machine.specs.Nets.{step_of}
@@ -14,6 +13,3 @@ abbrev pub invariant-loop-k : goal.invariant-loop-k
 invariant-loop-k l = Left l.initial.out l.at (moves_text l.initial.net l.value) l.out l.next (lines_left (net_at l.net) l.value l.count l.k)
     × (after step_of (net_at l.net) (calls_left l.value l.count l.k) ≡ after step_of (net_at l.initial.net) (moves_of l.value))
     × Stands l.net
-
-abbrev pub decreases-loop-k : goal.decreases-loop-k
-decreases-loop-k l = l.count - l.k

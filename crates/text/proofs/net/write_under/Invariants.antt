@@ -1,5 +1,5 @@
 -- `write_under` meets its contract: before l, what is left to write are the lines from that entry on, and four numbers are there for each.
-use Prim.Native.Nat.{suc, ◌*◌, ◌-◌}
+use Prim.Native.Nat.{◌*◌}
 use lib.ListN.{drop}
 use Rattle.kinds.specs.Kinds.{later_groups}
 use Rattle.text.specs.Text.{entry_lines}
@@ -9,7 +9,7 @@ use Rattle.text.proofs.Then.{Left}
 use Rattle.text.proofs.net.write_under.Given as goal
 
 abbrev pub invariant-loop-l : goal.invariant-loop-l
-invariant-loop-l l = Left l.initial.out l.at (lines_under l.counts (later_groups l.kind l.second) l.numbers) l.out l.next (entry_lines (under_left l.counts l.kind l.second l.l) (drop (4 * l.l) l.numbers))
-
-abbrev pub decreases-loop-l : goal.decreases-loop-l
-decreases-loop-l l = suc l.second - l.l
+invariant-loop-l l =
+    let head = l.fn.head in
+    Left l.initial.out l.at (lines_under l.counts (later_groups head.kind head.second) l.numbers) l.out l.next
+    (entry_lines (under_left l.counts head.kind head.second l.l) (drop (4 * l.l) l.numbers))
