@@ -3,11 +3,12 @@
 use Prim.Native.Nat.{ℕ, suc, ◌+◌, ◌≤◌, ◌<◌}
 use native.Mathlib.Nat.{add-zero, add_assoc}
 use native.Mathlib.Omega.{arith}
-use mathlib.Core.Path.{◌≡◌, sym, ap, ap₂, ◌∙◌}
+use mathlib.Core.Path.{◌≡◌, refl, sym, ap, ap₂, ◌∙◌}
 use mathlib.Core.List.{List, [], ◌∷◌, ◌++◌, append_assoc}
 use lib.ListN.{length, take, drop, set, length-append, length-drop, take-append-drop}
 use lib.Seq.{length-take-le, take-length, take_at, drop_at, drop-append-add, drop-drop, append_snoc, set_split, take-set-le, paste}
-use Rattle.text.specs.Words.{over, Room, Wrote}
+use Rattle.text.specs.Words.{over, Room, Writes}
+use Rattle.text.specs.declared.words.Page.{Page}
 
 -- ---- an empty text, and the length
 
@@ -79,33 +80,30 @@ over-one old at b room =
 -- ---- writers in a row
 
 -- before the first of them nothing is written
-pub nothing_written : (old : List ℕ) (at : ℕ) → Wrote old at [] old at
-nothing_written old at = record { buffer = sym (over-nil old at); place = sym (add-zero at) }
+pub nothing_written : (p : Page) → Writes p p []
+nothing_written p = record { same_buffer = refl; size = refl; buffer = sym (over-nil p.out.now p.at); place = sym (add-zero p.at) }
 
 -- where two texts have room, the first has
-pub first-room : {old : List ℕ} {at : ℕ} {a : List ℕ} (b : List ℕ) → Room old at (a ++ b) → Room old at a
+pub first-room : {p : Page} {a : List ℕ} (b : List ℕ) → Room p (a ++ b) → Room p a
 first-room {a = a} b room = let r = room.fits in record { fits = omega (arith, r, length-append a b) }
 
-module _ {old : List ℕ} {at : ℕ} {a mid : List ℕ} {place : ℕ} (first : Wrote old at a mid place) where
-  -- a writer leaves the buffer as long as it was
-  pub same_size : Room old at a → length mid ≡ length old
-  same_size room = ap length first.buffer ∙ length_over old at a room.fits
-
+module _ {p q : Page} {a : List ℕ} (first : Writes p q a) where
   -- when the first is written, the second has room after it
-  pub then-room : {b : List ℕ} → Room old at (a ++ b) → Room mid place b
+  pub then-room : {b : List ℕ} → Room p (a ++ b) → Room q b
   then-room {b} room =
       let r = room.fits in
-      let size = same_size (first-room b room) in
-      record { fits = omega (arith, r, length-append a b, size, first.place) }
+      record { fits = omega (arith, r, length-append a b, first.size, first.place) }
 
   -- what one writes and the next writes after it is written in a row
-  pub in_a_row : {b new : List ℕ} {next : ℕ} → Wrote mid place b new next → Room old at (a ++ b) → Wrote old at (a ++ b) new next
+  pub in_a_row : {b : List ℕ} {new : Page} → Writes q new b → Room p (a ++ b) → Writes p new (a ++ b)
   in_a_row {b} second room =
       let r = room.fits in
       record {
+        same_buffer = second.same_buffer ∙ first.same_buffer;
+        size = second.size ∙ first.size;
         buffer =
             second.buffer
             ∙ ap₂ (λ (l : List ℕ) (k : ℕ). over l k b) first.buffer first.place
-            ∙ over-over old at a b (omega (arith, r, length-append a b));
-        place = second.place ∙ ap (λ (k : ℕ). k + length b) first.place ∙ add_assoc at (length a) (length b) ∙ ap (λ (k : ℕ). at + k) (sym (length-append a b));
+            ∙ over-over p.out.now p.at a b (omega (arith, r, length-append a b));
+        place = second.place ∙ ap (λ (k : ℕ). k + length b) first.place ∙ add_assoc p.at (length a) (length b) ∙ ap (λ (k : ℕ). p.at + k) (sym (length-append a b));
       }

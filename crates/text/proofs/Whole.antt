@@ -32,7 +32,7 @@ use Rattle.records.specs.Reading.{Reading, Fields, Refused, bytes_of, reading_of
 use Rattle.records.proofs.Accepted.{accepted-sound}
 use Rattle.opening.proofs.Records.{accepted-numbers, opened-wide}
 use Rattle.opening.specs.Opening.{Opened, reading_layout, layout_read, polynomials_in, numbers_in, frames_from, first_net_from, opened_with, opened_layout, moves_of, moves_in, point_of, point_in, refusal_in, opened_in, places_in}
-use Rattle.text.specs.Words.{over, Wrote}
+use Rattle.text.specs.Words.{over}
 use Rattle.text.specs.Text.{refused_line, head_line, move_lines, net_lines, point_line, accepted_text, text_by, text_of, fits, written_of, buffer_of}
 use Rattle.text.specs.Longest.{longest_text}
 use Rattle.text.specs.Parts.{Stands, net_text}
@@ -159,13 +159,11 @@ module _ (s : List ℕ) (lent : List ℤ) {net : List ℤ} {o : Opened} (long : 
 -- ---- from the made text to the lent buffer
 
 -- a text at the front of a buffer is its first bytes
-pub made-front : {old text new : List ℕ} {r : ℕ} → Wrote old 0 text new r → (r ≡ length text) × (take r new ≡ text) × (r ≤ length new)
+pub made-front : (old text : List ℕ) {new : List ℕ} {n : ℕ} → new ≡ over old 0 text → n ≡ length text → (take n new ≡ text) × (n ≤ length new)
 unfolding over
-made-front {old} {text} {new} {r} w =
-    let long : r ≡ length text = let p = w.place in omega (arith, p) in
-    let sizes = ap length w.buffer ∙ length-append text (drop (0 + length text) old) in (
-      long,
-      ap₂ take long w.buffer ∙ take-append_seam text (drop (0 + length text) old),
+made-front old text {new} {n} buffer long =
+    let sizes = ap length buffer ∙ length-append text (drop (0 + length text) old) in (
+      ap₂ take long buffer ∙ take-append_seam text (drop (0 + length text) old),
       omega (arith, long, sizes),
     )
 
@@ -179,18 +177,17 @@ written-short text out n long short =
     )
 
 -- a buffer that is not
-pub written-whole : (text out part new : List ℕ) (n r : ℕ) → n ≡ length text → n ≤ length out → part ≡ text → Wrote out 0 part new r
+pub written-whole : (text out new : List ℕ) (n : ℕ) → n ≡ length text → n ≤ length out → new ≡ over out 0 text
     → (Ok n ≡ written_of text out) × (Told text out new (Ok n) × (new ≡ buffer_of text out))
 unfolding written_of buffer_of over
-written-whole text out part new n r long room same w =
+written-whole text out new n long room is =
     let yes : fits text out ≡ true = le-leb (length text) (length out) (omega (arith, long, room)) in
     let all : 0 + length text ≡ length text = omega arith in
-    let front = made-front w in
-    let n-is : n ≡ r = long ∙ sym (ap length same) ∙ sym front.0 in
-    let within : n ≤ length new = subst (λ k. k ≤ length new) (sym n-is) front.2 in (
+    let sizes = ap length is ∙ length-append text (drop (0 + length text) out) in
+    let within : n ≤ length new = omega (arith, long, sizes) in (
       ap Ok long ∙ sym (ap (λ b. cond b (Ok (length text)) (Err refusal.Short)) yes),
       (
         record { verdict = subst (BufferVerdict text out 0) (sym long) (written (omega (arith, long, room))); within = (within, sym (length-take-le n new within)) },
-        w.buffer ∙ ap (λ t. t ++ drop (0 + length t) out) same ∙ ap (λ k. text ++ drop k out) all ∙ sym (ap (λ b. cond b (text ++ drop (length text) out) out) yes),
+        is ∙ ap (λ k. text ++ drop k out) all ∙ sym (ap (λ b. cond b (text ++ drop (length text) out) out) yes),
       ),
     )

@@ -1,6 +1,7 @@
 -- Words and numbers as bytes, and a text written into a lent buffer. A text is a list of bytes; 48 is the code of the digit 0.
 use Rattle.std.specs.Prelude.{ℕ, zero, suc, ◌+◌, ◌/◌, ◌%◌, ◌≤◌, ◌≡◌, cond, List, [], ◌∷◌, ◌++◌, ltb, ℤ, pos, negsuc, length, take, drop}
 use Rattle.io.specs.Digits.{last_digits}
+use Rattle.text.specs.declared.words.Page.{Page}
 
 -- ---- the buffer
 
@@ -8,14 +9,16 @@ use Rattle.io.specs.Digits.{last_digits}
 unfoldable pub over : List ℕ → ℕ → List ℕ → List ℕ
 over old at text = take at old ++ (text ++ drop (at + length text) old)
 
--- a text has room in the buffer from place `at` on
-pub record Room (old : List ℕ) (at : ℕ) (text : List ℕ) : Type 0 where
-  pub fits : at + length text ≤ length old
+-- a text has room on the page, from its place on
+pub record Room (page : Page) (text : List ℕ) : Type 0 where
+  pub fits : page.at + length text ≤ length page.out.now
 
--- what a writer leaves: the text is in the buffer from place `at` on, and the answer is the place after it
-pub record Wrote (old : List ℕ) (at : ℕ) (text : List ℕ) (new : List ℕ) (next : ℕ) : Type 0 where
-  pub buffer : new ≡ over old at text
-  pub place : next ≡ at + length text
+-- What a writer leaves of a page: its buffer is the same one and as long, the text is in it from the old place on, and the place is behind the text.
+pub record Writes (old new : Page) (text : List ℕ) : Type 0 where
+  pub same_buffer : new.out.ghost_name ≡ old.out.ghost_name
+  pub size : length new.out.now ≡ length old.out.now
+  pub buffer : new.out.now ≡ over old.out.now old.at text
+  pub place : new.at ≡ old.at + length text
 
 -- ---- numbers
 

@@ -2,46 +2,46 @@
 // the first. To add a kind, add its word here and to specs/Text.antt.
 ghost use Rattle.std.specs.Prelude.{◌≡◌, true};
 ghost use Rattle.kinds.specs.Kinds.{known, later_dimension};
-ghost use Rattle.text.specs.Words.{Room, Wrote};
+ghost use Rattle.text.specs.Words.{Room, Writes};
 ghost use Rattle.text.specs.Text.{kind_word, head_line};
 ghost use Rattle.text.specs.Parts.{later_text};
 
-use crate::words::{put, put_labelled};
+use crate::words::Page;
 use kinds::{Head, later_dimension};
 
 // The word of a kind.
-pub(crate) fn put_word(out: &mut [u8], at: usize, kind: u8) -> usize
-    requires { Room out.old at (kind_word kind) }
-    ensures { Wrote out.old at (kind_word kind) out.new result }
+pub(crate) fn put_word(page: &mut Page, kind: u8)
+    requires { Room page.old (kind_word kind) }
+    ensures { Writes page.old page.new (kind_word kind) }
 {
     match kind {
-        1 => put(out, at, b"curve"),
-        2 => put(out, at, b"patch"),
-        _ => put(out, at, b"rect"),
+        1 => page.put(b"curve"),
+        2 => page.put(b"patch"),
+        _ => page.put(b"rect"),
     }
 }
 
 // A number of the group after the first, after a space; nothing where the kind has no such group.
-pub(crate) fn put_later(out: &mut [u8], at: usize, kind: u8, n: usize) -> usize
-    requires { Room out.old at (later_text (later_dimension kind) n) }
-    ensures { Wrote out.old at (later_text (later_dimension kind) n) out.new result }
+pub(crate) fn put_later(page: &mut Page, kind: u8, n: usize)
+    requires { Room page.old (later_text (later_dimension kind) n) }
+    ensures { Writes page.old page.new (later_text (later_dimension kind) n) }
 {
     if later_dimension(kind) == 0 {
-        return at;
+        return;
     }
-    put_labelled(out, at, b" ", n as u64)
+    page.put_labelled(b" ", n as u64);
 }
 
 // The first line: the kind's word, the degree of each group and the scale.
-pub(crate) fn write_head(out: &mut [u8], at: usize, head: Head) -> usize
+pub(crate) fn write_head(page: &mut Page, head: Head)
     requires known { known head.kind head.degree head.second ≡ true }
-    requires room { Room out.old at (head_line head.kind head.degree head.second) }
-    ensures { Wrote out.old at (head_line head.kind head.degree head.second) out.new result }
+    requires room { Room page.old (head_line head.kind head.degree head.second) }
+    ensures { Writes page.old page.new (head_line head.kind head.degree head.second) }
 {
     let scale = head.scale();
-    let after_word = put_word(out, at, head.kind);
-    let after_degree = put_labelled(out, after_word, b" ", head.degree as u64);
-    let after_second = put_later(out, after_degree, head.kind, head.second as usize);
-    let after_scale = put_labelled(out, after_second, b" ", scale);
-    put(out, after_scale, b"\n")
+    put_word(page, head.kind);
+    page.put_labelled(b" ", head.degree as u64);
+    put_later(page, head.kind, head.second as usize);
+    page.put_labelled(b" ", scale);
+    page.put(b"\n");
 }

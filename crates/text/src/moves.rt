@@ -4,10 +4,11 @@ ghost use Rattle.std.specs.Prelude.{◌+◌, ◌≤◌, length};
 ghost use Rattle.machine.specs.Numbers.{answered};
 ghost use Rattle.decoding.specs.Moves.{call_at};
 ghost use Rattle.opening.specs.Opening.{moves_of};
-ghost use Rattle.text.specs.Words.{Room, Wrote};
+ghost use Rattle.text.specs.Words.{Room, Writes};
 ghost use Rattle.text.specs.Parts.{Stands, Made, Answered, moves_text, point_text};
 
 use crate::lines::{write_move, write_point_refused, write_projection};
+use crate::words::Page;
 use decoding::{Move, move_at, point_weights};
 use machine::Refusal;
 use nets::{find_point, project_point, take_move};
@@ -30,31 +31,29 @@ pub(crate) fn make_move(net: &mut [i64], value: &[u8], k: usize) -> Result<(), R
 }
 
 // Makes the moves of a record's value, one after the other, with a line for each that is refused.
-pub(crate) fn write_moves(out: &mut [u8], at: usize, net: &mut [i64], value: &[u8]) -> usize
-    requires { Stands net.old × Room out.old at (moves_text net.old value.now) }
-    ensures lines { Wrote out.old at (moves_text net.old value.now) out.new result }
+pub(crate) fn write_moves(page: &mut Page, net: &mut [i64], value: &[u8])
+    requires { Stands net.old × Room page.old (moves_text net.old value.now) }
+    ensures lines { Writes page.old page.new (moves_text net.old value.now) }
     ensures net { Made (moves_of value.now) net.old net.new }
 {
     let count = value.len() / 8;
-    let mut next = at;
     for k in 0..count {
-        let answer = make_move(&mut *net, value, k);
-        next = write_move(&mut *out, next, k + 1, answer);
+        let answer = make_move(net, value, k);
+        write_move(page, k + 1, answer);
     }
-    next
 }
 
 // Finds the point of a record's value, if there is one, and writes where it is or why it is refused.
-pub(crate) fn write_point(out: &mut [u8], at: usize, net: &[i64], value: &[u8]) -> usize
-    requires { Stands net.now × Room out.old at (point_text net.now value.now) }
-    ensures { Wrote out.old at (point_text net.now value.now) out.new result }
+pub(crate) fn write_point(page: &mut Page, net: &[i64], value: &[u8])
+    requires { Stands net.now × Room page.old (point_text net.now value.now) }
+    ensures { Writes page.old page.new (point_text net.now value.now) }
 {
     if value.is_empty() {
-        return at;
+        return;
     }
     let mut found = [0i64; 8];
     if let Err(refusal) = find_point(net, point_weights(value), &mut found) {
-        return write_point_refused(out, at, refusal);
+        return write_point_refused(page, refusal);
     }
-    write_projection(out, at, project_point(&found))
+    write_projection(page, project_point(&found));
 }

@@ -9,4 +9,4 @@ use Rattle.text.proofs.kind.put_later.Goals as goal
 pub returns-then-later_dimension-eq0 : goal.returns-then-later_dimension-eq0
 returns-then-later_dimension-eq0 c =
     let a = c.args in
-    wrote_as (sym (later-none (later_dimension a.kind) a.n (sym c.later_dimension.ensures ∙ c.if-later_dimension-eq0.true))) (nothing_written a.out.now a.at)
+    wrote_as (sym (later-none (later_dimension a.kind) a.n (sym c.later_dimension.ensures ∙ c.if-later_dimension-eq0.true))) (nothing_written a.page.now)

@@ -4,31 +4,31 @@ use Rattle.text.specs.Text.{projection_line}
 use Rattle.text.proofs.Over.{first-room, then-room, in_a_row}
 use Rattle.text.proofs.lines.write_finite.Goals as goal
 
-pub put_bits-after_x-requires : goal.put_bits-after_x-requires
+pub put_bits-requires : goal.put_bits-requires
 unfolding projection_line line
-put_bits-after_x-requires c = first-room _ c.requires
+put_bits-requires c = first-room _ c.requires
 
-pub put_bits-after_y-requires : goal.put_bits-after_y-requires
+pub put_bits-requires-2 : goal.put_bits-requires-2
 unfolding projection_line line
-put_bits-after_y-requires c =
-    first-room _ (then-room c.put_bits-after_x.ensures c.requires)
+put_bits-requires-2 c =
+    first-room _ (then-room c.put_bits.ensures c.requires)
 
-pub put_bits-after_z-requires : goal.put_bits-after_z-requires
+pub put_bits-requires-3 : goal.put_bits-requires-3
 unfolding projection_line line
-put_bits-after_z-requires c =
-    first-room _ (then-room c.put_bits-after_y.ensures (then-room c.put_bits-after_x.ensures c.requires))
+put_bits-requires-3 c =
+    first-room _ (then-room c.put_bits-2.ensures (then-room c.put_bits.ensures c.requires))
 
 pub put-requires : goal.put-requires
 unfolding projection_line line
 put-requires c =
-    then-room c.put_bits-after_z.ensures (then-room c.put_bits-after_y.ensures (then-room c.put_bits-after_x.ensures c.requires))
+    then-room c.put_bits-3.ensures (then-room c.put_bits-2.ensures (then-room c.put_bits.ensures c.requires))
 
 pub returns : goal.returns
 unfolding projection_line line
 returns c =
     let room = c.requires in
-    in_a_row c.put_bits-after_x.ensures
-    (in_a_row c.put_bits-after_y.ensures
-    (in_a_row c.put_bits-after_z.ensures c.put.ensures (then-room c.put_bits-after_y.ensures (then-room c.put_bits-after_x.ensures room)))
-    (then-room c.put_bits-after_x.ensures room))
+    in_a_row c.put_bits.ensures
+    (in_a_row c.put_bits-2.ensures
+    (in_a_row c.put_bits-3.ensures c.put.ensures (then-room c.put_bits-2.ensures (then-room c.put_bits.ensures room)))
+    (then-room c.put_bits.ensures room))
     room

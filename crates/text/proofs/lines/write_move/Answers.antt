@@ -17,7 +17,7 @@ line : (k : ℕ) {n : ℕ} {r : Refusal} {answer : Result ⊤ Refusal} → answe
 line k {n} {r} is number = ap (move_line k) (ap answered is ∙ sym number) ∙ move-line k n (λ z. never_zero r (sym number ∙ z))
 
 pub returns-in_default : goal.returns-in_default
-returns-in_default c = wrote_as (sym (move-none c.args.k _ (ap answered c.in_default.is))) (nothing_written c.args.out.now c.args.at)
+returns-in_default c = wrote_as (sym (move-none c.args.k _ (ap answered c.in_default.is))) (nothing_written c.args.page.now)
 
 pub put_pair-requires : goal.put_pair-requires
 put_pair-requires c = room_as (line c.args.k c.in-Err.is c.from-number.ensures) c.requires

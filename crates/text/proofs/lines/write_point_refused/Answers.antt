@@ -12,13 +12,13 @@ text : {n number : ℕ} → n ≡ number → point_refused_line number ≡ (word
 unfolding point_refused_line line
 text e = ap point_refused_line (sym e)
 
-pub put_labelled-after_number-requires : goal.put_labelled-after_number-requires
-put_labelled-after_number-requires c = first-room _ (room_as (text c.from-number.ensures) c.requires)
+pub put_labelled-requires : goal.put_labelled-requires
+put_labelled-requires c = first-room _ (room_as (text c.from-number.ensures) c.requires)
 
 pub put-requires : goal.put-requires
-put-requires c = then-room c.put_labelled-after_number.ensures (room_as (text c.from-number.ensures) c.requires)
+put-requires c = then-room c.put_labelled.ensures (room_as (text c.from-number.ensures) c.requires)
 
 pub returns : goal.returns
 returns c =
     let e = text c.from-number.ensures in
-    wrote_as (sym e) (in_a_row c.put_labelled-after_number.ensures c.put.ensures (room_as e c.requires))
+    wrote_as (sym e) (in_a_row c.put_labelled.ensures c.put.ensures (room_as e c.requires))

@@ -32,8 +32,8 @@ loop-k-init c =
       c.requires.0,
     )
 
-pub write_move-next-requires : goal.write_move-next-requires
-write_move-next-requires c =
+pub write_move-requires : goal.write_move-requires
+write_move-requires c =
     let l = c.loop-k in
     first-room _ (left_as (next c.args.value.now _ l.k l.net c.make_move-answer.new.net c.loop-k-test.true c.make_move-answer.ensures) l.invariant.0).room
 
@@ -43,7 +43,7 @@ loop-k-preserved c =
     let l = c.loop-k in
     let value = c.args.value.now in
     let made = c.make_move-answer.ensures in (
-      left_after c.write_move-next.ensures (left_as (next value _ l.k l.net c.make_move-answer.new.net c.loop-k-test.true made) l.invariant.0),
+      left_after c.write_move.ensures (left_as (next value _ l.k l.net c.make_move-answer.new.net c.loop-k-test.true made) l.invariant.0),
       ap (λ n. after step_of n (calls_left value (length value / 8) (l.k + 1))) made.made.net
           ∙ sym (after_next (net_at l.net) value _ l.k c.loop-k-test.true)
           ∙ l.invariant.1,

@@ -10,6 +10,6 @@ use Rattle.text.proofs.Calls.{calls_left, lines_left}
 use Rattle.text.proofs.moves.write_moves.Given as goal
 
 abbrev pub invariant-loop-k : goal.invariant-loop-k
-invariant-loop-k l = Left l.initial.out l.at (moves_text l.initial.net l.value) l.out l.next (lines_left (net_at l.net) l.value l.count l.k)
+invariant-loop-k l = Left l.initial.page (moves_text l.initial.net l.value) l.page (lines_left (net_at l.net) l.value l.count l.k)
     × (after step_of (net_at l.net) (calls_left l.value l.count l.k) ≡ after step_of (net_at l.initial.net) (moves_of l.value))
     × Stands l.net

@@ -15,7 +15,7 @@ use Rattle.text.proofs.moves.write_point.Goals as goal
 pub returns-then-is_empty : goal.returns-then-is_empty
 returns-then-is_empty c =
     let none : length c.args.value.now ≡ 0 = search rules in
-    wrote_as (sym (point-none (net_at c.args.net.now) c.args.value.now none)) (nothing_written c.args.out.now c.args.at)
+    wrote_as (sym (point-none (net_at c.args.net.now) c.args.value.now none)) (nothing_written c.args.page.now)
 
 pub write_point_refused-requires : goal.write_point_refused-requires
 write_point_refused-requires c =

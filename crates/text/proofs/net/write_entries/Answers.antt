@@ -71,20 +71,20 @@ overflow_add-end c = let room = row-there c.args.head c.loop-h.h c.loop-h.p c.ar
 pub slice_bounds-write_row-end : goal.slice_bounds-write_row-end
 slice_bounds-write_row-end c = let room = row-there c.args.head c.loop-h.h c.loop-h.p c.args.numbers.now c.later_count-width.ensures c.dimension_of-dimension.ensures c.row_length.ensures (omega arith) c.loop-h.invariant.1 in search rules
 
-pub write_row-next-requires-clause-room : goal.write_row-next-requires-clause-room
-write_row-next-requires-clause-room c =
+pub write_row-requires-clause-room : goal.write_row-requires-clause-room
+write_row-requires-clause-room c =
     let l = c.loop-h in
     first-room _
     (left_as (next c.args.head l.h l.p c.args.numbers.now c.later_count-width.ensures c.dimension_of-dimension.ensures c.row_length.ensures (omega arith) l.invariant.1) l.invariant.0).room
 
-pub write_row-next-requires-clause-numbers : goal.write_row-next-requires-clause-numbers
-write_row-next-requires-clause-numbers c = row-long c.args.head c.loop-h.h c.loop-h.p c.args.numbers.now c.later_count-width.ensures c.dimension_of-dimension.ensures c.row_length.ensures (omega arith) c.loop-h.invariant.1
+pub write_row-requires-clause-numbers : goal.write_row-requires-clause-numbers
+write_row-requires-clause-numbers c = row-long c.args.head c.loop-h.h c.loop-h.p c.args.numbers.now c.later_count-width.ensures c.dimension_of-dimension.ensures c.row_length.ensures (omega arith) c.loop-h.invariant.1
 
 pub loop-h-preserved : goal.loop-h-preserved
 loop-h-preserved c =
     let l = c.loop-h in
     let e = next c.args.head l.h l.p c.args.numbers.now c.later_count-width.ensures c.dimension_of-dimension.ensures c.row_length.ensures (omega arith) l.invariant.1 in (
-      left_after c.write_row-next.ensures (left_as e l.invariant.0),
+      left_after c.write_row.ensures (left_as e l.invariant.0),
       left-there c.args.head l.h l.p c.args.numbers.now c.later_count-width.ensures c.dimension_of-dimension.ensures c.row_length.ensures (omega arith) l.invariant.1,
     )
 

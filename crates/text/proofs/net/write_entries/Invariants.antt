@@ -15,5 +15,5 @@ abbrev pub invariant-loop-h : goal.invariant-loop-h
 invariant-loop-h l =
     let head = l.fn.head in
     let rows = rows_left (dimension_of head.kind) head.degree l.h in
-    Left l.initial.out l.at (entry_lines (counts_over (head_groups head)) l.numbers) l.out l.next (entry_lines (entries_under rows head.kind head.second) (drop l.p l.numbers))
+    Left l.initial.page (entry_lines (counts_over (head_groups head)) l.numbers) l.page (entry_lines (entries_under rows head.kind head.second) (drop l.p l.numbers))
     × (l.p + number_count (later_groups head.kind head.second) * length rows ≡ length l.numbers)

@@ -5,6 +5,6 @@ use Rattle.text.proofs.net.write_entry.Goals as goal
 pub returns : goal.returns
 returns c =
     let room = c.requires.1 in
-    in_a_row c.put_name-after_name.ensures
-    (in_a_row c.put_later-after_later.ensures c.put_line.ensures (then-room c.put_name-after_name.ensures room))
+    in_a_row c.put_name.ensures
+    (in_a_row c.put_later.ensures c.put_line.ensures (then-room c.put_name.ensures room))
     room

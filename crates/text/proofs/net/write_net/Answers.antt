@@ -7,9 +7,9 @@ use Rattle.text.proofs.Standing.{known-there, entries-few, entries-long, lines-t
 use Rattle.text.proofs.Then.{room_as, wrote_as}
 use Rattle.text.proofs.net.write_net.Goals as goal
 
-pub write_frame-after_frame-requires : goal.write_frame-after_frame-requires
+pub write_frame-requires : goal.write_frame-requires
 unfolding net_lines
-write_frame-after_frame-requires c = (c.requires.0, first-room _ c.requires.1)
+write_frame-requires c = (c.requires.0, first-room _ c.requires.1)
 
 pub overflow_add-end : goal.overflow_add-end
 overflow_add-end c = let most = entries-few c.args.net.now c.requires.0 c.head_at-head.ensures c.number_count-end.ensures.entries in search rules
@@ -28,10 +28,10 @@ write_entries-requires c =
     record {
       known = known-there lent c.requires.0 is;
       numbers = entries-long lent c.requires.0 is count;
-      room = then-room c.write_frame-after_frame.ensures (room_as (lines-there lent c.requires.0 is count) c.requires.1);
+      room = then-room c.write_frame.ensures (room_as (lines-there lent c.requires.0 is count) c.requires.1);
     }
 
 pub returns : goal.returns
 returns c =
     let lines = lines-there c.args.net.now c.requires.0 c.head_at-head.ensures c.number_count-end.ensures.entries in
-    wrote_as (sym lines) (in_a_row c.write_frame-after_frame.ensures c.write_entries.ensures (room_as lines c.requires.1))
+    wrote_as (sym lines) (in_a_row c.write_frame.ensures c.write_entries.ensures (room_as lines c.requires.1))

@@ -66,22 +66,27 @@ overflow_mul-p c =
     let room = there c.args.head c.args.h c.loop-k.k c.args.numbers.now c.later_count-width.ensures c.dimension_of-dimension.ensures c.row_length-count.ensures c.loop-k-test.true c.requires.numbers in
     search rules
 
+pub overflow_add-p : goal.overflow_add-p
+overflow_add-p c =
+    let room = there c.args.head c.args.h c.loop-k.k c.args.numbers.now c.later_count-width.ensures c.dimension_of-dimension.ensures c.row_length-count.ensures c.loop-k-test.true c.requires.numbers in
+    search rules
+
 pub offset_bounds-numbers-p : goal.offset_bounds-numbers-p
 offset_bounds-numbers-p c =
     let room = there c.args.head c.args.h c.loop-k.k c.args.numbers.now c.later_count-width.ensures c.dimension_of-dimension.ensures c.row_length-count.ensures c.loop-k-test.true c.requires.numbers in
     search rules
 
-pub write_under-next-requires-clause-counts : goal.write_under-next-requires-clause-counts
-write_under-next-requires-clause-counts c = few c.args.head c.args.h c.loop-k.k c.args.numbers.now c.later_count-width.ensures c.dimension_of-dimension.ensures c.row_length-count.ensures c.loop-k-test.true c.requires.known
+pub write_under-requires-clause-counts : goal.write_under-requires-clause-counts
+write_under-requires-clause-counts c = few c.args.head c.args.h c.loop-k.k c.args.numbers.now c.later_count-width.ensures c.dimension_of-dimension.ensures c.row_length-count.ensures c.loop-k-test.true c.requires.known
 
-pub write_under-next-requires-clause-room : goal.write_under-next-requires-clause-room
-write_under-next-requires-clause-room c =
+pub write_under-requires-clause-room : goal.write_under-requires-clause-room
+write_under-requires-clause-room c =
     first-room _
     (left_as (next c.args.head c.args.h c.loop-k.k c.args.numbers.now c.later_count-width.ensures c.dimension_of-dimension.ensures c.row_length-count.ensures c.loop-k-test.true c.requires.numbers) c.loop-k.invariant).room
 
 pub loop-k-preserved : goal.loop-k-preserved
 loop-k-preserved c =
-    left_after c.write_under-next.ensures
+    left_after c.write_under.ensures
     (left_as (next c.args.head c.args.h c.loop-k.k c.args.numbers.now c.later_count-width.ensures c.dimension_of-dimension.ensures c.row_length-count.ensures c.loop-k-test.true c.requires.numbers) c.loop-k.invariant)
 
 pub returns : goal.returns

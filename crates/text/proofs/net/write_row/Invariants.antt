@@ -11,5 +11,5 @@ use Rattle.text.proofs.net.write_row.Given as goal
 abbrev pub invariant-loop-k : goal.invariant-loop-k
 invariant-loop-k l =
     let head = l.fn.head in
-    Left l.initial.out l.at (row_lines head l.h l.numbers) l.out l.next
+    Left l.initial.page (row_lines head l.h l.numbers) l.page
     (entry_lines (entries_under (row_left (dimension_of head.kind) head.degree l.h l.k) head.kind head.second) (drop (l.k * l.width) l.numbers))

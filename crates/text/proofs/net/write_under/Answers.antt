@@ -47,8 +47,8 @@ offset_bounds-numbers-p c = let all = c.requires.numbers ∙ later-long c.args.h
 pub slice_bounds-write_entry-end : goal.slice_bounds-write_entry-end
 slice_bounds-write_entry-end c = let all = c.requires.numbers ∙ later-long c.args.head.kind c.args.head.second c.requires.second in search rules
 
-pub write_entry-next-requires : goal.write_entry-next-requires
-write_entry-next-requires c =
+pub write_entry-requires : goal.write_entry-requires
+write_entry-requires c =
     let head = c.args.head in
     let l = c.loop-l in
     (c.requires.counts, first-room _ (left_as (next c.args.counts.now head.kind head.second l.l c.args.numbers.now c.requires.counts (omega arith)) l.invariant).room)
@@ -57,7 +57,7 @@ pub loop-l-preserved : goal.loop-l-preserved
 loop-l-preserved c =
     let head = c.args.head in
     let l = c.loop-l in
-    left_after c.write_entry-next.ensures (left_as (next c.args.counts.now head.kind head.second l.l c.args.numbers.now c.requires.counts (omega arith)) l.invariant)
+    left_after c.write_entry.ensures (left_as (next c.args.counts.now head.kind head.second l.l c.args.numbers.now c.requires.counts (omega arith)) l.invariant)
 
 pub returns : goal.returns
 returns c =

@@ -11,5 +11,5 @@ use Rattle.text.proofs.net.write_under.Given as goal
 abbrev pub invariant-loop-l : goal.invariant-loop-l
 invariant-loop-l l =
     let head = l.fn.head in
-    Left l.initial.out l.at (lines_under l.counts (later_groups head.kind head.second) l.numbers) l.out l.next
+    Left l.initial.page (lines_under l.counts (later_groups head.kind head.second) l.numbers) l.page
     (entry_lines (under_left l.counts head.kind head.second l.l) (drop (4 * l.l) l.numbers))

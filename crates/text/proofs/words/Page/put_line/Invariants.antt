@@ -2,7 +2,7 @@
 use lib.ListN.{drop}
 use Rattle.text.specs.Parts.{numbers_text}
 use Rattle.text.proofs.Then.{Left}
-use Rattle.text.proofs.words.put_line.Given as goal
+use Rattle.text.proofs.words.Page.put_line.Given as goal
 
 abbrev pub invariant-loop-number : goal.invariant-loop-number
-invariant-loop-number l = Left l.initial.out l.initial.next (numbers_text l.numbers) l.out l.next (numbers_text (drop l.number-index l.numbers))
+invariant-loop-number l = Left l.initial.self (numbers_text l.numbers) l.self (numbers_text (drop l.number-index l.numbers))

@@ -3,13 +3,16 @@ use Prim.Native.Nat.{suc, ◌+◌, ◌≤◌}
 use mathlib.Core.Path.{◌≡◌}
 use lib.ListN.{length}
 use Rattle.text.specs.Words.{decimal, over}
-use Rattle.text.proofs.words.put_decimal.Given as goal
+use Rattle.text.proofs.words.Page.put_decimal.Given as goal
 
 abbrev pub invariant-loop-left : goal.invariant-loop-left
-invariant-loop-left l = (suc l.place ≡ l.at + length (decimal l.left))
-    × (suc l.place ≤ length l.initial.out)
-    × (length l.out ≡ length l.initial.out)
-    × (over l.out l.at (decimal l.left) ≡ over l.initial.out l.at (decimal l.n))
+invariant-loop-left l =
+    let page = l.initial.self in
+    (suc l.place ≡ page.at + length (decimal l.left))
+    × (suc l.place ≤ length page.out.now)
+    × (length l.self.out.now ≡ length page.out.now)
+    × (over l.self.out.now page.at (decimal l.left) ≡ over page.out.now page.at (decimal l.n))
+    × (l.self.out.ghost_name ≡ page.out.ghost_name)
 
 abbrev pub decreases-loop-left : goal.decreases-loop-left
 decreases-loop-left l = l.left

@@ -1,10 +1,10 @@
 -- `put_pair` meets its contract: two numbers after their labels, and the end of the line.
 use Rattle.text.proofs.Over.{then-room, in_a_row}
-use Rattle.text.proofs.words.put_pair.Goals as goal
+use Rattle.text.proofs.words.Page.put_pair.Goals as goal
 
 pub returns : goal.returns
 returns c =
     let room = c.requires in
-    in_a_row c.put_labelled-after_n.ensures
-    (in_a_row c.put_labelled-after_m.ensures c.put.ensures (then-room c.put_labelled-after_n.ensures room))
+    in_a_row c.put_labelled.ensures
+    (in_a_row c.put_labelled-2.ensures c.put.ensures (then-room c.put_labelled.ensures room))
     room

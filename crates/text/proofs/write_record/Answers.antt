@@ -1,4 +1,4 @@
--- `make_text` meets its contract: a refused record has one line, and an accepted one has the text of its first net, its moves and its point, which has room.
+-- `write_record` meets its contract: a refused record has one line, and an accepted one has the text of its first net, its moves and its point, which has room.
 use native.Mathlib.Omega.{arith}
 use Prim.Native.Nat.{ℕ, ◌≤◌}
 use mathlib.Core.Path.{◌≡◌, refl, sym, ◌∙◌, subst}
@@ -16,7 +16,7 @@ use Rattle.text.specs.Longest.{longest_text}
 use Rattle.text.specs.Parts.{net_text}
 use Rattle.text.proofs.Whole.{opened-stands, opened-text, opened-room, refused-text}
 use Rattle.text.proofs.Then.{wrote_as}
-use Rattle.text.proofs.make_text.Goals as goal
+use Rattle.text.proofs.write_record.Goals as goal
 
 -- the places that are lent
 abbrev zeros : List ℤ
@@ -35,7 +35,7 @@ write_accepted-requires c =
     let size = c.requires in
     let fits = opened-room s zeros refl (accepted.opened, accepted.places) refl in
     let room = subst (λ t. length t ≤ longest_text) (sym (made s accepted.opened accepted.places c.value-moves.ensures.bytes c.value-point.ensures.bytes)) fits in
-    (opened-stands s zeros refl (accepted.opened, accepted.places) refl, omega (arith, size, room))
+    (opened-stands s zeros refl (accepted.opened, accepted.places) refl, record { fits = omega (arith, size, room) })
 
 pub returns-in-Ok : goal.returns-in-Ok
 returns-in-Ok c =
