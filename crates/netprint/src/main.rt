@@ -106,7 +106,8 @@ fn complaint<'a>(
 }
 
 // Writes all the bytes and answers true, or stops at the first write that takes nothing or fails, and answers
-// false. Of no bytes at all it makes no call and answers true. std's `write_all` makes an interrupted call again.
+// false. Of no bytes at all it makes no call and answers true. std's `write_all` makes an interrupted call
+// again.
 fn write_whole<W: Write>(to: &mut W, bytes: &[u8]) -> bool
     ensures { IsTrue result → Appends (W.contents to.old) (W.contents to.new) bytes.now }
 {

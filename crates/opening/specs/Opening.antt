@@ -108,10 +108,12 @@ abbrev pub refusal_over : List ℕ → List ℤ → NumberAt
 refusal_over s lent = cond (enough_places lent) (refusal_in s) (record { number = 11; offset = 0 })
 
 unfoldable pub opened_in : List ℕ → List ℤ → Opened
+unfolding refusal_in layout_read polynomials_in numbers_in
 opened_in s lent = opened_with (refusal_over s lent) s
 
 -- the first net put into the places where nothing is refused, and else what stood there
 unfoldable pub places_in : List ℕ → List ℤ → List ℤ
+unfolding opened_in refusal_in layout_read polynomials_in numbers_in
 places_in s lent = unless_refused (opened_in s lent).refusal.number (put_net (first_net_from s) lent) lent
 
 -- ---- what the making of a first net promises

@@ -28,7 +28,8 @@ const COEFFICIENTS: usize = 180;
 // Makes the first net of a record with this layout. The coefficient reader gets the part of the record that
 // begins with field 3's value.
 fn make_first(input: &[u8], layout: Layout, net: &mut [i64]) -> Result<(), Refusal>
-    requires { (enough_places net.old ≡ true) × (known layout.said.kind layout.said.degree layout.said.second ≡ true) }
+    requires { (enough_places net.old ≡ true)
+        × (known layout.said.kind layout.said.degree layout.said.second ≡ true) }
     ensures { FirstMade layout input.now net.old (answered result) net.new }
 {
     let head = layout.said;
@@ -42,7 +43,7 @@ fn make_first(input: &[u8], layout: Layout, net: &mut [i64]) -> Result<(), Refus
 
 // Opens a record: any bytes at all give a first net, and where the record's fields stand, or a refusal. A
 // refusal leaves the lent places as they were.
-#[tactic(auto, unfolding(crate::specs::Opening::opened_in, crate::specs::Opening::places_in, crate::specs::Opening::refusal_in, crate::specs::Opening::layout_read, crate::specs::Opening::polynomials_in, crate::specs::Opening::numbers_in))]
+#[tactic(auto, unfolding(crate::specs::Opening::opened_in, crate::specs::Opening::places_in))]
 pub fn open(input: &[u8], net: &mut [i64]) -> Result<Layout, RefusedAt>
     ensures opened { opened_told input.now result ≡ opened_in input.now net.old }
     ensures places { net.new ≡ places_in input.now net.old }

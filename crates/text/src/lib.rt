@@ -40,7 +40,8 @@ fn write_refusal(page: &mut Page, refused: RefusedAt)
 // Makes the text of an accepted record, whose first net stands in the lent places: the first line, the moves
 // that are refused, the net that the moves leave, and the point.
 fn write_accepted(page: &mut Page, net: &mut [i64], moves: &[u8], point: &[u8])
-    requires { Stands net.old × Room page.old (net_text (net_at net.old) (moves_of moves.now) (point_of point.now)) }
+    requires { Stands net.old
+        × Room page.old (net_text (net_at net.old) (moves_of moves.now) (point_of point.now)) }
     ensures { Writes page.old page.new (net_text (net_at net.old) (moves_of moves.now) (point_of point.now)) }
 {
     write_first(page, net);

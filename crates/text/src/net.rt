@@ -43,7 +43,8 @@ pub(crate) fn put_name(page: &mut Page, counts: &[usize])
 // The entry with these counts of the first group and l of the second vertex of the group after it, if there
 // is one, and these numbers.
 pub(crate) fn write_entry(page: &mut Page, counts: &[usize], kind: u8, l: usize, numbers: &[i64])
-    requires { TwoOrThree counts.now × Room page.old (entry_text counts.now (later_dimension kind) l numbers.now) }
+    requires { TwoOrThree counts.now
+        × Room page.old (entry_text counts.now (later_dimension kind) l numbers.now) }
     ensures { Writes page.old page.new (entry_text counts.now (later_dimension kind) l numbers.now) }
 {
     put_name(page, counts);
@@ -57,7 +58,8 @@ pub(crate) fn write_under(page: &mut Page, counts: &[usize], head: Head, numbers
     requires second { later_dimension head.kind ≡ 0 → head.second ≡ 0 }
     requires numbers { length numbers.now ≡ number_count (later_groups head.kind head.second) }
     requires room { Room page.old (lines_under counts.now (later_groups head.kind head.second) numbers.now) }
-    ensures { Writes page.old page.new (lines_under counts.now (later_groups head.kind head.second) numbers.now) }
+    ensures { Writes page.old page.new
+        (lines_under counts.now (later_groups head.kind head.second) numbers.now) }
 {
     let count = head.second as usize + 1;
     for l in 0..count {
@@ -81,7 +83,8 @@ pub(crate) fn row_length(dimension: usize, h: usize) -> usize
 pub(crate) fn write_row(page: &mut Page, head: Head, h: usize, numbers: &[i64])
     requires known { known head.kind head.degree head.second ≡ true }
     requires row { h ≤ head.degree }
-    requires numbers { length numbers.now ≡ number_count (later_groups head.kind head.second) * suc (last_of (dimension_of head.kind) h) }
+    requires numbers { length numbers.now
+        ≡ number_count (later_groups head.kind head.second) * suc (last_of (dimension_of head.kind) h) }
     requires room { Room page.old (row_lines head h numbers.now) }
     ensures { Writes page.old page.new (row_lines head h numbers.now) }
 {
