@@ -318,7 +318,9 @@ fn replace_saved<const N: usize>(
     false
 }
 
-// The same in a small room where it is enough.
+// The same in a small room where it is enough. With `inline(never)` the compiled code has it apart from the
+// moves of all other vertices, so that its loops keep the weights in registers.
+#[inline(never)]
 pub(crate) fn replace_later(
     entries: &mut [i64],
     parts: usize,

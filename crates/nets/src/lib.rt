@@ -63,12 +63,15 @@ pub const ENTRIES: usize = 12;
 
 const END: usize = 192;
 
-// A number as a byte; 255 where it is none, which is no kind and no degree. `u8::try_from` takes twice as many
-// instructions, and it is asked three times with every call.
+// A number as a byte; 255 where it is none, which is no kind and no degree. It is asked three times with every
+// call: `u8::try_from` takes twice as many instructions, and a range's `contains` three more than this `match`.
 fn byte_of(v: i64) -> u8
     ensures { result ≡ byte_of v }
 {
-    if (0..=255).contains(&v) { v as u8 } else { 255 }
+    match v {
+        0..=255 => v as u8,
+        _ => 255,
+    }
 }
 
 // The head of the net in lent places: kind and degrees from the first three. A place that is not there counts as

@@ -210,7 +210,9 @@ impl Four {
 
 // ---- the projection
 
-// The tests stand in the specification's order: the range, the weight, the other components.
+// The tests stand in the specification's order: the range, the weight, the other components. With `inline`
+// the four numbers of a point stay in registers; handed over in memory they take nearly twice the time.
+#[inline]
 pub fn project(point: Four) -> Projection
     ensures answer { result ≡ projection_of_four point }
     ensures told { Projected point.x point.y point.z point.w result }
@@ -261,7 +263,8 @@ pub fn project_found(found: Four, projected: Four) -> Projection
 pub fn bits(x: f64) -> u64
     ensures { result ≡ to_bits binary64 x }
 {
-    if x.is_nan() {
+    let nan = x.is_nan();
+    if nan {
         return NAN_BITS;
     }
     f64::to_bits(x)

@@ -3,7 +3,6 @@ ghost use Rattle.io.specs.Counts.{IsPrefixLen};
 ghost use Rattle.vectors.specs.Compared.{FirstDifference, AllMarks};
 
 use machine::Refusal;
-use std::fmt;
 use text::write_text;
 
 // The byte that fills a buffer before it is lent. No text has it: it is no
@@ -17,17 +16,6 @@ pub(crate) enum Difference {
     PastTheText,
     ShortBuffer,
     ExactBuffer,
-}
-
-impl fmt::Display for Difference {
-    fn fmt<W: fmt::Write>(&self, f: &mut fmt::Formatter<W>) -> fmt::Result {
-        match self {
-            Difference::At(place) => write!(f, "differs at {place}"),
-            Difference::PastTheText => write!(f, "writes past its text"),
-            Difference::ShortBuffer => write!(f, "is not refused in a short buffer"),
-            Difference::ExactBuffer => write!(f, "does not fill a buffer of its length"),
-        }
-    }
 }
 
 // The first place where two lists of bytes differ; where one begins with the other, the length of

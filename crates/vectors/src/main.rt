@@ -29,12 +29,25 @@ fn write_bytes<W: Write>(to: &mut W, bytes: &[u8]) {
     let _ = to.write_all(bytes);
 }
 
-// Writes what stands after the label.
+// Writes the number's decimal digits.
+fn write_number<W: Write>(to: &mut W, number: u64) {
+    let _ = write!(to, "{number}");
+}
+
+// Writes what stands after the label. Each piece is a write of its own, tried whatever came of those before
+// it: a `write!` of them all would end at the first that fails.
 fn write_verdict<W: Write>(to: &mut W, verdict: Result<(), Difference>) {
-    let _ = match verdict {
-        Ok(()) => write!(to, " equal\n"),
-        Err(difference) => write!(to, " {difference}\n"),
-    };
+    match verdict {
+        Ok(()) => write_bytes(to, b" equal\n"),
+        Err(Difference::At(place)) => {
+            write_bytes(to, b" differs at ");
+            write_number(to, place as u64);
+            write_bytes(to, b"\n");
+        }
+        Err(Difference::PastTheText) => write_bytes(to, b" writes past its text\n"),
+        Err(Difference::ShortBuffer) => write_bytes(to, b" is not refused in a short buffer\n"),
+        Err(Difference::ExactBuffer) => write_bytes(to, b" does not fill a buffer of its length\n"),
+    }
 }
 
 // Reads and judges one vector, and answers what came of it; nothing where there is none. No label has
@@ -52,14 +65,17 @@ fn one_vector<R: Read, W: Write>(from: &mut R, to: &mut W) -> Option<Result<(), 
     let mut expected = [0u8; 4183];
     let bytes = two_bytes(from);
     let e = part(from, bytes, &mut expected);
-    let verdict = judge(&record[..r], &expected[..e]);
     write_bytes(to, &label[..l]);
+    let verdict = judge(&record[..r], &expected[..e]);
     write_verdict(to, verdict);
     Some(verdict)
 }
 
 fn write_counts<W: Write>(to: &mut W, equal: u64, different: u64) {
-    let _ = write!(to, "{equal} equal, {different} different\n");
+    write_number(to, equal);
+    write_bytes(to, b" equal, ");
+    write_number(to, different);
+    write_bytes(to, b" different\n");
 }
 
 fn main(rt: HostRuntime) {

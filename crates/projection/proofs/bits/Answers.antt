@@ -9,5 +9,5 @@ nan-bits nan h = refl
 nan-bits (inf s) h = cc
 nan-bits (fin s m e) h = cc
 
-pub returns-then-is_nan : goal.returns-then-is_nan
-returns-then-is_nan c = nan-bits c.args.x (sym c.is_nan.ensures.value ∙ c.if-is_nan.true)
+pub returns-then-nan : goal.returns-then-nan
+returns-then-nan c = nan-bits c.args.x (sym c.is_nan-nan.ensures.value ∙ c.if-nan.true)
