@@ -269,7 +269,10 @@ pub(crate) fn replace_entries(
 }
 
 // Replaces a vertex of the second group, which has two, in each part of the numbers that one entry of the first group
-// has, one part after the other, until a named polar value is out of range. Numbers past the parts stay.
+// has, one part after the other, until a named polar value is out of range. Numbers past the parts stay. With
+// `inline(never)` the compiled code has this apart from all other moves, so that its loops keep the weights in
+// registers; it has no room of its own, so the stack of a move does not grow.
+#[inline(never)]
 pub(crate) fn replace_parts(
     entries: &mut [i64],
     parts: usize,
@@ -318,9 +321,7 @@ fn replace_saved<const N: usize>(
     false
 }
 
-// The same in a small room where it is enough. With `inline(never)` the compiled code has it apart from the
-// moves of all other vertices, so that its loops keep the weights in registers.
-#[inline(never)]
+// The same in a small room where it is enough.
 pub(crate) fn replace_later(
     entries: &mut [i64],
     parts: usize,
